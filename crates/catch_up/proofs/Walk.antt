@@ -70,7 +70,7 @@ walk_passes s span ts key through n t x missing rows y v walked first outside = 
 }
 
 -- the least of rising rows comes first
-least_first : (r : Row) (rows : List Row) → RisingRows rows → IsRowIn r rows → ((q : Row) → IsRowIn q rows → row_lt q r ≡ false) → (rest : List Row) × (rows ≡ r ∷ rest)
+pub least_first : (r : Row) (rows : List Row) → RisingRows rows → IsRowIn r rows → ((q : Row) → IsRowIn q rows → row_lt q r ≡ false) → (rest : List Row) × (rows ≡ r ∷ rest)
 least_first r [] rising i least = absurd i
 least_first r (s ∷ rows) rising i least = elim i [
   | inl here ↦ (rows, ap (λ q. q ∷ rows) here)
@@ -137,7 +137,7 @@ walk_full s span ts key through n t x missing rows walked none = record {
   first = let c : length rows + missing ≡ n = walked.count in take_whole n rows walked.rest (omega arith);
 }
 
-no_rows : (rows : List Row) → ((r : Row) → IsRowIn r rows → ⊥) → rows ≡ []
+pub no_rows : (rows : List Row) → ((r : Row) → IsRowIn r rows → ⊥) → rows ≡ []
 no_rows [] none = refl
 no_rows (r ∷ rows) none = absurd (none r (inl refl))
 

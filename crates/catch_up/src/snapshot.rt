@@ -64,7 +64,7 @@ fn add_first(
     let Some(version) = newest else {
         return Ok(());
     };
-    // no version is at 0
+    // for the proof: no version is at 0
     let _ = version.ts.get();
     let Some(value) = &version.after else {
         return Ok(());

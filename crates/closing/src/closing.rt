@@ -93,7 +93,7 @@ impl Closing {
         self.closed()
     }
 
-    /// Protects a timestamp, and answers the protection's number. Where memory is wanting, nothing is
+    /// Protects a timestamp, and answers the protection's number. Where it is out of memory, nothing is
     /// protected.
     pub fn protect(&mut self, t: u64) -> Result<u64, AllocError>
         requires room { made_in self.old < u64.MAX }

@@ -1,5 +1,5 @@
 //! Up to where timestamps are closed, and the protections that hold a collection back. `mvto_rules` holds both and is the
-//! caller, and `collector` reads them.
+//! caller.
 //!
 //! At or below the closed timestamp nothing changes any more. A collection drops versions at or below its horizon. It
 //! drops only those that no read at or above the horizon needs. A protection keeps the horizon at or below its

@@ -18,7 +18,7 @@ use Rattle.follow.specs.Seeds.{IsSeedOf, IsUnseeded}
 use Rattle.command_line.specs.declared.arguments.Job.{Job}
 use Rattle.command_line.specs.declared.arguments.Job.TheVariants as jobs
 use Rattle.command_line.specs.declared.following.Seeded.{Seeded}
-use Rattle.command_line.specs.Statuses.{status_of, status_of_follower}
+use Rattle.command_line.specs.Statuses.{status_of, status_of_check, status_of_follower}
 
 -- what is followed from a seed on: the seed's span, timestamp and rows, and all else as it was asked for
 abbrev pub options_from : Seeded → Seed → FollowOptions
@@ -54,7 +54,7 @@ HasFollowedSeed asked seed r r' w w' status =
 abbrev pub Did : Job → (seed : List ℕ) → Reads → Reads → Writes → Writes → (status : ℕ) → Type 0
 Did (jobs.Run config format) seed r r' w w' status = HasEnded (λ end. IsRun format config r r' w w' end) status
 Did (jobs.Race options) seed r r' w w' status = HasEnded (λ end. IsAnswered (IsRace options) r r' w w' end) status
-Did jobs.Check seed r r' w w' status = HasAnswered IsVerdict r r' w w' status
+Did (jobs.Check wanted) seed r r' w w' status = (end : End) × IsAnswered IsVerdict r r' w w' end × IsSilentAt end w w' × (status ≡ status_of_check wanted end)
 Did (jobs.State detail) seed r r' w w' status = HasAnswered (IsState detail) r r' w w' status
 Did (jobs.Dump at) seed r r' w w' status = HasAnswered (IsDumped (unwrap_or at 0)) r r' w w' status
 Did (jobs.Follow options) seed r r' w w' status = HasFollowed options r r' w w' status

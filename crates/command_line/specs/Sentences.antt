@@ -1,5 +1,5 @@
 -- What standard error is told of each end and of each fault (this project).
-use Rattle.std.specs.Prelude.{ℕ, List, ◌++◌, codes, decimal, Option, Some, None}
+use Rattle.std.specs.Prelude.{ℕ, List, ◌++◌, ◌==◌, codes, decimal, if◌then◌else◌, Option, Some, None}
 use Rattle.spelled_words.specs.declared.fault.LineFault.{LineFault}
 use Rattle.spelled_words.specs.declared.fault.LineFault.TheVariants as faults
 use Rattle.shared_db.specs.declared.config.OpenError.{OpenError}
@@ -33,7 +33,7 @@ use Rattle.command_line.specs.declared.faults.TheConstants.{
 }
 use Rattle.command_line.specs.declared.sentences.Sentence.{Sentence}
 use Rattle.command_line.specs.declared.sentences.Sentence.TheVariants as sentences
-use Rattle.command_line.specs.declared.sentences.TheConstants.{EVENT, INPUT, LINE, MEMORY, NO_MESSAGE, OUTPUT, RING, SEATS, SPENT, THREAD, WRONG}
+use Rattle.command_line.specs.declared.sentences.TheConstants.{EVENT, INPUT, LINE, MEMORY, NO_EVENT, NO_MESSAGE, OUTPUT, RIGHT, RING, SEATS, SPENT, THREAD, WANTED, WRONG}
 
 -- the words for a fault of a script or of a transcript
 abbrev pub words_of_line : LineFault → List ℕ
@@ -69,11 +69,16 @@ line_text number words = LINE.now ++ (codes " " ++ (decimal number ++ (codes " "
 abbrev pub event_text : ℕ → List ℕ
 event_text position = EVENT.now ++ (codes " " ++ (decimal position ++ (codes " " ++ WRONG.now)))
 
+abbrev pub right_text : ℕ → List ℕ
+right_text events = RIGHT.now ++ (codes " " ++ decimal events)
+
 -- what a sentence says
 abbrev pub text_of : Sentence → List ℕ
 text_of (sentences.Words words) = words.now
 text_of (sentences.Line number words) = line_text number words.now
 text_of (sentences.Event position) = event_text position
+text_of (sentences.Right events) = right_text events
+text_of (sentences.Count events wanted) = right_text events ++ (codes ", " ++ (WANTED.now ++ (codes " " ++ decimal wanted)))
 
 -- the word for a database that was not opened
 abbrev pub word_of_reason : OpenError → List ℕ
@@ -81,9 +86,10 @@ word_of_reason reasons.SeatCount = SEATS.now
 word_of_reason reasons.RingSize = RING.now
 word_of_reason reasons.NoMemory = MEMORY.now
 
--- what is told of an end: nothing where all was done
+-- what is told of an end: nothing where all was done, and of a check how many events are right
 abbrev pub sentence_of : End → Option (List ℕ)
 sentence_of ends.Done = None
+sentence_of (ends.Right events) = Some (if events == 0 then NO_EVENT.now else right_text events)
 sentence_of (ends.Faulty line fault) = Some (line_text line (words_of_line fault))
 sentence_of (ends.No position) = Some (event_text position)
 sentence_of ends.Spent = Some SPENT.now

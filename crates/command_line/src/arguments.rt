@@ -18,11 +18,11 @@ use text_format::Format;
 use timestamps::ts::Ts;
 use word_lines::fault::ReadError;
 
-/// What the program's command line may be.
+/// The program's command line, as clap is to read it.
 pub fn command<'a>(alloc: Global) -> Result<Command<'a>, AllocError> {
     let command = with_subcommand(program(alloc), run_command(alloc)?)?;
     let command = with_subcommand(command, race_command(alloc)?)?;
-    let command = with_subcommand(command, check_command(alloc))?;
+    let command = with_subcommand(command, check_command(alloc)?)?;
     let command = with_subcommand(command, state_command(alloc)?)?;
     let command = with_subcommand(command, dump_command(alloc)?)?;
     with_subcommand(command, follow_command(alloc)?)
@@ -51,12 +51,9 @@ fn race_command<'a>(alloc: Global) -> Result<Command<'a>, AllocError> {
     with(command, format(alloc))
 }
 
-fn check_command<'a>(alloc: Global) -> Command<'a> {
-    subcommand(
-        alloc,
-        "check",
-        "Say whether a transcript is right, or where it is not",
-    )
+fn check_command<'a>(alloc: Global) -> Result<Command<'a>, AllocError> {
+    let about = "Say whether a transcript is right, or where it is not";
+    with(subcommand(alloc, "check", about), events(alloc))
 }
 
 fn state_command<'a>(alloc: Global) -> Result<Command<'a>, AllocError> {
@@ -120,6 +117,11 @@ fn feed<'a>(alloc: Global) -> Arg<'a> {
     as_number(option(alloc, "feed", "N", help))
 }
 
+fn events<'a>(alloc: Global) -> Arg<'a> {
+    let help = "How many events the transcript has to have [default: any number]";
+    as_number(option(alloc, "events", "N", help))
+}
+
 fn live<'a>(alloc: Global) -> Arg<'a> {
     Arg::new(alloc, "live")
         .long("live")
@@ -167,15 +169,15 @@ fn with_subcommand<'a>(
     command.subcommand(subcommand)
 }
 
-/// What the program is asked to do.
+/// A job that the program is asked to do.
 #[derive(Drop)]
 pub enum Job {
     /// To run a script of a format on a database that is opened so.
     Run(Config, Format),
     /// To have the sessions of a script race.
     Race(RaceOptions),
-    /// To check a transcript.
-    Check,
+    /// To check a transcript, which has so many events where a number is given.
+    Check(Option<u64>),
     /// To tell the state after a transcript.
     State(Detail),
     /// To write the script that rebuilds a transcript's database, which closes at a timestamp at least.
@@ -186,7 +188,7 @@ pub enum Job {
     FollowSeed(Seeded),
 }
 
-/// What the words of a command line ask for.
+/// The job that the words of a command line ask for.
 pub fn job_in<'a, S: AsStr>(
     alloc: Global,
     command: Command<'a>,
@@ -196,7 +198,7 @@ pub fn job_in<'a, S: AsStr>(
     job_of(alloc, &matches)
 }
 
-/// What a command line asks for, unless a bound in it is none.
+/// The job that a command line asks for, unless a bound in it is none.
 fn job_of(alloc: Global, matches: &ArgMatches) -> Result<Job, Error> {
     if let Some(run) = matches.subcommand_matches("run") {
         return Ok(Job::Run(options_of(run), format_of(run)));
@@ -210,10 +212,11 @@ fn job_of(alloc: Global, matches: &ArgMatches) -> Result<Job, Error> {
     if let Some(dump) = matches.subcommand_matches("dump") {
         return Ok(Job::Dump(at_of(dump)));
     }
-    match matches.subcommand_matches("follow") {
-        Some(follow) => follow_of(alloc, follow),
-        None => Ok(Job::Check),
+    if let Some(follow) = matches.subcommand_matches("follow") {
+        return follow_of(alloc, follow);
     }
+    let check = matches.subcommand_matches("check");
+    Ok(Job::Check(check.and_then(events_of)))
 }
 
 /// The job of `mvfeed follow`.
@@ -240,7 +243,12 @@ fn follow_of(alloc: Global, follow: &ArgMatches) -> Result<Job, Error> {
     }
 }
 
-/// What a bound has to be.
+/// How many events a transcript is to have.
+fn events_of(check: &ArgMatches) -> Option<u64> {
+    check.get_one("events")
+}
+
+/// The sentence for a word that is no bound of the format.
 fn bound_refusal(format: Format) -> &'static str {
     match format {
         Format::One => "a bound is `-` or a key as in scripts, of 65 bytes at most",
@@ -266,7 +274,7 @@ fn detail_of(state: &ArgMatches) -> Detail {
     }
 }
 
-/// Where a dump closes at least.
+/// The least timestamp at which a dump may close.
 fn at_of(dump: &ArgMatches) -> Option<Ts> {
     let at: Option<u64> = dump.get_one("at");
     Ts::new(at.unwrap_or(0))

@@ -42,7 +42,7 @@ pub(crate) fn words_of_message(fault: FollowFault) -> &'static str
     }
 }
 
-const WORD_COUNT: &str = "is empty, or has an empty word, or the wrong number of words";
+const WORD_COUNT: &str = "has too few words, too many, or an empty one";
 
 const UNKNOWN_COMMAND: &str = "has a command that there isn't";
 

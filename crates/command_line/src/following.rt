@@ -19,7 +19,7 @@ pub struct Seeded {
 }
 
 impl Seeded {
-    /// What is followed from a seed on.
+    /// The options of a follower that begins with a seed.
     pub fn options(&self, seed: Seed) -> FollowOptions
         ensures { result ≡ options_from self.now seed }
     {
@@ -95,7 +95,7 @@ fn flag<'a>(alloc: Global, name: &'a str, help: &'a str) -> Arg<'a> {
         .help(help)
 }
 
-/// What the rows are at first, where no seed is asked for.
+/// The rows at first, where no seed is asked for.
 pub(crate) fn start_of(follow: &ArgMatches) -> Start {
     match follow.get_one("initial") {
         Some(cursor) => Start::Initial(cursor),
@@ -103,7 +103,7 @@ pub(crate) fn start_of(follow: &ArgMatches) -> Start {
     }
 }
 
-/// What is told of the rows.
+/// How much is told of the rows.
 pub(crate) fn shown_of(follow: &ArgMatches) -> Shown {
     if follow.get_flag("view") {
         Shown::Rows

@@ -40,6 +40,14 @@ const EVENT: &str = "the event at position";
 
 const WRONG: &str = "can't be right";
 
+/// The words in front of the number of events that were found right, and in front of the number that was wanted.
+const RIGHT: &str = "events checked:";
+
+const WANTED: &str = "and wanted:";
+
+/// The words where a right transcript has no event.
+const NO_EVENT: &str = "events checked: 0, because the input has none";
+
 /// The words where the file that a seed is to come from can't be had.
 pub const NO_SEED_FILE: &str = "the seed's file can't be read";
 
@@ -49,15 +57,19 @@ pub(crate) const NO_SCAN: &str = "the seed's file has no scanat that was answere
 /// The words where an argument of the command line is other bytes than text.
 pub const NO_TEXT: &str = "an argument is not UTF-8";
 
-/// What standard error is told.
+/// A sentence for standard error.
 #[derive(Clone, Copy)]
 pub enum Sentence {
     /// A word or more for themselves.
     Words(&'static str),
-    /// What is wrong with a line, counted from 1.
+    /// The fault of a line, counted from 1.
     Line { number: u64, words: &'static str },
-    /// Which event can't be right.
+    /// The event that can't be right.
     Event { position: u64 },
+    /// How many events are right.
+    Right { events: u64 },
+    /// How many are right, where another number was wanted.
+    Count { events: u64, wanted: u64 },
 }
 
 impl fmt::Display for Sentence {
@@ -71,16 +83,22 @@ impl fmt::Display for Sentence {
             Sentence::Words(words) => f.write_str(words),
             Sentence::Line { number, words } => write!(f, "{LINE} {number} {words}"),
             Sentence::Event { position } => write!(f, "{EVENT} {position} {WRONG}"),
+            Sentence::Right { events } => write!(f, "{RIGHT} {events}"),
+            Sentence::Count { events, wanted } => {
+                write!(f, "{RIGHT} {events}, {WANTED} {wanted}")
+            }
         }
     }
 }
 
-/// What standard error is told of an end.
+/// The sentence of a job's end, if it has one.
 pub fn sentence_of(end: End) -> Option<Sentence>
     ensures { option_map text_of result ≡ sentence_of end }
 {
     let sentence = match end {
         End::Done => return None,
+        End::Right { events: 0 } => Sentence::Words(NO_EVENT),
+        End::Right { events } => Sentence::Right { events },
         End::Faulty { line, fault } => Sentence::Line {
             number: line,
             words: words_of_line(fault),
@@ -97,7 +115,7 @@ pub fn sentence_of(end: End) -> Option<Sentence>
     Some(sentence)
 }
 
-/// What standard error is told of a follower's end.
+/// The sentence of a follower's end, if it has one.
 pub fn sentence_of_follower(end: FollowEnd) -> Option<Sentence>
     ensures { option_map text_of result ≡ sentence_of_follower end }
 {

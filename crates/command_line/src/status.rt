@@ -24,7 +24,7 @@ pub fn status_of(end: End) -> u8
     ensures { result ≡ status_of end }
 {
     match end {
-        End::Done => 0,
+        End::Done | End::Right { .. } => 0,
         End::Faulty { .. } => FAULTY,
         End::No { .. } => NO,
         End::Open(_) | End::Input | End::Output | End::Memory | End::Thread | End::Spent => FAILED,
@@ -42,11 +42,22 @@ pub fn status_of_follower(end: FollowEnd) -> u8
     }
 }
 
-/// The exit status of an end, of which standard error is told where there is more to say.
-pub fn told(rt: &impl Eprint, end: End) -> ExitCode
+/// The exit status of an end, of which standard error is told where there is more to say, and then a hint.
+pub fn told(rt: &impl Eprint, end: End, hint: Option<&'static str>) -> ExitCode
     ensures { exit_status result ≡ status_of end }
 {
-    left(rt, status_of(end), sentence_of(end))
+    let status = left(rt, status_of(end), sentence_of(end));
+    if let Some(hint) = hint {
+        tell(rt, Sentence::Words(hint));
+    }
+    status
+}
+
+/// The exit status of a check that found another number of events than was wanted, of which standard error is told.
+pub(crate) fn miscounted(rt: &impl Eprint, events: u64, wanted: u64) -> ExitCode
+    ensures { exit_status result ≡ 3 }
+{
+    left(rt, NO, Some(Sentence::Count { events, wanted }))
 }
 
 /// The exit status of a follower's end, of which standard error is told where there is more to say.

@@ -23,7 +23,7 @@ command_within h (bounded.Scan ts span rows bytes) = command.Scan ts (span_withi
 command_within h (bounded.ScanAt t span rows bytes) = command.ScanAt t (span_within h t span rows bytes)
 command_within h (bounded.Poll feed max bytes) = command.Poll feed (poll_count (effects_of h) feed max bytes)
 
--- what a call of a seat's command does to a database that holds h. Want of a position comes before want of memory
+-- what a call of a seat's command does to a database that holds h. A position is asked for before memory
 abbrev pub MadeWithin : List Event → ℕ → Bounded → Database → Result (Unit {0}) BoundedError → Database → Type 0
 MadeWithin h by cmd old (Ok _) new = HasStepped h by (command_within h cmd) new
 MadeWithin h by cmd old (Err NoMemory) new = (new ≡ old) × (length h ≡ 18446744073709551615 → ⊥)

@@ -7,7 +7,7 @@ use Rattle.engine.specs.Engine as engines
 use Rattle.text_format.specs.declared.Format.TheVariants.{Two}
 use Rattle.word_lines.specs.Commands.{command_line}
 use Rattle.word_lines.specs.Events.{event_text}
-use Rattle.word_lines.specs.Memory.{WantsMemory, verb_at}
+use Rattle.word_lines.specs.Memory.{WantsMemory, byte_words_at}
 use Rattle.word_lines.specs.Reading.{command_at}
 use Rattle.word_lines.specs.Table.{table}
 use Rattle.embedded.specs.declared.database.Database.{Database}
@@ -72,13 +72,13 @@ abbrev pub Called : List Event → List ℕ → Database → Result (Unit {0}) C
 Called h line old (Ok _) new = ((e : Event) × Made h line new e) × IsWritten new
 Called h line old (Err Unwritten) new = ((e : Event) × Made h line new e) × IsUnwritten new
 Called h line old (Err (Fault f)) new = (new ≡ old) × (command_at Two table 64 line ≡ Err f)
-Called h line old (Err NoMemory) new = (new ≡ old) × WantsMemory (verb_at Two table 64 line)
+Called h line old (Err NoMemory) new = (new ≡ old) × WantsMemory (byte_words_at Two table 64 line)
 Called h line old (Err Spent) new = (new ≡ old) × (length h ≡ 18446744073709551615) × ((x : ℕ × Cmd) × (command_at Two table 64 line ≡ Ok x))
 
 -- why no command is read from a line
 abbrev pub IsReadError : List ℕ → CallError → Type 0
 IsReadError line (Fault f) = command_at Two table 64 line ≡ Err f
-IsReadError line NoMemory = WantsMemory (verb_at Two table 64 line)
+IsReadError line NoMemory = WantsMemory (byte_words_at Two table 64 line)
 IsReadError line Spent = ⊥
 IsReadError line Unwritten = ⊥
 

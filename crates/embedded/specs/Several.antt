@@ -38,7 +38,7 @@ pub record Step : Type 0 where
   pub note : Done
   pub shown : List ℕ
 
--- the text of a call was shown whole, where there is room for so much; or the line is faulty, and none was; or the text found no memory
+-- the text of a call was shown whole, where there is room for so much; or the line is faulty, and none was; or the text ran out of memory
 abbrev pub IsNoted : (room : ℕ) → Database → Result (Unit {0}) CallError → Step → Type 0
 IsNoted room d (Ok _) s =
     ((length (text_of (last_of d)) ≤ room) × (s.note ≡ record { length = length (text_of (last_of d)); status = 0 }) × (s.shown ≡ text_of (last_of d)))
@@ -82,7 +82,7 @@ IsLookedAt most cmd = IsPoll cmd × (most ≡ 18446744073709551615 → ⊥)
 abbrev pub IsPollLine : (most : ℕ) → List ℕ → Type 0
 IsPollLine most line = (x : ℕ × Cmd) × (command_at Two table 64 line ≡ Ok x) × IsLookedAt most x.1
 
--- a line can't be called: as by itself, or where it is such a poll's, and the look finds no memory
+-- a line can't be called: as by itself, or where it is such a poll's, and the look runs out of memory
 abbrev pub IsUncalled : (most : ℕ) → List Event → List ℕ → Database → CallError → Type 0
 IsUncalled most h line d NoMemory = Called h line d (Err NoMemory) d ⊎ (IsPollLine most line × (length h ≡ 18446744073709551615 → ⊥))
 IsUncalled most h line d error = Called h line d (Err error) d

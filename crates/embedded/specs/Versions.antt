@@ -29,7 +29,7 @@ abbrev pub version_number : Option ℕ → ℕ
 version_number None = 0
 version_number (Some t) = t
 
--- why no further key was told: none is left, or no room; or no key stands there; or it is long, and found no memory
+-- why no further key was told: none is left, or no room; or no key stands there; or it is long, and ran out of memory
 abbrev pub EndsBy : (left : List ℕ) (room : ℕ) → Result (Unit {0}) VersionFault → Type 0
 EndsBy left room (Ok _) = (left ≡ []) ⊎ (room ≡ 0)
 EndsBy left room (Err KeyLength) = (0 < room) × (0 < length left) × NoneLeads left

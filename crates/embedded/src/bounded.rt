@@ -53,7 +53,7 @@ pub enum Bounded {
 /// Why no call was made.
 #[derive(Clone, Copy, Debug)]
 pub enum BoundedError {
-    /// The look found no memory.
+    /// The look ran out of memory.
     NoMemory,
     /// No position is left: the next one would be 18446744073709551615.
     NoPosition,

@@ -5,7 +5,7 @@ ghost use Rattle.spans.specs.declared.calls.events.Event.{Event};
 ghost use Rattle.text_format.specs.declared.Format.TheVariants.{Two};
 ghost use Rattle.word_lines.specs.Commands.{command_line};
 ghost use Rattle.word_lines.specs.Reading.{command_at};
-ghost use Rattle.word_lines.specs.Memory.{WantsMemory, verb_at};
+ghost use Rattle.word_lines.specs.Memory.{WantsMemory, byte_words_at};
 ghost use Rattle.word_lines.specs.Table.{table};
 ghost use Rattle.embedded.specs.declared.database.CallError.TheVariants.{NoMemory};
 ghost use Rattle.embedded.specs.Embedded.{StandsFor, HasLast, IsLastLine, IsNoReadError, IsReadError, IsWritten, IsUnwritten, Called, last_of, kept_text};
@@ -31,7 +31,7 @@ pub struct Database {
     pub(crate) text: Vec<u8>,
 }
 
-// a call of its own, so that where a database is dropped no proof has a case for each part of it
+// for the proof, which has no case for each part of it where a database is dropped
 impl Drop for Database {
     fn drop(self) {
         let Database {
@@ -48,11 +48,11 @@ impl Drop for Database {
 pub enum CallError {
     /// The line is faulty, and no call was made.
     Fault(LineFault),
-    /// The line found no memory, and no call was made.
+    /// The line ran out of memory, and no call was made.
     NoMemory,
     /// No position is left: the next one would be 18446744073709551615. No call was made.
     Spent,
-    /// The call was made, and its text found no memory: `Database::write` tries again.
+    /// The call was made, and its text ran out of memory: `Database::write` tries again.
     Unwritten,
 }
 
@@ -75,8 +75,8 @@ impl Database {
     /// After `Fault`, `NoMemory` and `Spent` all is as it was, the last text too.
     pub fn call(&mut self, line: &[u8]) -> Result<(), CallError>
         ensures called { (h : List Event) → StandsFor self.old h → Called h line.now self.old result self.new }
-        // Memory is wanted only for the name of a command with a key, a value or a span.
-        ensures memory { IfErr result (λ e. e ≡ NoMemory → WantsMemory (verb_at Two table 64 line.now)) }
+        // Memory is wanted only for a key, a value or a bound that is a word of more than 24 bytes.
+        ensures memory { IfErr result (λ e. e ≡ NoMemory → WantsMemory (byte_words_at Two table 64 line.now)) }
     {
         match self.read(line) {
             Ok((seat, cmd)) => self.call_command(line, seat, cmd),

@@ -27,14 +27,14 @@ use std::alloc::AllocError;
 use timestamps::key::Key;
 use timestamps::row::Row;
 
-/// Where a dump has come to: behind the row of a key at a timestamp, or without a key behind all rows of the timestamp.
+/// A place in a dump: behind the row of a key at a timestamp, or without a key behind all rows of the timestamp.
 /// It begins at 0.
 pub struct DumpPlace {
     pub ts: u64,
     pub key: Option<Key>,
 }
 
-// a call of its own, so that where a place is dropped no proof has a case for each form of its key
+// for the proof, which has no case for each form of its key where a place is dropped
 impl Drop for DumpPlace {
     fn drop(self) {
         let DumpPlace { ts: _, key: _ } = self;
@@ -46,7 +46,7 @@ impl Drop for DumpPlace {
 pub struct DumpPiece {
     /// Its lines, of session 0.
     pub text: Vec<u8>,
-    /// Where the next one begins; none where the dump has ended.
+    /// The place at which the next one begins; none where the dump has ended.
     pub next: Option<DumpPlace>,
 }
 
@@ -55,7 +55,7 @@ pub struct DumpPiece {
 struct DumpEnd {
     /// No row above it is written.
     through: u64,
-    /// Where the dump closes.
+    /// The timestamp at which the dump closes.
     to: u64,
     horizon: u64,
 }
@@ -186,7 +186,7 @@ impl DumpPlace {
 }
 
 impl DumpEnd {
-    /// Where the next piece begins, behind all rows of this one; none where the dump has ended.
+    /// The place at which the next piece begins, behind all rows of this one; none where the dump has ended.
     fn place(&self) -> Option<DumpPlace>
         ensures { result ≡ place_at_end self.now.to self.now.through }
     {

@@ -25,21 +25,21 @@ pub struct EventRecord {
     pub position: u64,
     /// The number that its command names: a timestamp, a protection's or a feed's; of an open its cursor; else 0.
     pub at: u64,
-    /// What its answer counts, or names; 0 where there is nothing.
+    /// The number that its answer counts or names; 0 where there is nothing.
     pub number: u64,
     /// A closing's aborted transactions, a collection's dropped versions, the undecided transactions that `stats` tells;
     /// else 0.
     pub other: u64,
     /// The seat that gave the command.
     pub seat: u8,
-    /// Which command it is, from 1 on; 0 where there is no event.
+    /// Its command's number, from 1 on; 0 where there is no event.
     pub command: u8,
-    /// Which answer it is: from 1 on what was done, from 32 on why it was refused.
+    /// Its answer's number: from 1 on what was done, from 32 on why it was refused.
     pub kind: u8,
 }
 
 impl EventRecord {
-    /// That of no event: all 0.
+    /// The record of no event: all 0.
     pub fn none() -> EventRecord
         ensures { result ≡ record_of None }
     {
@@ -76,7 +76,7 @@ impl Database {
     }
 }
 
-/// Which command it is.
+/// The number of a command.
 fn command_number(cmd: &Cmd) -> u8
     ensures { result ≡ command_number cmd.now }
 {

@@ -47,7 +47,7 @@ impl Database {
     }
 }
 
-/// What a report tells of a seat.
+/// The records of a report that are a seat's.
 fn held_in(alloc: Global, report: &Report, seat: u8) -> Result<Vec<HeldRecord>, AllocError>
     ensures { IfOk result (λ held. held.items ≡ held_in report.now seat) }
 {

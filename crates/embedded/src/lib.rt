@@ -15,7 +15,7 @@
 //! new                                        none                           empty
 //! call "0 begin 10\n"      done              0 0 begin 10 => started        24 bytes
 //! call "0 put 10 a\n"      Fault(WordCount)  (as before)                    (as before)
-//! call "0 put 10 a 1\n"    Unwritten         1 0 put 10 a 1 => written      empty: it found no memory
+//! call "0 put 10 a 1\n"    Unwritten         1 0 put 10 a 1 => written      empty: it ran out of memory
 //! write                    done              1 0 put 10 a 1 => written      26 bytes
 //! make 0 Get { 10, "a" }   done              2 0 get 10 a => value 1        empty until it is asked for
 //! answer                   kind 3, number 1  (as before)                    (as before)

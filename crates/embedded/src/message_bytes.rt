@@ -19,7 +19,7 @@ const VALUE: u8 = 1;
 /// A row of a delete.
 const DELETE: u8 = 2;
 
-/// Where a scan ended.
+/// The end of a scan.
 const END: u8 = 3;
 
 /// Puts messages at the end, one behind another.

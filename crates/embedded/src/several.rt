@@ -30,11 +30,11 @@ const UNSHOWN: u8 = 14;
 /// The status of a line whose answer would be too long.
 const TOO_LONG: u8 = 25;
 
-/// What became of one line of several.
+/// The outcome of one line of several.
 #[repr(C)]
 #[derive(Clone, Copy, Debug)]
 pub struct Done {
-    /// How many bytes its event's text has, 0 where no call was made or the text found no memory.
+    /// How many bytes its event's text has, 0 where no call was made or the text ran out of memory.
     pub length: usize,
     /// 0 where its call was made and its text shown; 1 to 9 its fault by its code; 14 where its call was made and its
     /// text not shown; 25 where its answer would be too long, and no call was made.
@@ -60,7 +60,8 @@ impl Database {
     /// bytes of rows or messages, where `most` is not the greatest number. One that would be refused is called, and one
     /// that is blocked behind so many bytes of rows is not. No further line is taken where none is left,
     /// where there is no room for a note, behind a call whose text found no room or no memory (`Unwritten`:
-    /// [`Database::write`] and [`Database::copy_text`] show it), and before a line that finds no memory or no position.
+    /// [`Database::write`] and [`Database::copy_text`] show it), and before a line that runs out of memory or of
+    /// positions.
     pub fn call_lines(
         &mut self,
         lines: &[u8],
@@ -92,8 +93,8 @@ impl Database {
         (taken, Ok(()))
     }
 
-    /// Makes the call of one line, shows its text, and tells what is noted of it. A line that finds no memory or no
-    /// position isn't taken, and all is as it was.
+    /// Makes the call of one line, shows its text, and tells what is noted of it. A line that runs out of memory or of
+    /// positions isn't taken, and all is as it was.
     fn take_line(&mut self, line: &[u8], out: &mut [u8], most: u64) -> Result<Done, CallError>
         ensures taken { (h : List Event) → StandsFor self.old h → IsTaken most h line.now self.old out.old out.new result self.new }
         ensures room { IfOk result (λ done. (done.status ≡ 14) ⊎ (done.length ≤ length out.old)) }

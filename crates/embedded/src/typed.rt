@@ -29,13 +29,13 @@ use timestamps::value::Value;
 #[derive(Clone, Copy, Debug)]
 pub struct NoPosition;
 
-/// What an event was answered, in numbers. `embed/ripsawbean.h` names the kinds.
+/// An event's answer, in numbers. `embed/ripsawbean.h` names the kinds.
 #[repr(C)]
 #[derive(Clone, Copy, Debug)]
 pub struct Answer {
-    /// Which answer it is: from 1 on what was done, from 32 on why it was refused, 0 where no call was made.
+    /// The answer's number: from 1 on what was done, from 32 on why it was refused, 0 where no call was made.
     pub kind: u8,
-    /// What it counts, or the timestamp that it names; 0 where there is none.
+    /// The number that it counts, or the timestamp that it names; 0 where there is none.
     pub number: u64,
     /// A closing's aborted transactions, else 0.
     pub other: u64,

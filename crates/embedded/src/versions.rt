@@ -29,7 +29,7 @@ pub enum VersionFault {
     KeyLength,
     /// The timestamp is below the horizon, so versions may be gone. None was told.
     BelowHorizon,
-    /// A key of more than 24 bytes found no memory.
+    /// A key of more than 24 bytes ran out of memory.
     NoMemory,
 }
 

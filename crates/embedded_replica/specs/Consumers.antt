@@ -15,7 +15,7 @@ use Rattle.json_lines.specs.Memory.{MayWantMemory}
 use Rattle.json_lines.specs.Messages.{IsMessage, message_line}
 use Rattle.json_lines.specs.Tests.{message_at}
 use Rattle.json_lines.specs.Writing.{Copied}
-use Rattle.word_lines.specs.Memory.{WantsMemory, verb_at}
+use Rattle.word_lines.specs.Memory.{WantsMemory, byte_words_at}
 use Rattle.word_lines.specs.Reading.{command_at}
 use Rattle.word_lines.specs.Replies.{row_line}
 use Rattle.word_lines.specs.Table.{table}
@@ -72,11 +72,15 @@ pub record Begins (line : List ℕ) (new : Replica) : Type 0 where
   pub read : command_at Two table 64 line ≡ Ok (seat, command)
   pub begins : BeginsBy command (Some new)
 
--- why none begins; only the line of a command with a key, a value or a span may want memory
+-- the line's command opens a feed
+abbrev pub LineOpensFeed : List ℕ → Type 0
+LineOpensFeed line = (seat : ℕ) × (command : Cmd) × (command_at Two table 64 line ≡ Ok (seat, command)) × OpensFeed command
+
+-- why none begins; only a line that may want memory to be read, or opens a feed, may want it
 abbrev pub IsUnopened : List ℕ → BeginError → Type 0
 IsUnopened line (errors.Fault f) = command_at Two table 64 line ≡ Err f
 IsUnopened line errors.NoFeed = (seat : ℕ) × (command : Cmd) × (command_at Two table 64 line ≡ Ok (seat, command)) × BeginsBy command None
-IsUnopened line errors.NoMemory = WantsMemory (verb_at Two table 64 line)
+IsUnopened line errors.NoMemory = WantsMemory (byte_words_at Two table 64 line) ⊎ LineOpensFeed line
 
 -- the line is that of the message
 pub record IsLineOf (line : List ℕ) (m : Message) : Type 0 where
@@ -97,7 +101,7 @@ pub record HasRefused (line : List ℕ) (old : Replica) (fault : Fault) : Type 0
   pub test : IsFaultAt old message (test_of fault)
   pub memory : fault ≡ faults.NoMemory → AddsValue message
 
--- the line is no message's, by the first test that it doesn't pass, or memory is wanting to a line that may want it
+-- the line is no message's, by the first test that it doesn't pass, or it is out of memory at a line that may want it
 abbrev pub IsNoMessage : List ℕ → MessageFault → Type 0
 IsNoMessage line fault = (fault ≢ lines.NoMemory → message_at Two line ≡ Err fault) × (fault ≡ lines.NoMemory → MayWantMemory line)
 
@@ -116,7 +120,7 @@ IsRefused line old (takes.Message fault) = HasRefused line old fault
 abbrev pub AreKey : List ℕ → Type 0
 AreKey bytes = (1 ≤ length bytes) × (length bytes ≤ MAX_KEY_BYTES)
 
--- the bytes are too few or too many for a key, or memory is wanting to a key of more than 24
+-- the bytes are too few or too many for a key, or it is out of memory at a key of more than 24
 abbrev pub IsNoKey : List ℕ → KeyError → Type 0
 IsNoKey bytes KeyLength = (length bytes ≡ 0) ⊎ (MAX_KEY_BYTES < length bytes)
 IsNoKey bytes NoMemory = (24 < length bytes) × AreKey bytes

@@ -1,11 +1,11 @@
 -- With which rows a consumer that is called by text begins (this project's own).
-use Rattle.std.specs.Prelude.{ℕ, List, [], ◌∷◌, ◌≡◌, ◌||◌, nat_lt, if◌then◌else◌, Option, Some, None, option_and_then, Result, Ok, Err}
+use Rattle.std.specs.Prelude.{ℕ, List, [], ◌∷◌, ◌≡◌, ◌⊎◌, ◌||◌, nat_lt, if◌then◌else◌, Option, Some, None, option_and_then, Result, Ok, Err}
 use Rattle.timestamps.specs.declared.ts.TheConstants.{MAX}
 use Rattle.spans.specs.declared.span.Span.{Span}
 use Rattle.spans.specs.declared.calls.commands.Cmd.{Cmd}
 use Rattle.text_format.specs.declared.Format.TheVariants.{Two}
 use Rattle.spelled_words.specs.declared.fault.LineFault.{LineFault}
-use Rattle.word_lines.specs.Memory.{WantsMemory, verb_at}
+use Rattle.word_lines.specs.Memory.{WantsMemory, byte_words_at}
 use Rattle.word_lines.specs.Reading.{◌>>=◌, command_at}
 use Rattle.word_lines.specs.Table.{table}
 use Rattle.script.specs.Lines.{lines_of}
@@ -78,8 +78,8 @@ pub record IsUnseededAt (line rows : List ℕ) (error : SeedingError) : Type 0 w
   pub read : command_at Two table 64 line ≡ Ok (seat, command)
   pub why : IsUnseededBy command rows error
 
--- why none begins by the line and the rows; only the line of a command with a key, a value or a span may want memory
+-- why none begins by the line and the rows; only a line that may want memory to be read, or opens a feed, may want it
 abbrev pub IsUnseeded : (line rows : List ℕ) → SeedingError → Type 0
 IsUnseeded line rows (errors.Fault f) = command_at Two table 64 line ≡ Err f
-IsUnseeded line rows errors.NoMemory = WantsMemory (verb_at Two table 64 line)
+IsUnseeded line rows errors.NoMemory = WantsMemory (byte_words_at Two table 64 line) ⊎ IsUnseededAt line rows errors.NoMemory
 IsUnseeded line rows error = IsUnseededAt line rows error

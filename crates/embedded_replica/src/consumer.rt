@@ -26,7 +26,7 @@ pub struct Consumer {
     pub(crate) replica: Replica,
 }
 
-// a call of its own, so that where a consumer is dropped no proof has a case for each part of it
+// for the proof, which has no case for each part of it where a consumer is dropped
 impl Drop for Consumer {
     fn drop(self) {
         let Consumer {
@@ -68,9 +68,9 @@ pub enum SeedingError {
 /// Why a line was not taken. Nothing changed.
 #[derive(Clone, Copy, Debug)]
 pub enum TakeError {
-    /// It isn't the line of a message, or found no memory.
+    /// It isn't the line of a message, or ran out of memory.
     Line(MessageFault),
-    /// Its message is refused, or found no memory.
+    /// Its message is refused, or ran out of memory.
     Message(Fault),
 }
 
@@ -177,7 +177,7 @@ impl Consumer {
     }
 }
 
-/// What a command opens.
+/// A feed that a command opens.
 #[derive(Drop)]
 struct Opening {
     span: Span,
@@ -185,7 +185,7 @@ struct Opening {
     initial: bool,
 }
 
-/// What a command opens, if it opens a feed.
+/// The feed that a command opens, if it opens one.
 fn opening_of(cmd: Cmd) -> Option<Opening>
     ensures { result ≡ opening_of cmd }
 {

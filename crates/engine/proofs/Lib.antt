@@ -1,7 +1,6 @@
 pub mod FeedReplies
-pub mod Taking
+pub mod Released
 pub mod Serving
-pub mod HoldingRows
 pub mod Histories
 pub mod OpeningReplies
 pub mod Replies

@@ -17,15 +17,15 @@ use Rattle.spans.proofs.Copies.{AllAllowed}
 use Rattle.spans.proofs.Horizon.{least_join}
 use Rattle.spans.proofs.Legal.{legal_allowed}
 use Rattle.spans.proofs.Steps.{by_test}
-use Rattle.kept.specs.Places.{or_min, place_floor}
+use Rattle.kept.specs.Places.{IsLeastFloor, or_min, place_floor}
 use Rattle.kept.specs.StandsFor as keeping
 use Rattle.kept.specs.Table as table
 use Rattle.kept.proofs.AfterCloses.{open_is}
 use Rattle.kept.proofs.Floors.{least_floor_is, place_floor_is}
 use Rattle.kept.proofs.Refusals.{used_is}
-use Rattle.collector.specs.Reaching.{IsLimit}
 use Rattle.mvto_rules.specs.Holding.{closing_of}
 use Rattle.mvto_rules.specs.Looking.{IsReachedIn}
+use Rattle.mvto_rules.specs.Reaching.{IsLimit}
 use Rattle.engine.specs.Layers.{kept_of}
 use Rattle.engine.specs.Looking.{ArePlaces, IsOldest, IsReached, feed_floor}
 use Rattle.engine.specs.Progress.{HavePlaces}
@@ -101,12 +101,12 @@ limit_at p =
     ∙ ap (λ k. least_of k (map at (reverse ps))) (least_turned n (floor_of p) ws)
     ∙ least_turned (least_of n (map (floor_of p) ws)) at ps
 
-limit_is : (e : Layers) (p : List Effect) → AllAllowed p → IsKeptOf (kept_of e) p → (n : ℕ) → IsLimit (closing_of e.rules) e.feeds n → n ≡ (limit_of p).at
-limit_is e p all fits n is =
+limit_is : (e : Layers) (p : List Effect) → AllAllowed p → IsKeptOf (kept_of e) p → (floor : Option ℕ) (n : ℕ) → IsLeastFloor (kept_of e).feed floor → IsLimit (closing_of e.rules) floor n → n ≡ (limit_of p).at
+limit_is e p all fits floor n lowest is =
     let k = kept_of e in
-    is.is ∙ is.least (or_min is.floor k.closed)
-    ∙ ap (λ ps. least_of (or_min is.floor k.closed) (map (λ (n : Protection). n.at) ps)) fits.protected
-    ∙ ap (λ m. least_of m (map (λ (n : Protection). n.at) (protections_of p))) (least_floor_is k p all fits is.floor is.lowest k.closed ∙ ap (λ m. least_of m (map (floor_of p) (live_feeds p))) fits.closed_at)
+    is.is ∙ is.least (or_min floor k.closed)
+    ∙ ap (λ ps. least_of (or_min floor k.closed) (map (λ (n : Protection). n.at) ps)) fits.protected
+    ∙ ap (λ m. least_of m (map (λ (n : Protection). n.at) (protections_of p))) (least_floor_is k p all fits floor lowest k.closed ∙ ap (λ m. least_of m (map (floor_of p) (live_feeds p))) fits.closed_at)
     ∙ sym (limit_at p)
 
 -- ---- all of it
@@ -117,7 +117,7 @@ places_are e h places stands is =
     let fits = stands.fits in record {
       closed = is.closed ∙ fits.closed_at;
       horizon = is.horizon ∙ fits.horizon_at;
-      limit = limit_is e (effects_of h) all fits places.limit is.limit;
+      limit = limit_is e (effects_of h) all fits is.limit.0 places.limit is.limit.1 is.limit.2;
       oldest = oldest_is (kept_of e) (effects_of h) all fits places.oldest is.oldest;
       reached = reached_is (kept_of e) (effects_of h) fits places.reached is.reached;
     }

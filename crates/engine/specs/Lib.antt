@@ -1,6 +1,4 @@
 pub mod Layers
-pub mod Holding
-pub mod Releasing
 pub mod Served
 pub mod Engine
 pub mod Runs

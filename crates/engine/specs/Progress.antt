@@ -1,10 +1,12 @@
 -- How far the layers of an engine have come.
-use Rattle.std.specs.Prelude.{◌≡◌}
+use Rattle.std.specs.Prelude.{ℕ, Option, ◌≡◌}
+use Rattle.feed.specs.Standing.{place_in}
+use Rattle.kept.specs.Places.{IsLeastFloor}
 use Rattle.kept.specs.Table.{IsOldest}
 use Rattle.closing.specs.Standing.{closed_in}
-use Rattle.collector.specs.Reaching.{IsLimit}
 use Rattle.mvto_rules.specs.Holding.{closing_of, horizon_of, transactions_of}
 use Rattle.mvto_rules.specs.Looking.{IsReachedIn}
+use Rattle.mvto_rules.specs.Reaching.{IsLimit}
 use Rattle.engine.specs.Layers.{kept_of}
 use Rattle.engine.specs.declared.layers.Layers.{Layers}
 use Rattle.engine.specs.declared.looking.Places.{Places}
@@ -13,6 +15,6 @@ use Rattle.engine.specs.declared.looking.Places.{Places}
 pub record HavePlaces (e : Layers) (places : Places) : Type 0 where
   pub closed : places.closed ≡ closed_in (closing_of e.rules)
   pub horizon : places.horizon ≡ horizon_of e.rules
-  pub limit : IsLimit (closing_of e.rules) e.feeds places.limit
+  pub limit : (floor : Option ℕ) × IsLeastFloor (place_in e.feeds) floor × IsLimit (closing_of e.rules) floor places.limit
   pub oldest : IsOldest (transactions_of e.rules) places.oldest
   pub reached : IsReachedIn (kept_of e) places.reached

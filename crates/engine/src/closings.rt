@@ -3,7 +3,7 @@ ghost use Rattle.spans.specs.declared.calls.commands.Cmd.TheVariants.{Close, Clo
 ghost use Rattle.kept.specs.Answered.{IsStep};
 
 use crate::layers::Layers;
-use crate::releasing::release_through;
+use crate::releasing::release;
 use spans::calls::Reply;
 
 impl Layers {
@@ -14,10 +14,11 @@ impl Layers {
         ensures step { IsStep (kept_of self.old) (kept_of self.new) seat (Close to) result }
         ensures served { IsServed self.old self.new seat (Close to) result }
     {
+        let from = self.rules.closed();
         let reply = self.rules.close(to);
         match reply {
             Reply::Closed { at, .. } => {
-                release_through(&mut self.feeds, &mut self.held_back, at);
+                release(&mut self.feeds, self.rules.versions(), from, at);
                 reply
             }
             _ => reply,
@@ -28,10 +29,11 @@ impl Layers {
         ensures step { IsStep (kept_of self.old) (kept_of self.new) seat (CloseHard to) result }
         ensures served { IsServed self.old self.new seat (CloseHard to) result }
     {
+        let from = self.rules.closed();
         let reply = self.rules.close_hard(to);
         match reply {
             Reply::Closed { at, .. } => {
-                release_through(&mut self.feeds, &mut self.held_back, at);
+                release(&mut self.feeds, self.rules.versions(), from, at);
                 reply
             }
             _ => reply,

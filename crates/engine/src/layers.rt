@@ -1,5 +1,5 @@
 //! The layers that an engine stands on, and which of them answers a command.
-ghost use Rattle.std.specs.Prelude.{[], None, false, ◌≡◌, ◌<◌, ℕ};
+ghost use Rattle.std.specs.Prelude.{None, ◌≡◌, ◌<◌, ℕ};
 ghost use Rattle.kept.specs.StandsFor.{nothing_kept};
 ghost use Rattle.kept.specs.Changes.{IsAlike};
 ghost use Rattle.closing.specs.Standing.{closed_in};
@@ -7,7 +7,6 @@ ghost use Rattle.mvto_rules.specs.Holding.{closing_of};
 ghost use Rattle.kept.specs.Answered.{IsStep};
 
 use feed::Feeds;
-use hold_back::HoldBack;
 use mvto_rules::Rules;
 use spans::calls::{Cmd, Reply};
 use spans::kind::Kind;
@@ -19,28 +18,21 @@ pub(crate) struct Layers {
     /// Versions, marks of readers, transactions, and what is closed and protected.
     pub(crate) rules: Rules,
     pub(crate) feeds: Feeds,
-    /// Committed rows that aren't closed yet.
-    pub(crate) held_back: HoldBack,
 }
 
 impl Layers {
     ghost use Rattle.engine.specs.Layers.{kept_of};
     ghost use Rattle.engine.specs.Served.{AreServing, IsServed};
     ghost use Rattle.feed.specs.Standing.{behind_in, live_in, opened_in};
-    ghost use Rattle.hold_back.specs.Held.{lost_in, rows_in};
-    ghost use Rattle.hold_back.specs.Lost.{is_lost};
 
     /// Nothing has happened.
     pub(crate) fn new(alloc: Global, ring: u32) -> Layers
         ensures kept { IsAlike nothing_kept (kept_of result) }
         ensures feeds { (f : ℕ) → live_in result.feeds f ≡ None }
-        ensures rows { rows_in result.held_back ≡ [] }
-        ensures lost { (t : ℕ) → is_lost (lost_in result.held_back) t ≡ false }
     {
         Layers {
             rules: Rules::new(alloc),
             feeds: Feeds::new(alloc, ring as usize),
-            held_back: HoldBack::new(alloc),
         }
     }
 
@@ -71,7 +63,7 @@ impl Layers {
             Cmd::Scan { ts, span } => self.rules.scan(seat, *ts, span),
             Cmd::Put { ts, key, value } => self.rules.write(seat, *ts, key, Some(value)),
             Cmd::Del { ts, key } => self.rules.write(seat, *ts, key, None),
-            Cmd::Commit { ts } => self.commit(seat, *ts),
+            Cmd::Commit { ts } => self.rules.commit(seat, *ts),
             Cmd::Abort { ts } => self.rules.abort(seat, *ts),
             Cmd::Close { to } => self.close(seat, *to),
             Cmd::CloseHard { to } => self.close_hard(seat, *to),
@@ -79,7 +71,7 @@ impl Layers {
             Cmd::ScanAt { t, span } => self.rules.scan_at(*t, span),
             Cmd::Protect { t } => self.rules.protect(*t),
             Cmd::Release { id } => self.rules.release(*id),
-            Cmd::Collect { to } => self.collect(seat, *to),
+            Cmd::Collect { to } => self.rules.collect(*to, self.feeds.least_floor()),
             Cmd::Open { span, cursor } => {
                 let kind = Kind {
                     initial: false,

@@ -1,27 +1,27 @@
 //! The database on one thread: every command of every seat, one at a time.
 //!
 //! [`Engine::step`] answers a seat's command by the layers below: the rules, which hold versions, marks of readers,
-//! transactions, closed and the protections; the rows that are held back for feeds, and the feeds. A command that is no
-//! feed's is answered by the rules alone, but a commit holds its rows back, and a closing releases those that it closed.
-//! `shared_db` calls it under its lock, and `embedded` without one. Its contract speaks of histories alone: an engine
-//! stands for a legal history, newest event first, and after a step for one event more.
+//! transactions, closed and the protections, and the feeds. A command that is no feed's is answered by the rules alone,
+//! but a closing also offers the feeds what it closed, and a collection goes no further than their floors. `shared_db`
+//! calls it under its lock, and `embedded` without one. Its contract speaks of histories alone: an engine stands for a
+//! legal history, newest event first, and after a step for one event more.
 //!
 //! 1. The layers hold what is kept of some legal history of as many events as there were steps. Nothing else ties them.
-//! 2. Rows that were committed above closed are held back, or the set that holds them knows where one was lost. Where
-//!    no feed lives at a commit, its rows count as lost: a feed that is opened later finds them in the store.
+//! 2. From its commit to its closing a row lies in the store alone. The closing goes over the committed versions that it
+//!    closed, by timestamp and then by key, and offers each. So it makes no difference whether a feed lived at the commit.
 //! 3. The ring of a feed that isn't behind has the rows at or below closed that it has still to tell.
 //!
 //! ```text
-//!                          undecided   versions of "a"   held back   closed   horizon   feed 1, with a ring of 1
-//! new                                                                0        0
-//! open - - 0 by seat 1                                               0        0         at 0    ring
-//! begin 10 by seat 0       10                                        0        0         at 0    ring
-//! put 10 a 1 by seat 0     10          10                            0        0         at 0    ring
-//! commit 10 by seat 0                  10*               10 a        0        0         at 0    ring
-//! close 30 by seat 1                   10*                           30       0         at 0    ring 10 a
-//! collect 30 by seat 1                 10*                           30       0         at 0    ring 10 a
-//! poll 1 9 by seat 1                   10*                           30       0         at 30   ring      tells 10 a, resolved 30
-//! collect 30 by seat 1                 10*                           30       30        at 30   ring
+//!                          undecided   versions of "a"   closed   horizon   feed 1, with a ring of 1
+//! new                                                    0        0
+//! open - - 0 by seat 1                                   0        0         at 0    ring
+//! begin 10 by seat 0       10                            0        0         at 0    ring
+//! put 10 a 1 by seat 0     10          10                0        0         at 0    ring
+//! commit 10 by seat 0                  10*               0        0         at 0    ring
+//! close 30 by seat 1                   10*               30       0         at 0    ring 10 a
+//! collect 30 by seat 1                 10*               30       0         at 0    ring 10 a
+//! poll 1 9 by seat 1                   10*               30       0         at 30   ring      tells 10 a, resolved 30
+//! collect 30 by seat 1                 10*               30       30        at 30   ring
 //! ```
 //!
 //! Costs, where n is all that is held, v, b and m the versions, the blocks and the marks of a key, and f the feeds that
@@ -32,8 +32,8 @@
 //!   or of the versions above it in its list or block
 //! - `scan`, `scanat`: O(log n), and as a get for each key and each marked span that it meets
 //! - `commit`, `abort`: O(log n + log v log b) for each key written
-//! - `close`, `closehard`: O(log n) for each transaction that is forgotten, and O(log n + log f) for each row that became
-//!   closed, and the feeds whose spans hold its key
+//! - `close`, `closehard`: O(log n) for each transaction that is forgotten. Where a feed lives also
+//!   O(log n + log v log b + log f) for each version that became closed, and the feeds whose spans hold its key
 //! - `collect`: O(log n) for each version written since the last horizon, up to its own; and for each key of these a
 //!   look through one block, and at the starts of all
 //! - `poll`: O(log n), and its messages; from the store the searches of `catch_up`
@@ -47,10 +47,9 @@
 //! - `is_long`: O(log n), and as `scan_end` or `poll_count`
 //!
 //! Memory: begin, get, scan, put, del, readat, scanat, protect, open and poll take it before anything changes. Without it
-//! they answer so, and all is as it was: open and poll in `openings` and `polls`, and the others in the rules. Abort,
-//! collect, release, cancel and stats take none. Commit, close and closehard go on without it: a row that finds no memory
-//! at a commit is lost to the held back rows, and a row that finds none at a closing sends feeds behind, which then read
-//! it in the store.
+//! they answer so, and all is as it was: open and poll in `openings` and `polls`, and the others in the rules. Commit,
+//! abort, collect, release, cancel and stats take none. Close and closehard go on without it: a row that finds none sends
+//! the feeds that want it behind, which then read it in the store.
 //!
 //! Tests: `unit_tests`, `growth_tests`, `job_tests`.
 #![tactic(auto)]
@@ -64,9 +63,7 @@ ghost use Rattle.spans.specs.Transactions.{closed_of};
 ghost use Rattle.engine.specs.Layers.{HasHistory};
 
 mod closings;
-mod collections;
 mod dumping;
-mod holding;
 mod layers;
 mod looking;
 mod openings;
@@ -76,7 +73,6 @@ mod report;
 mod room;
 mod running;
 mod statistics;
-mod transactions;
 
 use crate::layers::Layers;
 pub use looking::Places;
@@ -91,7 +87,7 @@ pub struct Engine {
     ghost stands: { ∥ HasHistory layers steps ∥₁ },
 }
 
-// a call of its own, so that where an engine is dropped no proof has a case for each part of it
+// for the proof, which has no case for each part of it where an engine is dropped
 impl Drop for Engine {
     fn drop(self) {
         let Engine {
@@ -151,7 +147,7 @@ impl Engine {
         self.layers.behind(feed)
     }
 
-    /// What an operator may ask of it. It takes memory for the answer alone.
+    /// The report that an operator may ask for. It takes memory for the answer alone.
     pub fn report(&self) -> Result<Report, AllocError>
         ensures { (h : List Event) → StandsFor self.now h → IfOk result (IsReport false (effects_of h)) }
     {

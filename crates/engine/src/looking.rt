@@ -18,7 +18,6 @@ ghost use Rattle.engine.specs.Progress.{HavePlaces};
 
 use crate::Engine;
 use crate::layers::Layers;
-use collector::limit;
 use timestamps::key::Key;
 
 /// How far a database has come.
@@ -80,7 +79,7 @@ impl Layers {
         Places {
             closed: self.rules.closed(),
             horizon: self.rules.horizon(),
-            limit: limit(self.rules.closing(), &self.feeds),
+            limit: self.rules.limit(self.feeds.least_floor()),
             oldest: self.rules.oldest_undecided(),
             reached: self.rules.reached(),
         }

@@ -10,7 +10,7 @@ use Rattle.spans.proofs.Steps.{by_test}
 use Rattle.kept.specs.Rings.{AreOffered, wanted}
 use Rattle.feed.specs.Live.{IsOffered, Live, wants}
 use Rattle.feed.specs.OfferedAll.{IsOfferedAll}
-use Rattle.feed.specs.Standing.{AreChanged, IsBoth, IsSentBehind, Standing, is_behind, live_in, place_in, ring_of}
+use Rattle.feed.specs.Standing.{AreChanged, IsBoth, Standing, is_behind, live_in, place_in, ring_of}
 
 pub offered_none : (l : Live) → IsOfferedAll [] l l
 offered_none l = record { place = refl; ring = λ isnt. (isnt, sym (append-nil l.ring)) }
@@ -66,16 +66,6 @@ offers_begin s f = by (live_in s f)
 
 pub offers_more : (rows : List Row) (r : Row) (s s' s'' : Standing) → AreChanged (IsOfferedAll rows) s s' → AreChanged (IsOffered r) s' s'' → AreChanged (IsOfferedAll (rows ++ r ∷ [])) s s''
 offers_more rows r s s' s'' all one f = both_more rows r (live_in s f) (live_in s' f) (live_in s'' f) (all f) (one f)
-
--- and where all were sent behind, any rows count as offered
-pub behind_all : (rows : List Row) (s s' : Standing) → AreChanged IsSentBehind s s' → AreChanged (IsOfferedAll rows) s s'
-behind_all rows s s' sent f = by (live_in s f) (live_in s' f) (sent f)
-  where
-    by : (o p : Option Live) → IsBoth IsSentBehind o p → IsBoth (IsOfferedAll rows) o p
-    by None None e = tt
-    by None (Some m) e = absurd e
-    by (Some l) None e = absurd e
-    by (Some l) (Some m) e = record { place = ap (λ (v : Live). v.place) e; ring = λ isnt. let no' : true ≡ false = sym (ap (λ (v : Live). v.behind) e) ∙ isnt in cc }
 
 -- the theorem on rings asks for this
 pub are_offered : (k : Kept) (rows : List Row) (s s' : Standing) → ((f : ℕ) → k.feed f ≡ place_in s f) → AreChanged (IsOfferedAll rows) s s' → AreOffered k (ring_of s) (ring_of s') (is_behind s) (is_behind s') rows

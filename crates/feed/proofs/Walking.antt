@@ -13,7 +13,7 @@ use Rattle.kept.specs.Rings.{wanted}
 use Rattle.feed.specs.Changes.{AreAllListed, AreEach, IsChangedTo, IsStep, Lives}
 use Rattle.feed.specs.Live.{IsOffered, Live, wants}
 use Rattle.feed.specs.Slots.{AreListed, IsKept, IsListed, IsSourced, Slots, entry_holds, holds_at, is_ring, slot_of, source_of, sourced}
-use Rattle.feed.specs.Standing.{IsBoth, IsSentBehind}
+use Rattle.feed.specs.Standing.{IsBoth}
 use Rattle.feed.specs.Ties.{AreTied, is_floor}
 use Rattle.feed.specs.declared.slots.Slot.{Slot}
 use Rattle.feed.specs.declared.slots.ServedFrom.TheVariants.{Ended, Store}
@@ -137,6 +137,10 @@ unheld r es os j g distinct listed at holds = by (lookup (nat_eq g) es) (slot_of
         let off'' : (not v.behind && in_span v.place.span r.key) ≡ false = sym (ap (λ t. t && in_span v.place.span r.key) (ap is_ring l.1 ∙ ring_is v.behind)) ∙ ap (λ t. is_ring s.source && in_span t r.key) (sym l.0) ∙ off' in
         let unwanted : wants v r ≡ false = not_wanted v.behind (in_span v.place.span r.key) (nat_lt v.place.after r.ts) off'' in
         subst (λ o. IsBoth (IsOffered r) o o) (sym was) (record { offered = λ on. absurd (both_ways _ unwanted on); others = λ no'. refl })
+
+-- and where no slot does, no feed
+pub none_held : (r : Row) (es : Lives) (os : Slots) → IsDistinct nat_eq (keys_of os) → AreListed es os → ((j : ℕ) → 0 ≤ j → holds_at os j r.key ≡ false) → AreEach (IsOffered r) es es
+none_held r es os distinct listed none = walked_all (IsOffered r) 0 (keys_of os) es es (walked_none (IsOffered r) es os listed) (λ j g low all at. unheld r es os j g distinct listed at (none j low))
 
 -- a change of one feed leaves the others listed
 pub listed_put : (es es' : Lives) (os os' : Slots) (f : ℕ) → AreListed es os → ((g : ℕ) → (f == g) ≡ false → lookup (nat_eq g) es' ≡ lookup (nat_eq g) es) → ((g : ℕ) → (f == g) ≡ false → slot_of os' g ≡ slot_of os g)
@@ -298,12 +302,6 @@ module _ (R : Live → Live → Type 0) (es es' : Lives) (f : ℕ) (b : Bool) (c
           (subst (λ o. IsListed o (slot_of os' f)) (sym (put_here es es' f (Some c.after) c.put))
           (subst (IsListed (Some c.after)) (sym (slot_here os os' f (option_map (sourced Store) (slot_of os f)) put))
           (listed_behind l c.after (slot_of os f) (subst (λ o. IsListed o (slot_of os f)) was (listed f)) (ap (λ p. p.span) (same l c.after c.changed)) true (sym c.behind ∙ on))))
-
-pub sent_place : (l l' : Live) → IsSentBehind l l' → l'.place ≡ l.place
-sent_place l l' sent = ap (λ (v : Live). v.place) sent
-
-pub sent_ahead : (l l' : Live) → IsSentBehind l l' → l'.behind ≡ false → l.behind ≡ false
-sent_ahead l l' sent isnt = let no' : true ≡ false = sym (ap (λ (v : Live). v.behind) sent) ∙ isnt in cc
 
 -- a feed that is put, and its slot
 pub all_put : (n f : ℕ) (es es' : Lives) (os os' : Slots) (v : Option Live) (w : Option Slot) → AreAllListed n es os → ((g : ℕ) → lookup (nat_eq g) es' ≡ cond (f == g) v (lookup (nat_eq g) es)) → ((g : ℕ) → slot_of os' g ≡ cond (f == g) w (slot_of os g))

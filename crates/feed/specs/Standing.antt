@@ -8,7 +8,7 @@ use Rattle.kept.specs.Lists.{AreThose}
 use Rattle.version_chain.specs.Stores.{Stored, is_committed_in, version_in}
 use Rattle.kept.specs.Places.{AreLeft, moved}
 use Rattle.kept.specs.Replies.{messages_left}
-use Rattle.feed.specs.Live.{Live, sent_behind}
+use Rattle.feed.specs.Live.{Live}
 use Rattle.feed.specs.declared.poll_error.PollError.{PollError}
 use Rattle.feed.specs.declared.poll_error.PollError.TheVariants.{NoFeed, NoMemory, NotOwner}
 
@@ -60,10 +60,6 @@ IsBoth R _ _ = ⊥
 
 abbrev pub AreChanged : (Live → Live → Type 0) → Standing → Standing → Type 0
 AreChanged R s s' = (f : ℕ) → IsBoth R (live_in s f) (live_in s' f)
-
--- every feed that lives is served from the store
-abbrev pub IsSentBehind : Live → Live → Type 0
-IsSentBehind l l' = l' ≡ sent_behind l
 
 -- f told the first of its ring, and the resolved message where it is due; its place is behind them
 pub record IsPolled (s s' : Standing) (f closed max : ℕ) (live : Live) (ms : List Message) : Type 0 where

@@ -1,11 +1,11 @@
 //! All live feeds.
-ghost use Rattle.std.specs.Prelude.{true, ◌≡◌, ◌<◌, ℕ, None, Some, is_some, option_map, suc, IfErr, IfOk, OnOk, OnErr, IfSome};
+ghost use Rattle.std.specs.Prelude.{true, ◌≡◌, ◌<◌, ℕ, None, Some, is_some, option_map, suc, IfErr, IfOk, OnOk, OnErr};
 ghost use Rattle.std.specs.BTreeSet.{contains};
 ghost use Rattle.std.specs.Map.{keys_of};
 ghost use Rattle.kept.specs.Places.{IsLeastFloor, place_floor};
 ghost use Rattle.kept.specs.Reports.{AreLive};
 ghost use Rattle.feed.specs.Live.{IsOffered, begins_behind, cut_at_max, opened_at};
-ghost use Rattle.feed.specs.Standing.{opened_in, live_in, place_in, seat_in, behind_in, IsPut, AreChanged, IsSentBehind, IsPolledBy, IsUnpolled, IsCountOf};
+ghost use Rattle.feed.specs.Standing.{opened_in, live_in, place_in, seat_in, behind_in, IsPut, AreChanged, IsPolledBy, IsUnpolled, IsCountOf};
 ghost use Rattle.feed.specs.Room.{IsFeedCount};
 ghost use Rattle.feed.specs.Slots.{IsSourced, slot_of, source_of};
 ghost use Rattle.feed.specs.Ties.{IsFloorMoved, pair_cmp};
@@ -13,10 +13,11 @@ ghost use Rattle.feed.specs.declared.slots.Slot.{Slot};
 
 use crate::live::LiveFeed;
 use crate::live::telling::Told;
+use crate::offered::Offered;
 use crate::poll_error::PollError;
 use crate::report::feed_reports;
 use crate::room::count_left;
-use crate::rounds::{offer_each, send_each_behind};
+use crate::rounds::offer_each;
 use crate::slots::ServedFrom;
 use crate::span_order::SpanOrder;
 use indexmap::IndexMap;
@@ -27,8 +28,6 @@ use spans::span::Span;
 use std::alloc::{AllocError, Global};
 use std::collections::BTreeSet;
 use std::marker::Model;
-use std::sync::Arc;
-use timestamps::row::Row;
 use timestamps::ts::MAX;
 use version_chain::Store;
 
@@ -108,7 +107,7 @@ impl Feeds {
     }
 
     /// Opens a feed at its cursor and answers its number. One that begins below closed begins behind, and so does an
-    /// initial one. A cursor above the greatest timestamp counts as that. Where memory is wanting, nothing is opened.
+    /// initial one. A cursor above the greatest timestamp counts as that. Where it is out of memory, nothing is opened.
     pub fn open(
         &mut self,
         seat: u8,
@@ -142,27 +141,23 @@ impl Feeds {
         Ok(feed)
     }
 
-    /// Offers a row to every feed. Each that isn't behind and wants it takes it into its ring, or falls behind.
-    pub fn offer(&mut self, row: &Row)
+    /// Offers a committed version to every feed, as a row. Each that isn't behind and wants it takes it into its ring, or
+    /// falls behind. Nothing is copied where no ring is to have it.
+    pub fn offer(&mut self, row: &Offered<'_>)
         ensures offered { AreChanged (IsOffered row.now) self.old self.new }
         ensures opened { opened_in self.new ≡ opened_in self.old }
     {
         self.order.tidy();
-        let shared = share(self.alloc, &self.order, row);
+        let Some(_) = self.order.next_holding(row.key, 0) else {
+            return;
+        };
+        let shared = row.share(self.alloc);
         offer_each(&mut self.live, &mut self.order, row, &shared);
-    }
-
-    /// Sends every feed behind. It takes no memory.
-    pub fn mark_behind(&mut self)
-        ensures behind { AreChanged IsSentBehind self.old self.new }
-        ensures opened { opened_in self.new ≡ opened_in self.old }
-    {
-        send_each_behind(&mut self.live, &mut self.order);
     }
 
     /// The next messages of a feed for the seat that opened it, at most `max`: from its ring, or from the store where it
     /// is behind. A feed for which the store then has no row left is served from its ring again. A `closed` above the
-    /// greatest timestamp counts as that. Where memory is wanting, nothing is told.
+    /// greatest timestamp counts as that. Where it is out of memory, nothing is told.
     pub fn poll(
         &mut self,
         store: &Store,
@@ -298,7 +293,7 @@ fn relist(order: &mut SpanOrder, feed: u64, was_behind: bool, behind: bool)
     order.set(feed, source_of(behind));
 }
 
-/// Where a feed is served from that is behind or isn't.
+/// The source of a feed's next row, where it is behind or isn't.
 fn source_of(behind: bool) -> ServedFrom
     ensures { result ≡ source_of behind }
 {
@@ -306,18 +301,4 @@ fn source_of(behind: bool) -> ServedFrom
         return ServedFrom::Store;
     }
     ServedFrom::Ring
-}
-
-/// A copy of the row for all rings. There is none where no ring is to have it, or where memory is wanting.
-fn share(alloc: Global, order: &SpanOrder, row: &Row) -> Option<Arc<Row>>
-    ensures { IfSome result (λ a. a.value ≡ row.now) }
-{
-    order.next_holding(&row.key, 0)?;
-    let Ok(row) = row.copy() else {
-        return None;
-    };
-    match Arc::new(alloc, row) {
-        Ok(shared) => Some(shared),
-        Err(_) => None,
-    }
 }

@@ -199,7 +199,7 @@ fn higher(slots: &IndexMap<u64, Slot>, one: usize, other: usize) -> usize
     other
 }
 
-/// Whether a lower bound lets in what another does; else that lets in what it does.
+/// Whether `one` is at or below `other` as a lower bound, where none is below all.
 fn is_low(one: &Option<Bound>, other: &Option<Bound>) -> bool
     ensures yes { result ≡ true → (x : List ℕ) → from_low other.now x ≡ true → from_low one.now x ≡ true }
     ensures no { result ≡ false → (x : List ℕ) → from_low one.now x ≡ true → from_low other.now x ≡ true }
@@ -216,7 +216,7 @@ fn is_low(one: &Option<Bound>, other: &Option<Bound>) -> bool
     }
 }
 
-/// Whether an upper bound lets in what another does; else that lets in what it does.
+/// Whether `one` is at or above `other` as an upper bound, where none is above all.
 fn is_high(one: &Option<Bound>, other: &Option<Bound>) -> bool
     ensures yes { result ≡ true → (x : List ℕ) → below_high other.now x ≡ true → below_high one.now x ≡ true }
     ensures no { result ≡ false → (x : List ℕ) → below_high one.now x ≡ true → below_high other.now x ≡ true }

@@ -27,7 +27,6 @@
 //! - `open`, `cancel`, `least_floor`: O(log f), the first two taken over many
 //! - `offer`: O(log f), a copy of the row, and each feed whose span holds the key, but for those behind
 //! - `poll`: O(log f) and the messages told, and for a feed that is behind the searches of the store that `catch_up` makes
-//! - `mark_behind`: O(f log f)
 //! - `report`: O(f log f) and the bytes of its answer
 //!
 //! An offer also looks at each slot that was added, or whose feed fell behind or came back, since the order was last
@@ -41,6 +40,7 @@
 mod feeds;
 mod hulls;
 mod live;
+mod offered;
 mod place;
 mod poll_error;
 mod report;
@@ -50,4 +50,5 @@ mod slots;
 mod span_order;
 
 pub use feeds::Feeds;
+pub use offered::Offered;
 pub use poll_error::PollError;

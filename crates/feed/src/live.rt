@@ -14,6 +14,7 @@ ghost use Rattle.feed.specs.Live.{wants, IsOffered, with_row, sent_behind, opene
 mod report;
 pub(crate) mod telling;
 
+use crate::offered::Offered;
 use crate::place::{Arrival, RowName};
 use catch_up::{next_rows, next_snapshot};
 use circular_buffer::HeapCircularBuffer;
@@ -123,15 +124,15 @@ impl LiveFeed {
     }
 
     /// Whether the row goes into its ring.
-    fn wants(&self, row: &Row) -> bool
+    fn wants(&self, row: &Offered<'_>) -> bool
         ensures { result ≡ wants self.now row.now }
     {
-        !self.behind && self.after < row.ts.get() && self.span.contains(&row.key)
+        !self.behind && self.after < row.ts.get() && self.span.contains(row.key)
     }
 
     /// Takes the row into its ring, if it wants it, or falls behind: where that is full, or where there was no
     /// memory to share the row.
-    pub(crate) fn offer(&mut self, row: &Row, shared: Option<&Arc<Row>>)
+    pub(crate) fn offer(&mut self, row: &Offered<'_>, shared: Option<&Arc<Row>>)
         requires { IfSome shared (λ a. a.now.value ≡ row.now) }
         ensures { IsOffered row.now self.old self.new }
     {

@@ -12,7 +12,7 @@ use timestamps::key::Key;
 use timestamps::row::Row;
 use timestamps::ts::Ts;
 
-/// Which row was told: its key and timestamp, and not what it says.
+/// The row that was told: its key and timestamp, and not what it says.
 #[derive(Drop)]
 pub(crate) struct RowName {
     pub(crate) ts: Ts,

@@ -1,13 +1,13 @@
-//! Rounds of feeds: a row is offered to each feed that may want it, or all feeds are sent behind.
+//! A round of feeds: a row is offered to each feed that may want it.
 ghost use Rattle.std.specs.Prelude.{◌≡◌, None, Some, IfSome, false, nat_eq};
 ghost use Rattle.std.specs.Map.{keys_of};
 ghost use Rattle.indexmap.specs.IndexMap.{get};
 ghost use Rattle.feed.specs.Live.{Live, IsOffered};
-ghost use Rattle.feed.specs.Standing.{IsSentBehind};
 ghost use Rattle.feed.specs.Slots.{AreListed};
 ghost use Rattle.feed.specs.Changes.{AreEach, IsChangedTo, IsStep};
 
 use crate::live::LiveFeed;
+use crate::offered::Offered;
 use crate::slots::ServedFrom;
 use crate::span_order::SpanOrder;
 use indexmap::IndexMap;
@@ -18,7 +18,7 @@ use timestamps::row::Row;
 pub(crate) fn offer_each(
     live: &mut IndexMap<u64, LiveFeed>,
     order: &mut SpanOrder,
-    row: &Row,
+    row: &Offered<'_>,
     shared: &Option<Arc<Row>>,
 )
     requires row { IfSome shared.now (λ a. a.value ≡ row.now) }
@@ -28,7 +28,7 @@ pub(crate) fn offer_each(
     ensures places { keys_of order.new ≡ keys_of order.old }
 {
     let mut from = 0;
-    while let Some((place, feed)) = order.next_holding(&row.key, from) {
+    while let Some((place, feed)) = order.next_holding(row.key, from) {
         offer_to(live, order, feed, row, shared);
         from = place + 1;
     }
@@ -39,7 +39,7 @@ fn offer_to(
     live: &mut IndexMap<u64, LiveFeed>,
     order: &mut SpanOrder,
     feed: u64,
-    row: &Row,
+    row: &Offered<'_>,
     shared: &Option<Arc<Row>>,
 )
     requires row { IfSome shared.now (λ a. a.value ≡ row.now) }
@@ -58,7 +58,7 @@ fn offer_to(
 fn offer_at(
     live: &mut IndexMap<u64, LiveFeed>,
     feed: u64,
-    row: &Row,
+    row: &Offered<'_>,
     shared: &Option<Arc<Row>>,
 ) -> bool
     requires row { IfSome shared.now (λ a. a.value ≡ row.now) }
@@ -70,44 +70,4 @@ fn offer_at(
     };
     live.offer(row, shared.as_ref());
     live.is_behind()
-}
-
-/// Sends all feeds behind.
-pub(crate) fn send_each_behind(live: &mut IndexMap<u64, LiveFeed>, order: &mut SpanOrder)
-    requires listed { AreListed live.old.entries order.old }
-    ensures behind { AreEach IsSentBehind live.old.entries live.new.entries }
-    ensures listed { AreListed live.new.entries order.new }
-    ensures places { keys_of order.new ≡ keys_of order.old }
-{
-    for i in 0..order.len() {
-        let Some(feed) = order.feed_at(i) else {
-            return;
-        };
-        send_behind(live, order, feed);
-    }
-}
-
-/// Sends a feed behind, and lists it anew.
-fn send_behind(live: &mut IndexMap<u64, LiveFeed>, order: &mut SpanOrder, feed: u64)
-    requires listed { AreListed live.old.entries order.old }
-    ensures behind { IsStep IsSentBehind live.old.entries live.new.entries feed }
-    ensures listed { AreListed live.new.entries order.new }
-    ensures places { keys_of order.new ≡ keys_of order.old }
-{
-    if !send_behind_at(live, feed) {
-        return;
-    }
-    order.set(feed, ServedFrom::Store);
-}
-
-/// Sends a feed behind, and answers whether it is there.
-fn send_behind_at(live: &mut IndexMap<u64, LiveFeed>, feed: u64) -> bool
-    ensures behind { (l : Live) → get nat_eq live.old feed ≡ Some l → IsChangedTo IsSentBehind live.old.entries live.new.entries feed l result }
-    ensures none { get nat_eq live.old feed ≡ None → (live.new.entries ≡ live.old.entries) × (result ≡ false) }
-{
-    let Some(live) = live.get_mut(&feed) else {
-        return false;
-    };
-    live.send_behind();
-    true
 }

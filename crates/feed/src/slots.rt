@@ -5,7 +5,7 @@ ghost use Rattle.feed.specs.declared.slots.ServedFrom.TheVariants.{Ended};
 use spans::span::Span;
 use std::cmp::Ordering;
 
-/// Where a feed is served from.
+/// The source that a feed is served from.
 #[derive(Drop)]
 pub(crate) enum ServedFrom {
     Ring,

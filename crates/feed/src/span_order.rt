@@ -1,17 +1,15 @@
-//! The spans of all feeds in an order, in which a row finds those that hold its key.
+//! An interval index of the feeds' spans, in which a row finds those that hold its key.
 //!
-//! Each feed has a slot from its opening on: its span, and where it is served from. A slot that turns, since its feed
-//! falls behind, comes back to its ring or is cancelled, stays at its place; a new one comes last. Both may cost an
-//! offer a look in vain. So the slots that have come or turned are counted, and once offers may have looked in vain
-//! as often as there are slots, the order is made anew: by lower bound, without those of cancelled feeds, and with
-//! hulls for as many slots again.
-ghost use Rattle.std.specs.Prelude.{◌≡◌, ◌<◌, ℕ, None, Some, [], if◌then◌else◌, MatchOption, OnOk, OnErr, IfSome, nat_eq, slice_get, length};
-ghost use Rattle.std.specs.Map.{keys_of, lookup, set_value};
+//! Each feed has a slot from its opening on: its span, and where it is served from. Opening a feed, falling behind,
+//! coming back to the ring and cancelling leave stale slots: a new one stands last, a changed one at its place. Each
+//! offer may look at all stale slots in vain. Once looks in vain may be as many as there are slots, the index is made
+//! anew: by lower bound, without the slots of cancelled feeds, and with hulls for as many slots again.
+ghost use Rattle.std.specs.Prelude.{◌≡◌, ◌<◌, ℕ, None, Some, [], if◌then◌else◌, MatchOption, OnOk, OnErr, IfSome, nat_eq, slice_get};
+ghost use Rattle.std.specs.Map.{keys_of, set_value};
 ghost use Rattle.std.specs.List.{IsDistinct};
 ghost use Rattle.feed.specs.declared.slots.Slot.{Slot};
-ghost use Rattle.feed.specs.declared.slots.ServedFrom.TheVariants.{Ended};
 ghost use Rattle.feed.specs.Slots.{HasEnded, IsKept, IsNext, IsSlotPut, IsSourced, holds_at, slot_of, sourced};
-ghost use Rattle.feed.specs.Hulls.{AreHulls, IsNoneFrom, IsFirstFrom};
+ghost use Rattle.feed.specs.Hulls.{IsNoneFrom, IsFirstFrom};
 
 use crate::hulls::{Hull, build, first_from, first_in, is_holding, widen};
 use crate::slots::{ServedFrom, Slot, by_low, has_ended};
@@ -27,7 +25,7 @@ pub(crate) struct SpanOrder {
     alloc: Global,
     slots: IndexMap<u64, Slot>,
     hulls: Vec<Option<Hull>>,
-    /// How many slots have come or turned since the order was made.
+    /// How many slots are stale since the index was made.
     astray: usize,
     /// How many slots offers may have looked at in vain since then.
     in_vain: usize,
@@ -58,15 +56,8 @@ impl SpanOrder {
         }
     }
 
-    /// How many slots there are.
-    pub(crate) fn len(&self) -> usize
-        ensures { result ≡ length self.now }
-    {
-        self.slots.len()
-    }
-
     /// The number at a place.
-    pub(crate) fn feed_at(&self, place: usize) -> Option<u64>
+    fn feed_at(&self, place: usize) -> Option<u64>
         ensures unique { IsDistinct nat_eq (keys_of self.now) }
         ensures number { result ≡ slice_get (keys_of self.now) place }
     {
@@ -121,6 +112,7 @@ impl SpanOrder {
         ensures unique { IsDistinct nat_eq (keys_of self.now) }
         ensures next { MatchOption result (IsNoneFrom (holds_at self.now) key.now from) (λ next. IsNext self.now key.now from next.0 next.1) }
     {
+        // for the proof: the slots have numbers that differ
         let _ = &self.slots;
         let place = self.place_holding(key, from)?;
         let feed = self.feed_at(place)?;

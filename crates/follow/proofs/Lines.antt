@@ -261,7 +261,7 @@ refused_as replica_faults.OutsideSpan told is = (consumer.OutsideSpan, refl, is)
 refused_as replica_faults.ResolvedBack told is = (consumer.ResolvedBack, refl, is)
 refused_as replica_faults.NoMemory told is = absurd cc
 
--- of the faults that a replica tells, the want of memory is one
+-- of the faults that a replica tells, out of memory is one
 pub is_memory : (fault : Fault) → error_of_replica fault ≡ errors.NoMemory → fault ≡ replica_faults.NoMemory
 is_memory replica_faults.NotAfter is = absurd cc
 is_memory replica_faults.OutsideSpan is = absurd cc

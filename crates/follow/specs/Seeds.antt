@@ -11,7 +11,7 @@ use Rattle.script.specs.declared.fault.TranscriptError.{TranscriptError}
 use Rattle.script.specs.declared.fault.TranscriptError.TheVariants as read_errors
 use Rattle.script.specs.Transcripts.{Fault, HasHeader, Transcript, WantsAny, left_of, outcome, transcript_at}
 use Rattle.follow.specs.declared.seed.Seed.{Seed}
-use Rattle.follow.specs.declared.seed.Scan.{Scan}
+use Rattle.follow.specs.declared.seed.SeedScan.{SeedScan}
 use Rattle.follow.specs.declared.seed.SeedError.{SeedError}
 use Rattle.follow.specs.declared.seed.SeedError.TheVariants as errors
 
@@ -40,7 +40,7 @@ last_scan before (e ∷ events) = last_scan (option_or (scan_in e) before) event
 abbrev pub seed_parts : Seed → Found
 seed_parts s = (s.span, s.cursor, s.rows.items)
 
-abbrev pub scan_parts : Scan → Found
+abbrev pub scan_parts : SeedScan → Found
 scan_parts s = (s.span, s.cursor, s.rows)
 
 -- the events were read, and this is what their last scan found
@@ -61,7 +61,7 @@ IsUnseeded text errors.NoMemory =
     ⊎ ((found : Found) × IsLastOf (transcript_at (format_of text) text) (Some found))
 
 -- the same of what is left of a transcript
-abbrev pub IsLastScan : Transcript → Scan → Type 0
+abbrev pub IsLastScan : Transcript → SeedScan → Type 0
 IsLastScan left s = IsLastOf (outcome left) (Some (scan_parts s))
 
 abbrev pub IsUnscanned : Transcript → SeedError → Type 0

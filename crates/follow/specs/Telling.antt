@@ -12,13 +12,13 @@ use Rattle.sessions.specs.Devices.{Writes}
 use Rattle.sessions.specs.Writing.{pending_of}
 use Rattle.follow.specs.declared.ending.FollowEnd.{FollowEnd}
 use Rattle.follow.specs.declared.options.Shown.TheVariants as shown
-use Rattle.follow.specs.declared.report.Report.{Report}
+use Rattle.follow.specs.declared.report.ReportText.{ReportText}
 use Rattle.follow.specs.declared.telling.Telling.{Telling}
 use Rattle.follow.specs.Reports.{IsToldAt, shown_lines, named_with, unless_told}
 use Rattle.follow.specs.Told.{HasTold, IsCut}
 
 -- the bytes that wait to be written
-abbrev pub waits_in : Report → List ℕ
+abbrev pub waits_in : ReportText → List ℕ
 waits_in r = pending_of r.kept
 
 abbrev pub waits : Telling → List ℕ

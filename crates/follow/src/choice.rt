@@ -5,7 +5,7 @@ ghost use Rattle.follow.specs.Chosen.{begins_message, polled_in, is_feed, is_tak
 use json_lines::numbers::number_of;
 use word_lines::words::words_of;
 
-/// Which messages are taken: all, or those that the polls of one feed told.
+/// The messages that are taken: all, or those that the polls of one feed told.
 #[derive(Clone, Copy, PartialEq, Eq)]
 pub(crate) struct Choice {
     feed: Option<u64>,

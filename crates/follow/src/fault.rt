@@ -8,7 +8,7 @@ use replica::Fault;
 use std::alloc::AllocError;
 use word_lines::fault::LineFault;
 
-/// What is wrong with a line, or with its message after those before it.
+/// A fault of a line, or of its message after those before it.
 #[derive(Clone, Copy, Debug, PartialEq, Eq)]
 pub enum FollowFault {
     /// The line is no JSON.

@@ -25,7 +25,7 @@ use std::alloc::Global;
 /// ends the output with its fault; what was told before it stands. The output is written in large blocks, at
 /// the end, and before each read, since a read may wait.
 ///
-/// It ends for want of memory only before it reads, for a line that is one to take or at fault, for what it tells of the
+/// It ends out of memory only before it reads, for a line that is one to take or at fault, for what it tells of the
 /// latest message, or where no further line can be counted. Then what it told before stands.
 ///
 /// `IsFollowed` in `specs/Ends.antt` says how each end comes, from the bytes read to the bytes written, and

@@ -22,7 +22,7 @@ use std::alloc::Global;
 use text_format::Format;
 use word_lines::words::text_of;
 
-/// What follows a feed, with what it has read, and told, and not yet written.
+/// A follower of a feed, with what it has read, and told, and not yet written.
 #[derive(Drop)]
 pub(crate) struct Follower {
     alloc: Global,

@@ -5,16 +5,16 @@ use text_format::Format;
 use timestamps::key::Key;
 use timestamps::value::Value;
 
-/// What is followed, and what is told of it.
+/// The feed that is followed, and how much is told of it.
 #[derive(Debug, Drop, PartialEq, Eq)]
 pub struct FollowOptions {
     /// The span of the feed.
     pub span: Span,
-    /// What the rows are at first.
+    /// The rows at first.
     pub start: Start,
     /// The feed whose polls' messages are taken, or none where each message is.
     pub feed: Option<u64>,
-    /// What is told of the rows.
+    /// How much is told of the rows.
     pub shown: Shown,
     /// Whether completeness is told between resolved messages too.
     pub complete: bool,
@@ -22,7 +22,7 @@ pub struct FollowOptions {
     pub format: Format,
 }
 
-/// What is told of the rows when they are complete.
+/// How much is told of the rows when they are complete.
 #[derive(Clone, Copy, Debug, PartialEq, Eq)]
 pub enum Shown {
     /// How many there are.

@@ -14,21 +14,21 @@ use word_lines::events::write_spent;
 
 /// The lines that wait to be written.
 #[derive(Drop)]
-pub(crate) struct Report {
+pub(crate) struct ReportText {
     pub(crate) kept: Output,
     /// Room for one line, which is kept once it is whole.
     line: Vec<u8>,
 }
 
-impl Report {
+impl ReportText {
     ghost use Rattle.sessions.specs.Writing.{pending_of, HasWritten};
 
     /// Nothing is told.
-    pub(crate) fn new(alloc: Global) -> Result<Report, AllocError>
+    pub(crate) fn new(alloc: Global) -> Result<ReportText, AllocError>
         ensures { IfOk result (λ report. pending_of report.kept ≡ []) }
     {
         let kept = Output::new(alloc)?;
-        Ok(Report {
+        Ok(ReportText {
             kept,
             line: Vec::new(alloc),
         })

@@ -19,7 +19,7 @@ use timestamps::key::Key;
 use timestamps::value::Value;
 use word_lines::fault::LineFault;
 
-/// What a scan found in a span, at a timestamp.
+/// The rows that a scan found in a span, at a timestamp.
 #[derive(Debug, Drop, PartialEq, Eq)]
 pub struct Seed {
     pub span: Span,
@@ -40,7 +40,7 @@ pub enum SeedError {
 
 /// A scan that was answered.
 #[derive(Drop)]
-struct Scan {
+struct SeedScan {
     span: Span,
     cursor: u64,
     rows: Rows,
@@ -69,7 +69,7 @@ pub fn seed_of(alloc: Global, text: &[u8]) -> Result<Seed, SeedError>
 }
 
 /// The last scan of the events that are left.
-fn last_scan(alloc: Global, events: &mut Events) -> Result<Scan, SeedError>
+fn last_scan(alloc: Global, events: &mut Events) -> Result<SeedScan, SeedError>
     ensures found { IfOk result (IsLastScan events.old) }
     ensures refused { IfErr result (IsUnscanned events.old) }
 {
@@ -87,7 +87,7 @@ fn last_scan(alloc: Global, events: &mut Events) -> Result<Scan, SeedError>
 }
 
 /// The scan of an event, if it is one.
-fn scan_of(event: Event) -> Option<Scan>
+fn scan_of(event: Event) -> Option<SeedScan>
     ensures { option_map scan_parts result ≡ scan_in event }
 {
     let Cmd::ScanAt { t, .. } = event.cmd else {
@@ -95,7 +95,7 @@ fn scan_of(event: Event) -> Option<Scan>
     };
     let (cmd, reply) = event.into_parts();
     match (cmd.into_span(), reply.into_rows()) {
-        (Some(span), Some(rows)) => Some(Scan {
+        (Some(span), Some(rows)) => Some(SeedScan {
             span,
             cursor: t,
             rows,
@@ -105,7 +105,7 @@ fn scan_of(event: Event) -> Option<Scan>
 }
 
 /// The latter of two scans, where it is one.
-fn later(before: Option<Scan>, scan: Option<Scan>) -> Option<Scan>
+fn later(before: Option<SeedScan>, scan: Option<SeedScan>) -> Option<SeedScan>
     ensures { result ≡ option_or scan before }
 {
     match scan {

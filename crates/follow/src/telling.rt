@@ -24,7 +24,7 @@ ghost use Rattle.follow.specs.declared.options.Shown.TheVariants.{Changes};
 use crate::ending::FollowEnd;
 use crate::fault::FollowFault;
 use crate::options::Shown;
-use crate::report::Report;
+use crate::report::ReportText;
 use replica::{KeysAndValues, Replica};
 use sessions::{Sink, WriteFailed};
 use spans::calls::Message;
@@ -33,7 +33,7 @@ use std::collections::BTreeSet;
 use timestamps::key::Key;
 use timestamps::value::Value;
 
-/// What waits to be told, and what is to be told next.
+/// The text that waits to be told, and what is to be told next.
 #[derive(Drop)]
 pub(crate) struct Telling {
     alloc: Global,
@@ -42,7 +42,7 @@ pub(crate) struct Telling {
     complete: bool,
     /// The keys that rows named since rows were told last, where changes are shown.
     changed: BTreeSet<Key>,
-    pub(crate) report: Report,
+    pub(crate) report: ReportText,
 }
 
 impl Telling {
@@ -54,7 +54,7 @@ impl Telling {
         ensures choice { IfOk result (λ telling. (telling.shown ≡ shown) × (telling.complete ≡ complete)) }
         ensures silent { IfOk result (λ telling. (waits telling ≡ []) × (named_in telling ≡ [])) }
     {
-        let report = Report::new(alloc)?;
+        let report = ReportText::new(alloc)?;
         Ok(Telling {
             alloc,
             shown,
@@ -174,7 +174,7 @@ impl Telling {
 }
 
 /// Writes what waits, where that is a block or more.
-fn full<K: Sink>(report: &mut Report, output: &mut K) -> Result<(), FollowEnd>
+fn full<K: Sink>(report: &mut ReportText, output: &mut K) -> Result<(), FollowEnd>
     ensures ok { OnOk result (HasTold (K.writes output.old) (K.writes output.new) (pending_of report.old.kept) (pending_of report.new.kept) []) }
     ensures err { IfErr result (λ end. IsCut end (K.writes output.old) (K.writes output.new) (pending_of report.old.kept) (pending_of report.new.kept) []) }
 {
@@ -184,7 +184,7 @@ fn full<K: Sink>(report: &mut Report, output: &mut K) -> Result<(), FollowEnd>
 
 /// Tells the rows, and writes each block of them that is full.
 fn tell_rows<K: Sink>(
-    report: &mut Report,
+    report: &mut ReportText,
     rows: KeysAndValues<'_>,
     output: &mut K,
 ) -> Result<(), FollowEnd>
@@ -200,7 +200,7 @@ fn tell_rows<K: Sink>(
 
 /// Tells of each key its value or that it has none, and writes each block that is full.
 fn tell_changes<K: Sink>(
-    report: &mut Report,
+    report: &mut ReportText,
     changed: &BTreeSet<Key>,
     replica: &Replica,
     output: &mut K,
@@ -218,7 +218,7 @@ fn tell_changes<K: Sink>(
 }
 
 /// Tells what a key has.
-fn tell_change(report: &mut Report, key: &Key, value: Option<&Value>) -> Result<(), AllocError>
+fn tell_change(report: &mut ReportText, key: &Key, value: Option<&Value>) -> Result<(), AllocError>
     ensures ok { OnOk result (pending_of report.new.kept ≡ pending_of report.old.kept ++ change_line key.now (option_copied value.entry)) }
     ensures err { OnErr result (pending_of report.new.kept ≡ pending_of report.old.kept) }
 {

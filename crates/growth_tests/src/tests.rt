@@ -1,17 +1,30 @@
-//! Scripts, a race, a feed and a dump in which a growth may be refused.
+//! Scripts, a race, a feed and dumps in which a growth may be refused. The script `refused-growths` says of each test
+//! how many it refused, so its name says where these came.
 
+mod chains;
+mod crowds;
 mod dumping;
 mod following;
+mod growths;
+mod made;
+mod marks;
+mod orders;
 mod playing;
+mod prepared;
 mod racing;
 mod scripts;
 
-use dumping::dump_twice;
+use chains::{block_that_is_full, list_that_is_full, reads_over_blocks};
+use dumping::{dump_history, dump_twice};
 use following::follow_twice;
+use marks::{lone_keys_in_a_scan, marks_that_are_swept};
+use orders::feeds_of_many_spans;
 use playing::play_twice;
+use prepared::Story;
 use racing::race_twice;
+use std::alloc::Global;
 
-// Memory is wanting once at most.
+// It runs out of memory once at most.
 #[test]
 fn refused_growths_change_nothing(rt: HostRuntime) {
     for case in scripts::TRANSCRIPTS.split("@ ").skip(1) {
@@ -39,4 +52,52 @@ fn refused_growths_end_a_follower_at_most(rt: HostRuntime) {
 fn refused_growths_end_a_dump_at_most(rt: HostRuntime) {
     let wanting = dump_twice(rt.alloc());
     assert!(rt; matches!(wanting, Some(0 | 1)));
+}
+
+// A dump of many versions and keys, likewise.
+#[test]
+fn refused_growths_end_a_dump_of_a_history_at_most(rt: HostRuntime) {
+    let wanting = dump_history(rt.alloc());
+    assert!(rt; matches!(wanting, Some(0 | 1)));
+}
+
+#[test]
+fn refused_growths_in_the_put_that_turns_a_list_into_blocks(rt: HostRuntime) {
+    let wanting = played(rt.alloc(), list_that_is_full(rt.alloc()));
+    assert!(rt; matches!(wanting, Some(0 | 1)));
+}
+
+#[test]
+fn refused_growths_in_the_put_that_halves_a_block(rt: HostRuntime) {
+    let wanting = played(rt.alloc(), block_that_is_full(rt.alloc()));
+    assert!(rt; matches!(wanting, Some(0 | 1)));
+}
+
+#[test]
+fn refused_growths_in_reads_over_blocks(rt: HostRuntime) {
+    let wanting = played(rt.alloc(), reads_over_blocks(rt.alloc()));
+    assert!(rt; matches!(wanting, Some(0 | 1)));
+}
+
+#[test]
+fn refused_growths_in_a_scan_over_lone_keys(rt: HostRuntime) {
+    let wanting = played(rt.alloc(), lone_keys_in_a_scan(rt.alloc()));
+    assert!(rt; matches!(wanting, Some(0 | 1)));
+}
+
+#[test]
+fn refused_growths_in_gets_that_sweep_the_marks(rt: HostRuntime) {
+    let wanting = played(rt.alloc(), marks_that_are_swept(rt.alloc()));
+    assert!(rt; matches!(wanting, Some(0 | 1)));
+}
+
+#[test]
+fn refused_growths_where_the_order_of_spans_is_made_anew(rt: HostRuntime) {
+    let wanting = played(rt.alloc(), feeds_of_many_spans(rt.alloc()));
+    assert!(rt; matches!(wanting, Some(0 | 1)));
+}
+
+/// Plays a story. How often memory was wanting, unless a reply is another.
+fn played(alloc: Global, story: Option<Story>) -> Option<u64> {
+    story?.play(alloc)
 }

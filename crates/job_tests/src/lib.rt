@@ -8,6 +8,7 @@
 //! cases                            runs, checks and races: faulty lines, limits, verdicts, devices that fail
 //! command_lines                    what words ask for, and the status and sentence of each end
 //! doing                            what the jobs of command lines write, their statuses, hints, usage lines
+//! hints                            what a faulty line should have been
 //! dumps                            the dump of a transcript's database
 //! states                           the state after a transcript, and texts without one
 //! formats                          texts of format two, beside texts of format one

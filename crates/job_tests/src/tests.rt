@@ -11,6 +11,7 @@ mod failing_once;
 mod feeds;
 mod followed;
 mod formats;
+mod hints;
 mod histories;
 mod in_time;
 mod long;
@@ -93,7 +94,7 @@ fn devices_fail_after_any_byte(rt: HostRuntime) -> Result<(), Fail> {
     Ok(())
 }
 
-/// What stands in the transcripts of a few thousand commands of all kinds.
+/// The commands and answers in the transcripts of a few thousand commands of all kinds.
 const ANSWERS: &str =
     " => started, => value, => none, => rows, => written, => committed, => aborted, => closed, => protected, => released, => collected, => opened, => messages, => cancelled, => stats, => toolate, => blocked, => belowclosed, => belowhorizon, => gaprange, => notowner,{\"resolved\",{\"after\":null";
 

@@ -1,6 +1,6 @@
 -- An answer that can't be written whole.
-use Rattle.std.proofs.Common.{◌≡◌, ℕ, List, ◌++◌, true, Err, refl, arith, inl, inr}
-use Rattle.sessions.specs.Devices.{Reads, Writes}
+use Rattle.std.proofs.Common.{◌≡◌, ℕ, List, ◌++◌, Err, refl, arith, inl, inr}
+use Rattle.sessions.specs.Devices.{Reads, Writes, EndsOnce}
 use Rattle.sessions.specs.Writing.{IsWrittenWhole}
 use Rattle.sessions.specs.declared.ending.ServeEnd.{ServeEnd}
 use Rattle.sessions.specs.declared.ending.ServeEnd.TheVariants as run
@@ -9,7 +9,7 @@ use Rattle.jobs.specs.Answers.{IsAnswered, HasBegunAnswer}
 use Rattle.jobs.specs.Ends.{end_of_run}
 
 pub unwritten : (answers : List ℕ → End → List ℕ → Type 0) (r r' : Reads) (w w' : Writes) (text : List ℕ) (e : End) (out : List ℕ) (failed : ServeEnd)
-    → r'.given ≡ r.given ++ text → r'.ended ≡ true → r'.failures ≡ r.failures → answers text e out → IsWrittenWhole out w w' (Err failed) → IsAnswered answers r r' w w' (end_of_run failed)
+    → r'.given ≡ r.given ++ text → EndsOnce r r' → r'.failures ≡ r.failures → answers text e out → IsWrittenWhole out w w' (Err failed) → IsAnswered answers r r' w w' (end_of_run failed)
 unwritten answers r r' w w' text e out run.Output read whole reads right h =
     let begun : HasBegunAnswer answers r r' w w' = record { text = text; read = read; whole = whole; end = e; out = out; right = right; begun = h.0 } in
     record { answered = inr (inr (inl (refl, begun))); failed = (omega (arith, reads), omega (arith, reads), h.1) }

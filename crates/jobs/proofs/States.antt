@@ -1,5 +1,5 @@
 -- How a state is told: by the report of what a checker has taken, or as a check says that there is none.
-use Rattle.std.proofs.Common.{◌≡◌, ℕ, List, refl, arith}
+use Rattle.std.proofs.Common.{◌≡◌, ℕ, List, false, refl, arith}
 use Rattle.spans.specs.declared.report.Report.{Report}
 use Rattle.trace_check.specs.declared.checker.Checker.{Checker}
 use Rattle.trace_check.specs.Checkers.{Reports}
@@ -7,20 +7,22 @@ use Rattle.report_lines.specs.Lines.{report_text}
 use Rattle.jobs.specs.declared.ending.End.{End}
 use Rattle.jobs.specs.declared.ending.End.TheVariants as ends
 use Rattle.jobs.specs.declared.state.Detail.{Detail}
-use Rattle.jobs.specs.Judging.{HasTakenText, IsRefusal}
+use Rattle.jobs.specs.Judging.{HasTakenText}
+use Rattle.jobs.specs.Verdicts.{IsVerdict, is_right}
 use Rattle.jobs.specs.States.{is_whole, IsState}
 
 -- what is said of a text that isn't a trace's is said in the place of its state
-pub refused_state : (detail : Detail) (text : List ℕ) (end : End) (out : List ℕ) → IsRefusal text end out → IsState detail text end out
-refused_state detail text ends.Done out refusal = absurd (refusal.0 refl)
-refused_state detail text (ends.Faulty line fault) out refusal = refusal.1
-refused_state detail text (ends.No position) out refusal = refusal.1
-refused_state detail text ends.Spent out refusal = refusal.1
-refused_state detail text (ends.Open reason) out refusal = refusal.1
-refused_state detail text ends.Input out refusal = refusal.1
-refused_state detail text ends.Output out refusal = refusal.1
-refused_state detail text ends.Memory out refusal = refusal.1
-refused_state detail text ends.Thread out refusal = refusal.1
+pub refused_state : (detail : Detail) (text : List ℕ) (end : End) (out : List ℕ) → IsVerdict text end out → is_right end ≡ false → IsState detail text end out
+refused_state detail text ends.Done out said wrong = absurd said
+refused_state detail text (ends.Right count) out said wrong = cc
+refused_state detail text (ends.Faulty line fault) out said wrong = said
+refused_state detail text (ends.No position) out said wrong = said
+refused_state detail text ends.Spent out said wrong = said
+refused_state detail text (ends.Open reason) out said wrong = said
+refused_state detail text ends.Input out said wrong = said
+refused_state detail text ends.Output out said wrong = said
+refused_state detail text ends.Memory out said wrong = said
+refused_state detail text ends.Thread out said wrong = said
 
 -- the report of a checker that has taken all events of a text is the text's state
 pub reported_state : (detail : Detail) (text : List ℕ) (checker : Checker) (r : Report) (out : List ℕ) → HasTakenText text checker → Reports checker (is_whole detail) r

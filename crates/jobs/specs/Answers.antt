@@ -1,6 +1,6 @@
 -- A job that reads everything, answers, and writes its answer.
-use Rattle.std.specs.Prelude.{◌≡◌, ℕ, ◌⊎◌, true, List, ◌++◌}
-use Rattle.sessions.specs.Devices.{Reads, Writes}
+use Rattle.std.specs.Prelude.{◌≡◌, ℕ, ◌⊎◌, List, ◌++◌}
+use Rattle.sessions.specs.Devices.{Reads, Writes, EndsOnce}
 use Rattle.sessions.specs.Writing.{HasBegun}
 use Rattle.jobs.specs.declared.ending.End.{End}
 use Rattle.jobs.specs.declared.ending.End.TheVariants as ends
@@ -10,7 +10,7 @@ use Rattle.jobs.specs.Ends.{FailsAt}
 pub record HasAnswered (answers : List ℕ → End → List ℕ → Type 0) (r r' : Reads) (w w' : Writes) (e : End) : Type 0 where
   pub text : List ℕ
   pub read : r'.given ≡ r.given ++ text
-  pub whole : r'.ended ≡ true
+  pub whole : EndsOnce r r'
   pub out : List ℕ
   pub right : answers text e out
   pub wrote : w'.taken ≡ w.taken ++ out
@@ -19,7 +19,7 @@ pub record HasAnswered (answers : List ℕ → End → List ℕ → Type 0) (r r
 pub record HasBegunAnswer (answers : List ℕ → End → List ℕ → Type 0) (r r' : Reads) (w w' : Writes) : Type 0 where
   pub text : List ℕ
   pub read : r'.given ≡ r.given ++ text
-  pub whole : r'.ended ≡ true
+  pub whole : EndsOnce r r'
   pub end : End
   pub out : List ℕ
   pub right : answers text end out

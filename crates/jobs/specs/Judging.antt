@@ -1,18 +1,15 @@
 -- What a checker says of a transcript, event by event and at its end.
-use Rattle.std.specs.Prelude.{◌≡◌, ◌≢◌, ◌<◌, ℕ, Bool, List, ◌∷◌, length, true, false, Result, Ok}
+use Rattle.std.specs.Prelude.{◌≡◌, ◌<◌, ℕ, Bool, List, ◌∷◌, length, true, false, Result, Ok}
 use Rattle.text_format.specs.Limits.{format_of}
 use Rattle.spans.specs.declared.calls.events.Event.{Event}
 use Rattle.script.specs.Transcripts.{Fault, Transcript, nothing_left, transcript_at}
 use Rattle.trace_check.specs.Traces.{IsFirstWrong}
-use Rattle.trace_check.specs.declared.Verdict.{Verdict}
-use Rattle.trace_check.specs.declared.Verdict.TheVariants as verdict
 use Rattle.trace_check.specs.declared.checker.Checker.{Checker}
 use Rattle.trace_check.specs.Checkers.{StandsFor, JudgesNext, TakesNext}
-use Rattle.jobs.specs.declared.ending.End.{End}
-use Rattle.jobs.specs.declared.ending.End.TheVariants as ends
+use Rattle.jobs.specs.declared.verdicts.Judged.{Judged}
+use Rattle.jobs.specs.declared.verdicts.Judged.TheVariants as judged
 use Rattle.jobs.specs.declared.verdicts.Next.{Next}
 use Rattle.jobs.specs.declared.verdicts.Next.TheVariants as next
-use Rattle.jobs.specs.Verdicts.{IsVerdict}
 
 -- the event stands in front of what is left behind it
 abbrev pub IsAhead : Event → Transcript → Transcript → Type 0
@@ -31,15 +28,11 @@ pub record HasTakenAll (read : Result (List Event) Fault) (checker : Checker) : 
   pub stands : StandsFor checker events
   pub few : length events < 18446744073709551615
 
--- what is said of a transcript that could be read: that the checker has taken all of its events, or where they first go wrong
-abbrev pub IsJudged : Result (List Event) Fault → Checker → Verdict → Type 0
-IsJudged read checker verdict.Yes = HasTakenAll read checker
-IsJudged read checker (verdict.No position) = (events : List Event) × (read ≡ Ok events) × IsFirstWrong events position
+-- what is said of a transcript that could be read: that the checker has taken all of its events, so many, or where they first go wrong
+abbrev pub IsJudged : Result (List Event) Fault → Checker → Judged → Type 0
+IsJudged read checker (judged.Right count) = (all : HasTakenAll read checker) × (count ≡ length all.events)
+IsJudged read checker (judged.Wrong position) = (events : List Event) × (read ≡ Ok events) × IsFirstWrong events position
 
 -- the checker has taken all events of a text
 abbrev pub HasTakenText : List ℕ → Checker → Type 0
 HasTakenText text checker = HasTakenAll (transcript_at (format_of text) text) checker
-
--- what is said of a text that isn't that of a trace
-abbrev pub IsRefusal : List ℕ → End → List ℕ → Type 0
-IsRefusal text end out = (end ≢ ends.Done) × IsVerdict text end out

@@ -13,8 +13,8 @@ use Rattle.races.specs.Calls.{IsRaceOf}
 use Rattle.races.specs.declared.racing.RaceError.TheVariants as race_errors
 use Rattle.races.specs.declared.settling.FreshError.{FreshError}
 use Rattle.races.specs.declared.settling.FreshError.TheVariants as errors
-use Rattle.jobs.specs.declared.answer.Answer.{Answer}
-use Rattle.jobs.specs.declared.answer.Answer.TheVariants as answer
+use Rattle.jobs.specs.declared.answer.RaceAnswer.{RaceAnswer}
+use Rattle.jobs.specs.declared.answer.RaceAnswer.TheVariants as answer
 use Rattle.jobs.specs.declared.ending.End.{End}
 use Rattle.jobs.specs.declared.ending.End.TheVariants as ends
 use Rattle.jobs.specs.declared.race.RaceOptions.{RaceOptions}
@@ -55,11 +55,11 @@ end_of_refusal (errors.Race race_errors.Thread) = ends.Thread
 end_of_refusal (errors.Race _) = ends.Memory
 
 -- how a race ends whose answer is written whole
-abbrev pub end_of_answer : Answer → End
+abbrev pub end_of_answer : RaceAnswer → End
 end_of_answer (answer.Fault line fault text) = ends.Faulty line fault
 end_of_answer (answer.Events events) = ends.Done
 
 -- the text of an answer
-abbrev pub text_of_answer : Format → Answer → List ℕ
+abbrev pub text_of_answer : Format → RaceAnswer → List ℕ
 text_of_answer format (answer.Fault line fault text) = text.items
 text_of_answer format (answer.Events events) = transcript_text format events.items

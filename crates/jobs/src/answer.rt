@@ -10,9 +10,9 @@ use std::alloc::Global;
 use text_format::Format;
 use word_lines::fault::LineFault;
 
-/// What a race answers.
+/// A race's answer.
 #[derive(Drop)]
-pub(crate) enum Answer {
+pub(crate) enum RaceAnswer {
     /// The format's header, and the line that tells the script's first fault.
     Fault {
         line: u64,
@@ -23,17 +23,17 @@ pub(crate) enum Answer {
     Events(Vec<Event>),
 }
 
-impl Answer {
+impl RaceAnswer {
     /// How the race ends once the answer is written.
     pub(crate) fn end(&self) -> End
         ensures { result ≡ end_of_answer self.now }
     {
         match self {
-            Answer::Fault { line, fault, .. } => End::Faulty {
+            RaceAnswer::Fault { line, fault, .. } => End::Faulty {
                 line: *line,
                 fault: *fault,
             },
-            Answer::Events(_) => End::Done,
+            RaceAnswer::Events(_) => End::Done,
         }
     }
 
@@ -47,8 +47,13 @@ impl Answer {
         ensures { IsWrittenWhole (text_of_answer format self.now) (K.writes output.old) (K.writes output.new) result }
     {
         match self {
-            Answer::Fault { text, .. } => Ok(write_whole(output, text.as_slice())?),
-            Answer::Events(events) => write_transcript(alloc, output, format, events.as_slice()),
+            RaceAnswer::Fault { text, .. } => Ok(write_whole(output, text.as_slice())?),
+            RaceAnswer::Events(events) => write_transcript(
+                alloc,
+                output,
+                format,
+                events.as_slice(),
+            ),
         }
     }
 }

@@ -8,7 +8,7 @@ ghost use Rattle.jobs.specs.Dumps.{IsDumped, dump_text};
 ghost use Rattle.jobs.specs.Ends.{end_of};
 
 use crate::ending::End;
-use crate::verdicts::refusal;
+use crate::verdicts::verdict_by;
 use dump_lines::{write_close, write_end, write_row};
 use plain_database::dump::Dump;
 use sessions::{Sink, Source, read_whole, write_whole};
@@ -61,8 +61,9 @@ pub fn dump_of_text(
     ensures { IfOk result (λ answer. IsDumped (unwrap_or at 0) text.now answer.0 answer.1.items) }
 {
     let mut checker = Checker::new(alloc);
-    if let Some(refused) = refusal(alloc, text, &mut checker)? {
-        return Ok(refused);
+    let (end, verdict) = verdict_by(alloc, text, &mut checker)?;
+    if !end.is_right() {
+        return Ok((end, verdict));
     }
     let dump = checker.dump(number_of(at))?;
     let mut answer = Vec::new(alloc);

@@ -1,6 +1,7 @@
 //! How a job of the program ends.
 ghost use Rattle.std.specs.Prelude.{◌≡◌};
 ghost use Rattle.jobs.specs.Ends.{end_of_run};
+ghost use Rattle.jobs.specs.Verdicts.{is_right};
 ghost use Rattle.jobs.specs.declared.ending.End.TheVariants as ends;
 
 use sessions::{OpenError, ServeEnd, WriteFailed};
@@ -10,11 +11,13 @@ use word_lines::fault::LineFault;
 /// Why the program came to its end.
 #[derive(Clone, Copy, Debug, PartialEq, Eq)]
 pub enum End {
-    /// All of the input was taken, and all of the output written; what was checked is right.
+    /// All of the input was taken, and all of the output written.
     Done,
+    /// What was checked is right: a transcript of so many events.
+    Right { events: u64 },
     /// A line of a script or of a transcript is faulty. The output says so too, as its last line.
     Faulty { line: u64, fault: LineFault },
-    /// What was checked is not right. The output says at which event.
+    /// The list that was checked is not right. The output says at which event.
     No { position: u64 },
     /// No position is left for another call. The output says at which line, as its last line.
     Spent,
@@ -28,6 +31,15 @@ pub enum End {
     Memory,
     /// A thread could not be started. Nothing was written.
     Thread,
+}
+
+impl End {
+    /// Whether it is that of a check that found all right.
+    pub(crate) fn is_right(&self) -> bool
+        ensures { result ≡ is_right self.now }
+    {
+        matches!(self, End::Right { .. })
+    }
 }
 
 impl From<ServeEnd> for End {

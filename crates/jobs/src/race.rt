@@ -8,7 +8,7 @@ ghost use Rattle.jobs.specs.Answers.{IsAnswered};
 ghost use Rattle.jobs.specs.Ends.{end_of};
 ghost use Rattle.jobs.specs.Races.{IsRace, IsUnraced, end_of_answer, text_of_answer, end_of_refusal};
 
-use crate::answer::Answer;
+use crate::answer::RaceAnswer;
 use crate::ending::End;
 use races::{FreshError, Gate, RaceError, race_calls};
 use script::fault::TranscriptError;
@@ -67,26 +67,26 @@ fn raced<S: Source, K: Sink, R: Threads + Wait + Sync, G: Gate + Sync>(
     Ok(answer.end())
 }
 
-/// What a race answers to a script: its first fault, or the history of its calls.
+/// A race's answer to a script: its first fault, or the history of its calls.
 fn answer_to<R: Threads + Wait + Sync, G: Gate + Sync>(
     rt: &R,
     alloc: Global,
     options: RaceOptions,
     gate: &G,
     text: &[u8],
-) -> Result<Answer, End>
+) -> Result<RaceAnswer, End>
     ensures ok { IfOk result (λ answer. IsRace options text.now (end_of_answer answer) (text_of_answer options.format answer)) }
     ensures err { IfErr result (IsUnraced options) }
 {
     match read_script(alloc, text, options.sessions, options.format) {
         Ok(calls) => match race_calls(rt, alloc, options.sessions, options.ring, calls, gate) {
-            Ok(events) => Ok(Answer::Events(events)),
+            Ok(events) => Ok(RaceAnswer::Events(events)),
             Err(refused) => Err(end_of(refused)),
         },
         Err(TranscriptError::NoMemory) => Err(End::Memory),
         Err(TranscriptError::Fault { line, fault }) => {
             let text = fault_text(alloc, options.format, line, fault)?;
-            Ok(Answer::Fault { line, fault, text })
+            Ok(RaceAnswer::Fault { line, fault, text })
         }
     }
 }

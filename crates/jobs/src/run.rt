@@ -8,7 +8,7 @@ use std::alloc::Global;
 use std::sync::Wait;
 use text_format::Format;
 
-/// What a database is opened with where the command line doesn't say.
+/// The options of a database where the command line names none.
 pub const DEFAULTS: Config = Config {
     seats: MAX_SEATS as u32,
     ring: 1024,

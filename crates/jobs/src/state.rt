@@ -5,7 +5,7 @@ ghost use Rattle.jobs.specs.Ends.{end_of};
 ghost use Rattle.jobs.specs.States.{IsState, is_whole};
 
 use crate::ending::End;
-use crate::verdicts::refusal;
+use crate::verdicts::verdict_by;
 use report_lines::write_report;
 use sessions::{Sink, Source, read_whole, write_whole};
 use std::alloc::{AllocError, Global};
@@ -69,8 +69,9 @@ pub fn state_text(alloc: Global, detail: Detail, text: &[u8]) -> Result<(End, Ve
     ensures { IfOk result (λ answer. IsState detail text.now answer.0 answer.1.items) }
 {
     let mut checker = Checker::new(alloc);
-    if let Some(refused) = refusal(alloc, text, &mut checker)? {
-        return Ok(refused);
+    let (end, verdict) = verdict_by(alloc, text, &mut checker)?;
+    if !end.is_right() {
+        return Ok((end, verdict));
     }
     let report = checker.report(detail.is_whole())?;
     let mut answer = Vec::new(alloc);

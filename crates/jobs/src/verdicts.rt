@@ -1,10 +1,10 @@
 //! What is said of a transcript, apart from where it comes from and where the answer goes.
-ghost use Rattle.std.specs.Prelude.{◌≡◌, ◌<◌, ◌++◌, [], length, IfOk, IfSome, OnOk, MatchResult, None, decimal, codes};
+ghost use Rattle.std.specs.Prelude.{◌≡◌, ◌<◌, ◌++◌, [], length, true, IfOk, OnOk, MatchResult, None, decimal, codes};
 ghost use Rattle.text_format.specs.Limits.{format_of};
 ghost use Rattle.script.specs.Transcripts.{Fails, IsFaulty, outcome, transcript_at};
 ghost use Rattle.trace_check.specs.Checkers.{StandsFor};
-ghost use Rattle.jobs.specs.Verdicts.{IsVerdict};
-ghost use Rattle.jobs.specs.Judging.{IsJudged, IsNext, IsRefusal, HasTakenText};
+ghost use Rattle.jobs.specs.Verdicts.{IsVerdict, is_right};
+ghost use Rattle.jobs.specs.Judging.{IsJudged, IsNext, HasTakenText};
 
 use crate::ending::End;
 use json_lines::numbers::put_number;
@@ -12,7 +12,6 @@ use script::events::Events;
 use script::fault::TranscriptError;
 use std::alloc::{AllocError, Global};
 use text_format::Format;
-use trace_check::Verdict;
 use trace_check::checker::Checker;
 use word_lines::events::write_fault;
 
@@ -23,44 +22,49 @@ use word_lines::events::write_fault;
 pub fn verdict(alloc: Global, text: &[u8]) -> Result<(End, Vec<u8>), AllocError>
     ensures { IfOk result (λ answer. IsVerdict text.now answer.0 answer.1.items) }
 {
-    let mut checker = Checker::new(alloc);
-    if let Some(refused) = refusal(alloc, text, &mut checker)? {
-        return Ok(refused);
-    }
-    let mut answer = Vec::new(alloc);
-    answer.extend_from_slice(b"yes\n")?;
-    Ok((End::Done, answer))
+    verdict_by(alloc, text, &mut Checker::new(alloc))
 }
 
-/// What is said of a text that isn't a transcript which the database could have written. Of another the checker,
-/// which has taken nothing before, has taken all events.
-pub(crate) fn refusal(
+/// The same by a checker that has taken nothing before, and then all events where the text is right.
+pub(crate) fn verdict_by(
     alloc: Global,
     text: &[u8],
     checker: &mut Checker,
-) -> Result<Option<(End, Vec<u8>)>, AllocError>
+) -> Result<(End, Vec<u8>), AllocError>
     requires fresh { StandsFor checker.old [] }
-    ensures refused { IfOk result (λ refused. IfSome refused (λ answer. IsRefusal text.now answer.0 answer.1.items)) }
-    ensures taken { IfOk result (λ refused. refused ≡ None → HasTakenText text.now checker.new) }
+    ensures verdict { IfOk result (λ answer. IsVerdict text.now answer.0 answer.1.items) }
+    ensures taken { IfOk result (λ answer. is_right answer.0 ≡ true → HasTakenText text.now checker.new) }
 {
     let mut answer = Vec::new(alloc);
-    match judge(alloc, text, checker) {
-        Err(TranscriptError::NoMemory) => Err(AllocError),
+    let end = match judge(alloc, text, checker) {
+        Err(TranscriptError::NoMemory) => return Err(AllocError),
         Err(TranscriptError::Fault { line, fault }) => {
             write_fault(&mut answer, line, fault)?;
-            Ok(Some((End::Faulty { line, fault }, answer)))
+            End::Faulty { line, fault }
         }
-        Ok(Verdict::No { position }) => {
+        Ok(Judged::Wrong { position }) => {
             put_no(&mut answer, position)?;
-            Ok(Some((End::No { position }, answer)))
+            End::No { position }
         }
-        Ok(Verdict::Yes) => Ok(None),
-    }
+        Ok(Judged::Right { events }) => {
+            answer.extend_from_slice(b"yes\n")?;
+            End::Right { events }
+        }
+    };
+    Ok((end, answer))
+}
+
+/// What a checker says of a transcript.
+enum Judged {
+    /// All events were taken: so many.
+    Right { events: u64 },
+    /// The event at this position is the first that isn't right.
+    Wrong { position: u64 },
 }
 
 /// Has a checker that has taken nothing judge the events of a transcript, in the format that it is in. A fault
 /// anywhere in it is told before a wrong event.
-fn judge(alloc: Global, text: &[u8], checker: &mut Checker) -> Result<Verdict, TranscriptError>
+fn judge(alloc: Global, text: &[u8], checker: &mut Checker) -> Result<Judged, TranscriptError>
     requires fresh { StandsFor checker.old [] }
     ensures { MatchResult result (IsJudged (transcript_at (format_of text.now) text.now) checker.new) (λ e. Fails e (transcript_at (format_of text.now) text.now)) }
 {
@@ -75,24 +79,25 @@ fn judge_all(
     alloc: Global,
     events: &mut Events,
     checker: &mut Checker,
-) -> Result<Verdict, TranscriptError>
+) -> Result<Judged, TranscriptError>
     requires few { length events.old.events < 18446744073709551615 }
     requires fresh { StandsFor checker.old [] }
     ensures { MatchResult result (IsJudged (outcome events.old) checker.new) (λ e. Fails e (outcome events.old)) }
 {
+    let mut taken = 0u64;
     loop {
         match judge_next(alloc, events, checker)? {
-            Next::Right => {}
+            Next::Right => taken += 1,
             Next::Wrong { position } => {
                 read_out(alloc, events)?;
-                return Ok(Verdict::No { position });
+                return Ok(Judged::Wrong { position });
             }
-            Next::End => return Ok(Verdict::Yes),
+            Next::End => return Ok(Judged::Right { events: taken }),
         }
     }
 }
 
-/// What a checker says of the next event.
+/// A checker's word on the next event.
 enum Next {
     /// It was taken.
     Right,

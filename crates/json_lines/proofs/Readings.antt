@@ -35,7 +35,7 @@ pub read_found : (format : Format) (line : List ℕ) (t : Texts) (r : Result Mes
 read_found format line t (Ok m) e lawful same = (written_found line t e ∙ ap texts_line same ∙ sym (line_of_texts m), lawful)
 read_found format line t (Err f) e lawful same = tt
 
--- a message's line isn't refused but for want of memory
+-- a message's line is refused only out of memory
 pub read_whole : (format : Format) (line : List ℕ) (t : Texts) (r : Result Message MessageFault) → texts_written line ≡ Ok t → Gives (λ m. m) r (message_of format t)
     → IfErr r (λ e. (m : Message) → IsMessage format m → line ≡ message_line m → e ≡ fault.NoMemory)
 read_whole format line t (Ok x) e gives = tt

@@ -1,7 +1,7 @@
 //! Why a line is no message.
 use thiserror::Error;
 
-/// The first test that a line doesn't pass, or want of memory.
+/// The first test that a line doesn't pass, or out of memory.
 #[derive(Clone, Copy, Debug, PartialEq, Eq, Error)]
 pub enum MessageFault {
     /// The line is no JSON.

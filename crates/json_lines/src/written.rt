@@ -87,7 +87,7 @@ fn last_text(bytes: &[u8]) -> Result<&[u8], MessageFault>
     }
 }
 
-/// What stands behind a front.
+/// The bytes behind a front.
 fn behind<'a>(front: &[u8], bytes: &'a [u8]) -> Result<&'a [u8], MessageFault>
     ensures { Reads (λ t. t.now) result (behind front.now bytes.now) }
 {
@@ -97,7 +97,7 @@ fn behind<'a>(front: &[u8], bytes: &'a [u8]) -> Result<&'a [u8], MessageFault>
     }
 }
 
-/// What stands before the first quote, and what behind it.
+/// The bytes before the first quote, and those behind it.
 fn quoted(bytes: &[u8]) -> Result<(&[u8], &[u8]), MessageFault>
     ensures { Reads (λ p. (p.0.now, p.1.now)) result (quoted bytes.now) }
 {
@@ -107,7 +107,7 @@ fn quoted(bytes: &[u8]) -> Result<(&[u8], &[u8]), MessageFault>
     }
 }
 
-/// Where the first quote stands.
+/// The first quote's place.
 fn quote_at(bytes: &[u8]) -> Option<usize>
     ensures place { result ≡ position is_quote bytes.now }
     ensures within { IfSome result (λ at. at < length bytes.now) }

@@ -10,15 +10,14 @@ use Rattle.spans.specs.declared.state.State.{State}
 use Rattle.spans.specs.declared.state.State.TheVariants as states
 use Rattle.spans.specs.Reads.{too_late}
 use Rattle.spans.specs.Transactions.{is_undecided, decided_through, closed_of, is_aborted, is_committed, owner_of, begun_of, least_of, undecided_timestamps}
-use Rattle.spans.specs.Versions.{committed_version_of, version_of, write_of, write_set}
+use Rattle.spans.specs.Versions.{committed_version_of, version_of, write_of}
 use Rattle.spans.proofs.Copies.{closed_grows, Allowed, AllAllowed}
 use Rattle.spans.proofs.Open.{begun_among, open_above, least_below}
 use Rattle.spans.proofs.Steps.{by_test}
-use Rattle.spans.proofs.WriteSets.{has, has_written}
 use Rattle.spans.proofs.Dead.{committed_is}
 use Rattle.spans.proofs.Horizon.{least_low}
 use Rattle.kept.specs.Marks.{IsForgotten}
-use Rattle.kept.specs.Table.{has_ended, is_open, keys_of, reach, IsOldest}
+use Rattle.kept.specs.Table.{has_ended, is_open, reach, IsOldest}
 use Rattle.kept.proofs.Dead.{committed_stands}
 use Rattle.kept.proofs.Marking.{marks_aborted}
 use Rattle.kept.proofs.Staying.{to_kept, kept_stays, marks_of}
@@ -93,35 +92,14 @@ after_closes k p all fits n allowed m' τ' ms ts = record {
   opened = fits.opened;
 }
 
--- an undecided transaction has no version of a key that is not in its write set
-open_keyed : (k : Kept) (p : List Effect) → IsKeptOf k p → (y : List ℕ) (i : ℕ) → is_open (k.transaction i) ≡ true → has y (keys_of (k.transaction i)) ≡ false → k.version y i ≡ None
-open_keyed k p fits y i open' out = fits.versions y i ∙ none_at (is_dead p (version_name y i)) (is_aborted p i) (write_of p i y) unwritten
-  where
-    of_open : (b : Bool) (o : Option ℕ) → is_open (cond b (option_map (transaction_with p i) o) None) ≡ true → keys_of (cond b (option_map (transaction_with p i) o) None) ≡ write_set p i
-    of_open true None e = cc
-    of_open true (Some seat) e = refl
-    of_open false o e = cc
-
-    keys : keys_of (k.transaction i) ≡ write_set p i
-    keys = ap keys_of (fits.transactions i) ∙ of_open (nat_lt (closed_of p) i) (owner_of p i) (sym (ap is_open (fits.transactions i)) ∙ open')
-
-    unwritten : is_some (write_of p i y) ≡ false
-    unwritten = sym (has_written p i y) ∙ ap (has y) (sym keys) ∙ out
-
-    none_at : (d b : Bool) (o : Option After) → is_some o ≡ false → cond d None (cond b None o) ≡ None
-    none_at d b (Some a) e = cc
-    none_at true b None e = refl
-    none_at false true None e = refl
-    none_at false false None e = refl
-
 -- after a hard closing
 pub after_hard_closes : (k : Kept) (p : List Effect) → AllAllowed p → IsKeptOf k p → (to n : ℕ) → Allowed p (HardCloses to n)
     → (v' : List ℕ → ℕ → Option After) (m' : List ℕ → ℕ → Bool) (τ' : ℕ → Option Transaction)
-    → ((y : List ℕ) (i : ℕ) → v' y i ≡ cond ((nat_le i to && is_open (k.transaction i)) && has y (keys_of (k.transaction i))) None (k.version y i))
+    → ((y : List ℕ) (i : ℕ) → v' y i ≡ cond (nat_le i to && is_open (k.transaction i)) None (k.version y i))
     → ((y : List ℕ) → IsForgotten (k.marked y) (m' y) n)
     → ((i : ℕ) → τ' i ≡ cond (nat_lt n i) (k.transaction i) None)
     → IsKeptOf (record k { closed = n; version = v'; marked = m'; transaction = τ' }) (HardCloses to n ∷ p)
-after_hard_closes k p all fits to n allowed v' m' τ' noted ms ts = record {
+after_hard_closes k p all fits to n allowed v' m' τ' vs ms ts = record {
   closed_at = refl;
   horizon_at = fits.horizon_at;
   versions = kept_now;
@@ -145,17 +123,7 @@ after_hard_closes k p all fits to n allowed v' m' τ' noted ms ts = record {
 }
   where
     with_state : ℕ → State → ℕ → Transaction
-    with_state i s seat = record { seat = seat; state = s; keys = write_set p i }
-
-    all_go : (b c h : Bool) (o : Option After) → (c ≡ true → h ≡ false → o ≡ None) → cond ((b && c) && h) None o ≡ cond (b && c) None o
-    all_go true true true o none = refl
-    all_go true true false o none = none refl refl
-    all_go true false h o none = refl
-    all_go false c h o none = refl
-
-    -- all versions of the undecided transactions go
-    vs : (y : List ℕ) (i : ℕ) → v' y i ≡ cond (nat_le i to && is_open (k.transaction i)) None (k.version y i)
-    vs y i = noted y i ∙ all_go (nat_le i to) (is_open (k.transaction i)) (has y (keys_of (k.transaction i))) (k.version y i) (open_keyed k p fits y i)
+    with_state i s seat = record { seat = seat; state = s }
 
     cut : ℕ → Bool
     cut i = nat_le i to && (is_some (owner_of p i) && not (is_committed p i))

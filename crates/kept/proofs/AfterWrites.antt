@@ -2,32 +2,29 @@
 use Rattle.std.proofs.Common.{Bool, List, refl, None, Option, arith, false, subst, ap, true, Some, sym, cond, ◌≡◌, ◌<◌, ◌==◌, ◌&&◌, ◌||◌, ◌∷◌, ◌∙◌, ℕ}
 use Rattle.std.proofs.lemmas.Bool.{both_ways, and_parts, eqb-true}
 use Rattle.std.proofs.lemmas.Bool.Decides.{nat_tests}
-use Rattle.std.specs.Prelude.{nat_lt, bytes_eq, option_map, is_some, ◌↔◌}
+use Rattle.std.specs.Prelude.{nat_lt, bytes_eq, option_map, ◌↔◌}
 use Rattle.spans.specs.Collection.{version_name, is_dead}
 use Rattle.spans.specs.Effects.{Writes, After, Aborts, Effect, Commits}
 use Rattle.spans.specs.Kept.{state_of, transaction_with, Transaction, Kept, IsKeptOf, kept_version, IsCrossed}
 use Rattle.spans.specs.declared.state.State.{State}
 use Rattle.spans.specs.declared.state.State.TheVariants as states
-use Rattle.spans.specs.Keys.{insert_key}
 use Rattle.spans.specs.Reads.{too_late}
 use Rattle.spans.specs.Transactions.{closed_of, is_aborted, is_committed, owner_of}
-use Rattle.spans.specs.Versions.{committed_version_of, version_of, write_of, write_set}
+use Rattle.spans.specs.Versions.{committed_version_of, version_of, write_of}
 use Rattle.spans.proofs.Copies.{Allowed, AllAllowed}
-use Rattle.spans.proofs.Steps.{version_wrote, same_key, by_test}
-use Rattle.spans.proofs.WriteSets.{has, has_written}
+use Rattle.spans.proofs.Steps.{same_key, by_test}
 use Rattle.spans.proofs.Dead.{committed_is}
-use Rattle.kept.proofs.Dead.{kept_is, committed_stands}
+use Rattle.kept.proofs.Dead.{committed_stands}
 use Rattle.kept.proofs.Marking.{marks_aborted, marks_written, crossed_like}
 use Rattle.kept.proofs.Staying.{to_kept, kept_stays, marks_of}
 
 -- after a write
 pub after_writes : (k : Kept) (p : List Effect) → AllAllowed p → IsKeptOf k p → (t : ℕ) (x : List ℕ) (a : After) → Allowed p (Writes t x a)
-    → (v' : List ℕ → ℕ → Option After) (d' : List ℕ → ℕ → Bool) (τ' : ℕ → Option Transaction)
+    → (v' : List ℕ → ℕ → Option After) (d' : List ℕ → ℕ → Bool)
     → ((y : List ℕ) (i : ℕ) → v' y i ≡ cond ((t == i) && bytes_eq x y) (Some a) (k.version y i))
     → ((y : List ℕ) (i : ℕ) → d' y i ≡ cond ((t == i) && bytes_eq x y) false (k.committed y i))
-    → ((i : ℕ) → τ' i ≡ cond (t == i) (option_map (λ (n : Transaction). record n { keys = insert_key x n.keys }) (k.transaction i)) (k.transaction i))
-    → IsKeptOf (record k { version = v'; committed = d'; transaction = τ' }) (Writes t x a ∷ p)
-after_writes k p all fits t x a allowed v' d' τ' vs ds ts = record {
+    → IsKeptOf (record k { version = v'; committed = d' }) (Writes t x a ∷ p)
+after_writes k p all fits t x a allowed v' d' vs ds = record {
   closed_at = fits.closed_at;
   horizon_at = fits.horizon_at;
   versions = kept_now;
@@ -36,23 +33,13 @@ after_writes k p all fits t x a allowed v' d' τ' vs ds ts = record {
       (λ other. rw other (fits.committed y i b (let e : v' y i ≡ k.version y i = vs y i ∙ (rw other refl) in sym e ∙ is)));
   marks = λ y i above fresh. to_now y i above (marks_written' y i above (sym (still y i) ∙ fresh));
   forgotten = fits.forgotten;
-  transactions = λ i. ts i ∙ by_test (t == i)
-      (λ same. rw (same, fits.transactions i) (let e : (t == i) ≡ true = same in by_owner i e (nat_lt (closed_of p) i) (owner_of p i)))
-      (λ other. rw (other, fits.transactions i) (ap (λ ks. cond (nat_lt (closed_of p) i) (option_map (with_keys i ks) (owner_of p i)) None) (let e : write_set (Writes t x a ∷ p) i ≡ write_set p i = rw other refl in sym e)));
+  transactions = fits.transactions;
   protected = fits.protected;
   made = fits.made;
   feeds = fits.feeds;
   opened = fits.opened;
 }
   where
-    with_keys : ℕ → List (List ℕ) → ℕ → Transaction
-    with_keys i ks seat = record { seat = seat; state = state_of p i; keys = ks }
-
-    by_owner : (i : ℕ) → (t == i) ≡ true → (b : Bool) (o : Option ℕ) → option_map (λ (n : Transaction). record n { keys = insert_key x n.keys }) (cond b (option_map (transaction_with p i) o) None) ≡ cond b (option_map (transaction_with (Writes t x a ∷ p) i) o) None
-    by_owner i e false o = refl
-    by_owner i e true None = refl
-    by_owner i e true (Some seat) = ap (λ ks. Some (with_keys i ks seat)) (let e' : write_set (Writes t x a ∷ p) i ≡ insert_key x (write_set p i) = rw e refl in sym e')
-
     still : (y : List ℕ) (i : ℕ) → committed_version_of (Writes t x a ∷ p) y i ≡ committed_version_of p y i
     still y i = by_test (t == i)
         (λ same. let e : is_committed p i ≡ false = subst (λ n. is_committed p n ≡ false) (eqb-true t i same) allowed.0.uncommitted in rw e refl)
@@ -102,17 +89,14 @@ uncommitted_before false c o e = refl
 -- after a commit
 pub after_commits : (k : Kept) (p : List Effect) → AllAllowed p → IsKeptOf k p → (t : ℕ) → Allowed p (Commits t)
     → (d' : List ℕ → ℕ → Bool) (τ' : ℕ → Option Transaction)
-    → ((y : List ℕ) (i : ℕ) → d' y i ≡ (((t == i) && has y (write_set p t)) || k.committed y i))
+    → ((y : List ℕ) (i : ℕ) → d' y i ≡ ((t == i) || k.committed y i))
     → ((i : ℕ) → τ' i ≡ cond (t == i) (option_map (λ (n : Transaction). record n { state = states.Committed }) (k.transaction i)) (k.transaction i))
     → IsKeptOf (record k { committed = d'; transaction = τ' }) (Commits t ∷ p)
 after_commits k p all fits t allowed d' τ' ds ts = record {
   closed_at = fits.closed_at;
   horizon_at = fits.horizon_at;
   versions = kept_now;
-  committed = λ y i b is. ds y i ∙ by_test (t == i)
-      (λ same. rw same (let wrote : write_of p i y ≡ Some b = (version_wrote p y i b (kept_is p y i b (sym (fits.versions y i) ∙ is))).1 in
-      let there : has y (write_set p t) ≡ true = subst (λ n. has y (write_set p n) ≡ true) (sym (eqb-true t i same)) (has_written p i y ∙ ap is_some wrote) in rw there refl))
-      (λ other. rw other (fits.committed y i b is));
+  committed = λ y i b is. ds y i ∙ ap (λ c. (t == i) || c) (fits.committed y i b is);
   marks = λ y i above fresh. fits.marks y i above (uncommitted_before (is_committed p i) (t == i) (write_of p i y) fresh);
   forgotten = fits.forgotten;
   transactions = λ i. ts i ∙ by_test (t == i)
@@ -125,7 +109,7 @@ after_commits k p all fits t allowed d' τ' ds ts = record {
 }
   where
     with_state : ℕ → State → ℕ → Transaction
-    with_state i s seat = record { seat = seat; state = s; keys = write_set p i }
+    with_state i s seat = record { seat = seat; state = s }
 
     by_owner : (i : ℕ) → (t == i) ≡ true → (b : Bool) (o : Option ℕ) → option_map (λ (n : Transaction). record n { state = states.Committed }) (cond b (option_map (transaction_with p i) o) None) ≡ cond b (option_map (transaction_with (Commits t ∷ p) i) o) None
     by_owner i e false o = refl
@@ -138,7 +122,7 @@ after_commits k p all fits t allowed d' τ' ds ts = record {
 -- after an abort
 pub after_aborts : (k : Kept) (p : List Effect) → AllAllowed p → IsKeptOf k p → (t : ℕ) → Allowed p (Aborts t)
     → (v' : List ℕ → ℕ → Option After) (τ' : ℕ → Option Transaction)
-    → ((y : List ℕ) (i : ℕ) → v' y i ≡ cond ((t == i) && has y (write_set p t)) None (k.version y i))
+    → ((y : List ℕ) (i : ℕ) → v' y i ≡ cond (t == i) None (k.version y i))
     → ((i : ℕ) → τ' i ≡ cond (t == i) (option_map (λ (n : Transaction). record n { state = states.Aborted }) (k.transaction i)) (k.transaction i))
     → IsKeptOf (record k { version = v'; transaction = τ' }) (Aborts t ∷ p)
 after_aborts k p all fits t allowed v' τ' vs ts = record {
@@ -159,7 +143,7 @@ after_aborts k p all fits t allowed v' τ' vs ts = record {
 }
   where
     with_state : ℕ → State → ℕ → Transaction
-    with_state i s seat = record { seat = seat; state = s; keys = write_set p i }
+    with_state i s seat = record { seat = seat; state = s }
 
     by_owner : (i : ℕ) → (t == i) ≡ true → (b : Bool) (o : Option ℕ) → option_map (λ (n : Transaction). record n { state = states.Aborted }) (cond b (option_map (transaction_with p i) o) None) ≡ cond b (option_map (transaction_with (Aborts t ∷ p) i) o) None
     by_owner i e false o = refl
@@ -168,7 +152,7 @@ after_aborts k p all fits t allowed v' τ' vs ts = record {
         let e' : state_of (Aborts t ∷ p) i ≡ states.Aborted = rw (open', e) refl in sym e')
 
     still : (y : List ℕ) (i : ℕ) (b : After) → v' y i ≡ Some b → k.version y i ≡ Some b
-    still y i b is = step ((t == i) && has y (write_set p t)) (k.version y i) (sym (vs y i) ∙ is)
+    still y i b is = step (t == i) (k.version y i) (sym (vs y i) ∙ is)
       where
         step : (c : Bool) (o : Option After) → cond c None o ≡ Some b → o ≡ Some b
         step true o e = cc
@@ -186,19 +170,10 @@ after_aborts k p all fits t allowed v' τ' vs ts = record {
     kept_now : (y : List ℕ) (i : ℕ) → v' y i ≡ kept_version (Aborts t ∷ p) y i
     kept_now y i = vs y i ∙ by_test (t == i)
         (λ same. let now : cond (is_dead p (version_name y i)) None (version_of (Aborts t ∷ p) y i) ≡ None = rw same (none_cond (is_dead p (version_name y i))) in
-        ap (λ b. cond (b && has y (write_set p t)) None (k.version y i)) same
-        ∙ ap (λ n. cond (has y (write_set p n)) None (k.version y i)) (eqb-true t i same) ∙ ap (λ b. cond b None (k.version y i)) (has_written p i y) ∙ ap (λ o. cond (is_some (write_of p i y)) None o) (fits.versions y i)
-        ∙ none_at (is_dead p (version_name y i)) (is_aborted p i) (write_of p i y)
-        ∙ sym (kept_stays p (Aborts t) all allowed refl y i ∙ now))
+        ap (λ b. cond b None (k.version y i)) same ∙ sym (kept_stays p (Aborts t) all allowed refl y i ∙ now))
         (λ other. let now : cond (is_dead p (version_name y i)) None (version_of (Aborts t ∷ p) y i) ≡ kept_version p y i = rw other refl in
-        ap (λ b. cond (b && has y (write_set p t)) None (k.version y i)) other ∙ fits.versions y i ∙ sym (kept_stays p (Aborts t) all allowed refl y i ∙ now))
+        ap (λ b. cond b None (k.version y i)) other ∙ fits.versions y i ∙ sym (kept_stays p (Aborts t) all allowed refl y i ∙ now))
       where
         none_cond : (b : Bool) → cond {A = Option After} b None None ≡ None
         none_cond true = refl
         none_cond false = refl
-
-        none_at : (d b : Bool) (o : Option After) → cond (is_some o) None (cond d None (cond b None o)) ≡ None
-        none_at d b (Some a) = refl
-        none_at true b None = refl
-        none_at false true None = refl
-        none_at false false None = refl

@@ -1,5 +1,5 @@
 -- What answers by what is kept stands for the history with the command.
-use Rattle.std.proofs.Common.{Bool, List, None, Option, Some, ap, cond, eq-eqb, inl, inr, refl, sym, true, ℕ, ◌≤◌, ◌∷◌, ◌≡◌, ◌∙◌}
+use Rattle.std.proofs.Common.{Bool, List, None, Option, Some, ap, cond, eq-eqb, inl, inr, refl, sym, true, ℕ, ◌∷◌, ◌≡◌, ◌∙◌}
 use Rattle.spans.specs.Answer.{answer_of, with_feed}
 use Rattle.spans.specs.Feeds.{Feed, feed_of, is_cancelled, next_messages}
 use Rattle.spans.specs.Effects.{Aborts, Begins, Cancels, Closes, Collects, Commits, Effect, HardCloses, NoEffect, Opens, Polls, Protects, Reads, Releases, Scans, SnapshotReads, SnapshotScans, Writes, effect, effect_of, effects_of, event}
@@ -12,10 +12,7 @@ use Rattle.spans.specs.declared.calls.replies.Reply.{Reply}
 use Rattle.spans.specs.declared.calls.replies.Reply.TheVariants.{Messages}
 use Rattle.spans.proofs.Histories.{wanting_does_nothing}
 use Rattle.spans.proofs.Legal.{legal_allowed}
-use Rattle.timestamps.specs.declared.ts.TheConstants.{MAX}
-use Rattle.std.specs.Prelude.{nat_lt, false, option_map, ◌==◌}
-use Rattle.std.proofs.lemmas.Bool.Decides.{nat_tests}
-use Rattle.std.proofs.Common.{arith}
+use Rattle.std.specs.Prelude.{false, option_map, ◌==◌}
 use Rattle.kept.specs.StandsFor.{StandsFor}
 use Rattle.kept.proofs.Replying.{abort_answer, begin_answer, cancel_answer, close_answer, close_hard_answer, collect_answer, commit_answer, del_answer, get_answer, open_answer, open_every_answer, open_initial_every_answer, open_initial_answer, poll_answer, protect_answer, put_answer, read_at_answer, release_answer, scan_answer, scan_at_answer, stats_answer}
 use Rattle.kept.proofs.Standing.{abort_stands, alike_stands, begin_stands, cancel_stands, close_stands, collect_stands, commit_stands, hard_close_stands, no_effect_stands, open_stands, poll_stands, protect_stands, read_stands, release_stands, scan_stands, snapshot_read_stands, snapshot_scan_stands, write_stands}
@@ -28,7 +25,7 @@ reply_is_answer k h seat (Get t x) r s is = is ∙ get_answer k (effects_of h) (
 reply_is_answer k h seat (Scan t span) r s is = is.2 ∙ scan_answer k (effects_of h) (legal_allowed h s.legal) s.fits seat t span is.0 is.1
 reply_is_answer k h seat (Put t x v) r s is = is.2 ∙ put_answer k (effects_of h) s.fits seat t x v is.0 is.1
 reply_is_answer k h seat (Del t x) r s is = is.2 ∙ del_answer k (effects_of h) s.fits seat t x is.0 is.1
-reply_is_answer k h seat (Commit t) r s is = is ∙ commit_answer k (effects_of h) s.fits seat t
+reply_is_answer k h seat (Commit t) r s is = is.2 ∙ commit_answer k (effects_of h) s.fits seat t is.0 is.1
 reply_is_answer k h seat (Abort t) r s is = is ∙ abort_answer k (effects_of h) s.fits seat t
 reply_is_answer k h seat (Close to) r s is = is.2 ∙ close_answer k (effects_of h) (legal_allowed h s.legal) s.fits seat to is.0 is.1
 reply_is_answer k h seat (CloseHard to) r s is = is.2 ∙ close_hard_answer k (effects_of h) (legal_allowed h s.legal) s.fits seat to is.0 is.1
@@ -65,10 +62,6 @@ changed_stands k k' h e (Polls f max ms) s right is c = poll_stands k k' h e f m
 changed_stands k k' h e (Cancels f) s right is c = cancel_stands k k' h e f s right is c
 changed_stands k k' h e NoEffect s right is c = alike_stands k k' (e ∷ h) (no_effect_stands k h e s right is) c
 
--- a collection in range is accepted
-pub collect_accepted : (p : List Effect) (seat to : ℕ) → to ≤ MAX → is_accepted (answer_of p seat (Collect to)) ≡ true
-collect_accepted p seat to low = let high : nat_lt MAX to ≡ false = grind (arith, nat_tests) in rw high refl
-
 -- a poll of a feed that lives is accepted from its seat
 pub poll_accepted : (k : Kept) (p : List Effect) → IsKeptOf k p → (seat f max : ℕ) (place : Place) → k.feed f ≡ Some place → place.seat ≡ seat → is_accepted (answer_of p seat (Poll f max)) ≡ true
 poll_accepted k p fits seat f max place lives owner = by_feed (is_cancelled p f) refl (feed_of p f) refl
@@ -87,7 +80,6 @@ poll_accepted k p fits seat f max place lives owner = by_feed (is_cancelled p f)
 
 -- a command that wouldn't be refused has an answer that is no refusal
 pub accepting_is : (k : Kept) (h : List Event) (seat : ℕ) (cmd : Cmd) → StandsFor k h → IsAccepting k seat cmd → is_accepted (answer_of (effects_of h) seat cmd) ≡ true
-accepting_is k h seat (Collect to) s low = collect_accepted (effects_of h) seat to low
 accepting_is k h seat (Poll f max) s is = poll_accepted k (effects_of h) s.fits seat f max is.0 is.1 is.2
 accepting_is k h seat (cmd) s is = ap is_accepted (sym (reply_is_answer k h seat cmd is.0 s is.1)) ∙ is.2
 

@@ -13,7 +13,7 @@ use Rattle.spans.specs.Effects.{Cancels, Effect, Opens, Writes}
 use Rattle.spans.specs.Feeds.{Feed, feed_of, is_cancelled}
 use Rattle.spans.specs.Kept.{IsKeptOf, Kept, place_of}
 use Rattle.spans.specs.Keys.{insert_key, insert_where}
-use Rattle.spans.specs.Transactions.{begun_of, is_undecided, undecided_timestamps}
+use Rattle.spans.specs.Transactions.{begun_of, is_aborted, is_committed, is_undecided, undecided_timestamps}
 use Rattle.spans.specs.Versions.{write_count, write_of, write_set}
 use Rattle.spans.proofs.Copies.{AllAllowed}
 use Rattle.spans.proofs.Feeding.{unopened}
@@ -22,12 +22,13 @@ use Rattle.spans.proofs.Open.{begun_among}
 use Rattle.spans.proofs.Steps.{by_test, same_key}
 use Rattle.spans.proofs.WriteSets.{has, has_in, has_written, write_set_rises}
 use Rattle.spans.proofs.Members.{AreDistinct, Has}
-use Rattle.kept.specs.Lists.{AreThose}
+use Rattle.kept.specs.Lists.{AreThose, IsNumberOf}
 use Rattle.kept.specs.Places.{live_feed}
 use Rattle.kept.specs.Table.{is_open}
 use Rattle.kept.proofs.AfterCloses.{open_is}
-use Rattle.spans.proofs.Members.{among_has, distinct_filter, has_filter, open_distinct, same_length}
+use Rattle.spans.proofs.Members.{among_has, distinct_filter, has_filter, has_is, in_has, open_distinct, rising_distinct, same_length}
 use Rattle.spans.proofs.FeedFloors.{is_live, live_is}
+use Rattle.kept.proofs.Dead.{open_kept}
 use Rattle.kept.proofs.Floors.{place_at}
 use Rattle.kept.proofs.VersionCounts.{stored_count}
 
@@ -69,10 +70,10 @@ has_number f (w ∷ ws) i = elim i [
     named_feed : w.number ≡ f → w ≡ live_feed f w.cursor
     named_feed e = ap (λ n. live_feed n w.cursor) e
 
--- an element's number is in the mapped list
-pub number_has : (f c : ℕ) (ws : List LiveFeed) → Has (live_feed f c) ws → Has f (map (λ (n : LiveFeed). n.number) ws)
-number_has f c [] i = absurd i
-number_has f c (w ∷ ws) i = elim i [ inl here ↦ inl (ap (λ (n : LiveFeed). n.number) here) | inr there ↦ inr (number_has f c ws there) ]
+-- what a function makes of an element is in the mapped list
+pub has_mapped : {A B : Type 0} (f : A → B) (x : A) (xs : List A) → Has x xs → Has (f x) (map f xs)
+has_mapped f x [] i = absurd i
+has_mapped f x (y ∷ ys) i = elim i [ inl here ↦ inl (ap f here) | inr there ↦ inr (has_mapped f x ys there) ]
 
 -- distinct numbers stay so where some go
 numbers_filter : (q : LiveFeed → Bool) (ws : List LiveFeed) → AreDistinct (map (λ (n : LiveFeed). n.number) ws) → AreDistinct (map (λ (n : LiveFeed). n.number) (filter q ws))
@@ -82,7 +83,7 @@ numbers_filter q (w ∷ ws) d = let more = numbers_filter q ws d.1 in by_test (q
     (λ isnt. rw isnt more)
   where
     still : (ws : List LiveFeed) → Has w.number (map (λ (n : LiveFeed). n.number) (filter q ws)) → Has w.number (map (λ (n : LiveFeed). n.number) ws)
-    still ws i = let m = has_number w.number (filter q ws) i in number_has w.number m.0 ws ((has_filter q (live_feed w.number m.0) ws).0 m.1).1
+    still ws i = let m = has_number w.number (filter q ws) i in has_mapped (λ (n : LiveFeed). n.number) (live_feed w.number m.0) ws ((has_filter q (live_feed w.number m.0) ws).0 m.1).1
 
 -- no feed is listed twice
 pub numbers_distinct : (p : List Effect) → AllAllowed p → AreDistinct (map (λ (n : LiveFeed). n.number) (live_feeds p))
@@ -105,7 +106,7 @@ has_live k p all fits f = (
     by_parts : (b : Bool) → is_cancelled p f ≡ b → (o : Option Feed) → feed_of p f ≡ o → is_some (place_of p f) ≡ true → Has f (map (λ (n : LiveFeed). n.number) (live_feeds p))
     by_parts true c o e is = absurd (let no' : false ≡ true = rw c at is in cc)
     by_parts false c None e is = absurd (let no' : false ≡ true = rw (c, e) at is in cc)
-    by_parts false c (Some feed) e is = number_has f feed.cursor (live_feeds p) (is_live p f feed e c)
+    by_parts false c (Some feed) e is = has_mapped (λ (n : LiveFeed). n.number) (live_feed f feed.cursor) (live_feeds p) (is_live p f feed e c)
 
 -- the live feeds that are kept are as many as those of the history
 pub feeds_count : (k : Kept) (p : List Effect) → AllAllowed p → IsKeptOf k p → (fs : List ℕ) → AreThose (λ f. is_some (k.feed f)) fs → length fs ≡ length (live_feeds p)
@@ -154,3 +155,17 @@ write_set_length (Writes k x a ∷ p) t = by_test (k == t)
     step true e = e
     step false e = ap suc e
 write_set_length (_ ∷ p) t = write_set_length p t
+
+-- the versions of an undecided transaction stand at the keys that it wrote
+pub written_are : (k : Kept) (p : List Effect) → IsKeptOf k p → (t : ℕ) → is_committed p t ≡ false → is_aborted p t ≡ false → AreThose (λ x. is_some (k.version x t)) (write_set p t)
+written_are k p fits t uncommitted unaborted = record {
+  distinct = rising_distinct (write_set p t) (write_set_rises p t);
+  each = λ x.
+      let e : is_some (k.version x t) ≡ has x (write_set p t) = ap is_some (open_kept k p fits x t uncommitted unaborted) ∙ sym (has_written p t x) in
+      let i = has_in x (write_set p t) in (λ h. e ∙ i.0 (has_is x (write_set p t) h), λ is. in_has x (write_set p t) (i.1 (sym e ∙ is)));
+}
+
+-- so they are as many
+pub written_count : (k : Kept) (p : List Effect) → IsKeptOf k p → (t : ℕ) → is_committed p t ≡ false → is_aborted p t ≡ false → (n : ℕ) → IsNumberOf (λ x. is_some (k.version x t)) n → n ≡ write_count p t
+written_count k p fits t uncommitted unaborted n number = let own = written_are k p fits t uncommitted unaborted in
+    number.2 ∙ those_length (λ x. is_some (k.version x t)) number.0 (write_set p t) number.1 own.distinct own.each ∙ write_set_length p t

@@ -1,13 +1,13 @@
 -- What is dead, and what is kept.
-use Rattle.std.proofs.Common.{Bool, List, refl, None, Option, arith, false, true, Some, cond, ◌≡◌, ◌<◌, ℕ}
+use Rattle.std.proofs.Common.{Bool, List, ap, refl, None, Option, arith, false, true, Some, cond, ◌≡◌, ◌∙◌, ◌<◌, ℕ}
 use Rattle.std.proofs.lemmas.Bool.{false_from_ne_true}
 use Rattle.std.proofs.lemmas.Bool.Decides.{nat_tests}
 use Rattle.std.specs.Prelude.{nat_le}
 use Rattle.spans.specs.Collection.{horizon_of, version_name, is_dead}
 use Rattle.spans.specs.Effects.{After, Effect}
-use Rattle.spans.specs.Kept.{kept_version}
-use Rattle.spans.specs.Transactions.{is_committed}
-use Rattle.spans.specs.Versions.{committed_version_of, version_of}
+use Rattle.spans.specs.Kept.{IsKeptOf, Kept, kept_version}
+use Rattle.spans.specs.Transactions.{is_aborted, is_committed}
+use Rattle.spans.specs.Versions.{committed_version_of, version_of, write_of}
 use Rattle.spans.proofs.Copies.{AllAllowed, not_both}
 use Rattle.spans.proofs.Steps.{by_test}
 use Rattle.spans.proofs.Dead.{committed_is, dead_is}
@@ -23,6 +23,10 @@ high_live q x i high = false_from_ne_true _ (λ is. let d = dead_is q x i is in 
 -- what an open transaction wrote isn't dead
 pub open_live : (p : List Effect) (x : List ℕ) (t : ℕ) → is_committed p t ≡ false → is_dead p (version_name x t) ≡ false
 open_live p x t open' = rw open' refl
+
+-- so all that it wrote is kept
+pub open_kept : (k : Kept) (p : List Effect) → IsKeptOf k p → (x : List ℕ) (t : ℕ) → is_committed p t ≡ false → is_aborted p t ≡ false → k.version x t ≡ write_of p t x
+open_kept k p fits x t uncommitted unaborted = fits.versions x t ∙ ap (λ b. cond b None (version_of p x t)) (open_live p x t uncommitted) ∙ ap (λ b. cond b None (write_of p t x)) unaborted
 
 -- where there is no version none is kept
 pub no_kept : (p : List Effect) (x : List ℕ) (i : ℕ) → version_of p x i ≡ None → kept_version p x i ≡ None

@@ -18,7 +18,6 @@ pub mod Untold
 pub mod Polling
 pub mod Floors
 pub mod RingRows
-pub mod HeldBack
 pub mod Refusals
 pub mod Replying
 pub mod Standing

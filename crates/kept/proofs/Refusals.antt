@@ -1,6 +1,6 @@
 -- The tests of a command of a transaction, from the table.
 use Rattle.std.proofs.Common.{Bool, List, None, Option, Some, [], ap, arith, cond, false, not, refl, sym, true, ℕ, ◌++◌, ◌||◌, ◌∙◌, ◌∷◌, ◌≡◌, ◌≤◌}
-use Rattle.std.proofs.lemmas.Bool.{leb-false, lt-ltb, or_parts, not-false}
+use Rattle.std.proofs.lemmas.Bool.{leb-false, or_parts, not-false}
 use Rattle.std.proofs.lemmas.Bool.Decides.{nat_tests}
 use Rattle.std.specs.Prelude.{is_some, nat_le, nat_lt, option_map}
 use Rattle.timestamps.specs.declared.ts.TheConstants.{MAX}
@@ -9,7 +9,6 @@ use Rattle.spans.specs.Effects.{Effect}
 use Rattle.spans.specs.Kept.{IsKeptOf, Kept, transaction_with}
 use Rattle.spans.specs.declared.state.State.TheVariants as states
 use Rattle.spans.specs.Transactions.{closed_of, is_aborted, is_committed, owner_of}
-use Rattle.spans.specs.Versions.{write_set}
 use Rattle.spans.specs.declared.calls.replies.Refusal.{Refusal}
 use Rattle.spans.specs.declared.calls.replies.Refusal.TheVariants.{Ended, NoTxn, NotOwner, TsRange}
 use Rattle.spans.specs.declared.calls.replies.Reply.{Reply}
@@ -18,7 +17,7 @@ use Rattle.spans.proofs.Copies.{IsActive}
 use Rattle.spans.proofs.Steps.{by_test}
 use Rattle.spans.proofs.Refusals.{tests_past, tests_met}
 use Rattle.kept.specs.Replies.{unless_refused}
-use Rattle.kept.specs.Table.{has_ended, keys_of, refusal, transaction_refusal}
+use Rattle.kept.specs.Table.{has_ended, refusal, transaction_refusal}
 
 -- a number that is in range passes its test
 pub within : (to : ℕ) (reply : Reply) → to ≤ MAX → first_refusal_or ((nat_lt MAX to, TsRange) ∷ []) reply ≡ reply
@@ -63,16 +62,6 @@ past_tests k p fits seat t more reply reply' here = by_refusal (refusal k seat t
     by_refusal : (o : Option Refusal) → refusal k seat t ≡ o → unless_refused o reply ≡ first_refusal_or (transaction_tests p seat t ++ more) reply'
     by_refusal None e = let past = sym (refusal_is k p fits seat t) ∙ e in here e (active_of p seat t past) ∙ sym (tests_past (transaction_tests p seat t) more reply' past)
     by_refusal (Some r) e = sym (tests_met (transaction_tests p seat t) more reply' r (sym (refusal_is k p fits seat t) ∙ e))
-
--- an active transaction's write set is in the table
-pub write_set_kept : (k : Kept) (p : List Effect) → IsKeptOf k p → (t : ℕ) → IsActive p t → keys_of (k.transaction t) ≡ write_set p t
-write_set_kept k p fits t here =
-    let above : nat_lt (closed_of p) t ≡ true = lt-ltb _ _ here.above in
-    ap keys_of (fits.transactions t) ∙ ap (λ b. keys_of (cond b (option_map (transaction_with p t) (owner_of p t)) None)) above ∙ by_owner (owner_of p t) here.begun
-  where
-    by_owner : (o : Option ℕ) → is_some o ≡ true → keys_of (option_map (transaction_with p t) o) ≡ write_set p t
-    by_owner None is = cc
-    by_owner (Some seat) is = refl
 
 -- above closed the table has who began
 pub used_is : (k : Kept) (p : List Effect) → IsKeptOf k p → (t : ℕ) → nat_le t (closed_of p) ≡ false → is_some (k.transaction t) ≡ is_some (owner_of p t)

@@ -26,19 +26,19 @@ use Rattle.spans.proofs.Steps.{by_test}
 use Rattle.spans.proofs.Horizon.{horizon_low}
 use Rattle.kept.specs.Collecting.{IsCollected, reached}
 use Rattle.kept.specs.Finding.{AreKeysOf, is_seen_blocked, seen}
-use Rattle.kept.specs.Lists.{AreThose}
+use Rattle.kept.specs.Lists.{AreThose, IsNumberOf}
 use Rattle.kept.specs.Marks.{IsLate}
 use Rattle.kept.specs.Places.{AreNext}
 use Rattle.kept.specs.Replies.{abort_reply, begin_reply, cancel_reply, close_hard_reply, close_reply, collect_reply, commit_reply, feed_refusal, get_reply, in_range, messages_left, open_reply, poll_place, poll_reply, protect_reply, read_at_reply, release_reply, scan_at_reply, scan_reply, stats_reply, write_reply}
-use Rattle.kept.specs.Table.{IsOldest, is_open, keys_of, reach, refusal}
+use Rattle.kept.specs.Table.{IsOldest, is_open, reach, refusal}
 use Rattle.kept.specs.WorkedKept.{versions}
 use Rattle.kept.proofs.AfterCloses.{reach_is}
-use Rattle.kept.proofs.Counts.{cut_count, feeds_count, undecided_count, versions_count, write_set_length}
+use Rattle.kept.proofs.Counts.{cut_count, feeds_count, undecided_count, versions_count, written_count}
 use Rattle.kept.proofs.Floors.{horizon_reached}
 use Rattle.kept.proofs.Late.{late_is}
 use Rattle.kept.proofs.Polling.{poll_is}
 use Rattle.kept.proofs.Reading.{blocked_is, blocker_is, seen_value, settled_is}
-use Rattle.kept.proofs.Refusals.{past_tests, used_is, write_set_kept}
+use Rattle.kept.proofs.Refusals.{past_tests, used_is}
 use Rattle.kept.proofs.Scans.{scan_at_is, scan_is}
 use Rattle.kept.proofs.DeadSeen.{dropped_count}
 use Rattle.spans.specs.declared.calls.messages.Message.TheVariants as messages
@@ -96,9 +96,9 @@ pub del_answer : (k : Kept) (p : List Effect) → IsKeptOf k p → (seat t : ℕ
 del_answer k p fits seat t x late tested = write_answer k p fits seat t x late tested
 
 -- commit
-pub commit_answer : (k : Kept) (p : List Effect) → IsKeptOf k p → (seat t : ℕ) → commit_reply k seat t ≡ answer_of p seat (Commit t)
-commit_answer k p fits seat t = past_tests k p fits seat t [] (Committed (length (keys_of (k.transaction t)))) (Committed (write_count p t))
-    (λ none here. ap Committed (ap length (write_set_kept k p fits t here) ∙ write_set_length p t))
+pub commit_answer : (k : Kept) (p : List Effect) → IsKeptOf k p → (seat t keys : ℕ) → (refusal k seat t ≡ None → IsNumberOf (λ x. is_some (k.version x t)) keys) → commit_reply k seat t keys ≡ answer_of p seat (Commit t)
+commit_answer k p fits seat t keys number = past_tests k p fits seat t [] (Committed keys) (Committed (write_count p t))
+    (λ none here. ap Committed (written_count k p fits t here.uncommitted here.unaborted keys (number none)))
 
 -- abort
 pub abort_answer : (k : Kept) (p : List Effect) → IsKeptOf k p → (seat t : ℕ) → abort_reply k seat t ≡ answer_of p seat (Abort t)

@@ -1,16 +1,16 @@
 -- A report of what is kept is the live report of the history.
 use Rattle.std.proofs.Common.{Bool, List, None, Option, Some, [], ap, arith, cond, false, inl, inr, map, not, refl, reverse, subst, sym, true, ℕ, ◌++◌, ◌<◌, ◌==◌, ◌∙◌, ◌∷◌, ◌≡◌, ◌≤◌}
-use Rattle.std.specs.Prelude.{filter, max, nat_lt, option_map, ◌↔◌}
-use Rattle.std.proofs.lemmas.Bool.{ltb-false, ltb-true}
+use Rattle.std.specs.Prelude.{Contains, filter, max, nat_lt, option_map, ◌↔◌}
+use Rattle.std.proofs.lemmas.Bool.{and_parts, ltb-false, ltb-true, not-true}
 use Rattle.std.proofs.lemmas.Bool.Decides.{nat_tests}
 use Rattle.std.proofs.lemmas.List.{map-append, reverse-append}
-use Rattle.std.proofs.lemmas.List.Elements.{All-weaker}
+use Rattle.std.proofs.lemmas.List.Elements.{All-contains, All-weaker}
 use Rattle.spans.specs.Collection.{LiveFeed, live_feeds}
 use Rattle.spans.specs.Effects.{Cancels, Effect, Opens, effects_of}
 use Rattle.spans.specs.Feeds.{Feed, feed_of, feeds_opened, last_resolved, start_of, told_to}
-use Rattle.spans.specs.Kept.{IsKeptOf, Kept, Place, place_with, transaction_with}
+use Rattle.spans.specs.Kept.{IsKeptOf, Kept, Place, Transaction, place_with, transaction_with}
 use Rattle.spans.specs.Report.{AreFeeds, AreUndecided, IsFeedReport, IsReport, last_told, protection_report}
-use Rattle.spans.specs.Transactions.{closed_of, owner_of}
+use Rattle.spans.specs.Transactions.{closed_of, is_undecided, owner_of}
 use Rattle.spans.specs.Versions.{write_count}
 use Rattle.spans.specs.declared.calls.events.Event.{Event}
 use Rattle.spans.specs.declared.calls.messages.Message.{Message}
@@ -21,42 +21,42 @@ use Rattle.spans.specs.declared.report.TransactionReport.{TransactionReport}
 use Rattle.spans.proofs.Copies.{AllAllowed}
 use Rattle.spans.proofs.Feeding.{ResolvedRise, feed_rises, feeding, unopened}
 use Rattle.spans.proofs.Legal.{legal_allowed}
-use Rattle.spans.proofs.Members.{Has, has_filter}
+use Rattle.spans.proofs.Members.{Has, all_of, has_filter}
 use Rattle.spans.proofs.Steps.{by_test}
 use Rattle.spans.proofs.FeedFloors.{live_is}
 use Rattle.kept.specs.Places.{live_feed}
-use Rattle.kept.specs.Reports.{AreLive, AreOpen, IsKeptReport, feed_report, if_above, resolved_at, transaction_report}
+use Rattle.kept.specs.Reports.{AreLive, AreOpen, IsKeptReport, IsToldOf, feed_report, if_above, resolved_at}
 use Rattle.kept.specs.StandsFor.{StandsFor}
 use Rattle.kept.proofs.AfterCloses.{open_is}
 use Rattle.kept.proofs.Contained.{contains_has}
-use Rattle.kept.proofs.Counts.{has_live, has_number, number_has, versions_count, write_set_length}
+use Rattle.kept.proofs.Counts.{has_live, has_mapped, has_number, versions_count, written_count}
 use Rattle.kept.proofs.Floors.{place_floor_is, placed_by, told_through_is}
 use Rattle.kept.proofs.Rising.{Falls, Rises, has_last, increasing_rises, rises_last, same_rising}
 
 -- ---- transactions
 
--- what the table has of an undecided transaction is its owner and its write set
-transaction_right : (k : Kept) (p : List Effect) → IsKeptOf k p → (n : TransactionReport) → option_map (transaction_report n.timestamp) (k.transaction n.timestamp) ≡ Some n
-    → (owner_of p n.timestamp ≡ Some n.seat) × (n.keys ≡ write_count p n.timestamp)
-transaction_right k p fits n is = by_owner (nat_lt (closed_of p) n.timestamp) (owner_of p n.timestamp) refl (sym (ap (option_map (transaction_report n.timestamp)) (fits.transactions n.timestamp)) ∙ is)
+-- a transaction in the table has its owner
+owner_right : (k : Kept) (p : List Effect) → IsKeptOf k p → (t seat : ℕ) → option_map (λ (w : Transaction). w.seat) (k.transaction t) ≡ Some seat → owner_of p t ≡ Some seat
+owner_right k p fits t seat is = by_owner (nat_lt (closed_of p) t) (owner_of p t) (sym (ap (option_map (λ (w : Transaction). w.seat)) (fits.transactions t)) ∙ is)
   where
-    by_owner : (b : Bool) (o : Option ℕ) → owner_of p n.timestamp ≡ o → option_map (transaction_report n.timestamp) (cond b (option_map (transaction_with p n.timestamp) o) None) ≡ Some n
-        → (owner_of p n.timestamp ≡ Some n.seat) × (n.keys ≡ write_count p n.timestamp)
-    by_owner false o e is = cc
-    by_owner true None e is = cc
-    by_owner true (Some seat) e is =
-        let same : transaction_report n.timestamp (transaction_with p n.timestamp seat) ≡ n = cc in (
-          e ∙ ap (λ (m : TransactionReport). Some m.seat) same,
-          sym (ap (λ (m : TransactionReport). m.keys) same) ∙ write_set_length p n.timestamp,
-        )
+    by_owner : (b : Bool) (o : Option ℕ) → option_map (λ (w : Transaction). w.seat) (cond b (option_map (transaction_with p t) o) None) ≡ Some seat → o ≡ Some seat
+    by_owner false o is = cc
+    by_owner true None is = cc
+    by_owner true (Some s) is = is
 
-transactions_are : (k : Kept) (p : List Effect) → AllAllowed p → IsKeptOf k p → (ns : List TransactionReport) → AreOpen k.transaction ns → AreUndecided p ns
+transactions_are : (k : Kept) (p : List Effect) → AllAllowed p → IsKeptOf k p → (ns : List TransactionReport) → AreOpen k ns → AreUndecided p ns
 transactions_are k p all fits ns open' = record {
   rising = open'.rising;
-  each = λ t. (λ i. sym (open_is k p all fits t) ∙ (open'.each t).0 i, λ is. (open'.each t).1 (open_is k p all fits t ∙ is));
-  right = All-weaker (λ (n : TransactionReport). option_map (transaction_report n.timestamp) (k.transaction n.timestamp) ≡ Some n)
-      (λ (n : TransactionReport). (owner_of p n.timestamp ≡ Some n.seat) × (n.keys ≡ write_count p n.timestamp)) (λ n is. transaction_right k p fits n is) ns open'.right;
+  each = each;
+  right = all_of (λ (n : TransactionReport). (owner_of p n.timestamp ≡ Some n.seat) × (n.keys ≡ write_count p n.timestamp)) ns (λ n i.
+      let told : IsToldOf k n = All-contains (IsToldOf k) ns n open'.right ((contains_has n ns).1 i) in
+      let among = (contains_has n.timestamp (map (λ (m : TransactionReport). m.timestamp) ns)).1 (has_mapped (λ (m : TransactionReport). m.timestamp) n ns i) in
+      let u = and_parts _ _ (and_parts _ _ ((each n.timestamp).0 among)).1 in
+      (owner_right k p fits n.timestamp n.seat told.seat, written_count k p fits n.timestamp (not-true _ u.0) (not-true _ u.1) n.keys told.keys));
 }
+  where
+    each : (t : ℕ) → Contains (map (λ (n : TransactionReport). n.timestamp) ns) t ↔ (is_undecided p t ≡ true)
+    each t = (λ i. sym (open_is k p all fits t) ∙ (open'.each t).0 i, λ is. (open'.each t).1 (open_is k p all fits t ∙ is))
 
 -- ---- numbers of feeds
 
@@ -76,7 +76,7 @@ falls_filter q (w ∷ ws) falls = let more = falls_filter q ws falls.1 in by_tes
     (λ isnt. rw isnt more)
   where
     still : (y : ℕ) (ws : List LiveFeed) → Has y (numbers (filter q ws)) → Has y (numbers ws)
-    still y ws i = let m = has_number y (filter q ws) i in number_has y m.0 ws ((has_filter q (live_feed y m.0) ws).0 m.1).1
+    still y ws i = let m = has_number y (filter q ws) i in has_mapped (λ (n : LiveFeed). n.number) (live_feed y m.0) ws ((has_filter q (live_feed y m.0) ws).0 m.1).1
 
 -- the feeds that live stand with the newest first
 live_falls : (p : List Effect) → AllAllowed p → Falls (numbers (live_feeds p))

@@ -1,24 +1,28 @@
--- Rings and held rows along a legal history.
-use Rattle.std.proofs.Common.{Bool, List, Some, [], ap, arith, drop, false, subst, sym, true, ℕ, ◌<◌, ◌∙◌, ◌∷◌, ◌≡◌, ◌≤◌}
-use Rattle.std.specs.Prelude.{filter, max, nat_le}
+-- Rings, and the rows that a closing releases, along a legal history.
+use Rattle.std.proofs.Common.{Bool, List, None, Some, [], ap, arith, cond, drop, false, inl, inr, refl, subst, sym, true, ℕ, ◌∙◌, ◌∷◌, ◌≡◌, ◌≤◌}
+use Rattle.std.specs.Prelude.{max}
 use Rattle.timestamps.specs.declared.row.Row.{Row}
 use Rattle.spans.specs.declared.kind.Kind.{Kind}
-use Rattle.spans.specs.Effects.{Closes, Commits, Effect, HardCloses, Opens, Polls, effect_of, effects_of}
-use Rattle.spans.specs.Kept.{Kept, Place, place_with}
+use Rattle.spans.specs.Effects.{Closes, Effect, HardCloses, Opens, Polls, effect_of, effects_of}
+use Rattle.spans.specs.Collection.{horizon_of}
+use Rattle.spans.specs.Kept.{IsKeptOf, Kept, Place, place_with}
 use Rattle.spans.specs.Legal.{IsLegal, IsRightEvent}
 use Rattle.spans.specs.Streams.{stream_of}
-use Rattle.spans.specs.Transactions.{closed_of}
+use Rattle.spans.specs.Transactions.{closed_of, is_committed}
+use Rattle.spans.specs.Versions.{committed_version_of, write_of}
 use Rattle.spans.specs.declared.calls.events.Event.{Event}
 use Rattle.spans.specs.declared.calls.messages.Message.{Message}
 use Rattle.spans.specs.declared.span.Span.{Span}
-use Rattle.spans.proofs.Copies.{Allowed}
+use Rattle.spans.proofs.Copies.{AllAllowed, Allowed}
+use Rattle.spans.proofs.Horizon.{horizon_low}
+use Rattle.spans.proofs.Steps.{version_wrote}
+use Rattle.spans.proofs.StreamOrder.{in_stream, stream_rises}
 use Rattle.spans.proofs.Legal.{legal_allowed, right_allowed}
-use Rattle.kept.specs.HeldBack.{AreHeldBack, AreLetGo, IsHeldFor, holds_still}
 use Rattle.kept.specs.Places.{AreLeft}
-use Rattle.kept.specs.Rings.{AreOffered, AreOthersSame, AreRings, is_quiet, whole}
+use Rattle.kept.specs.Rings.{AreCommittedBetween, AreOffered, AreOthersSame, AreRings, IsClosing, is_quiet, whole}
 use Rattle.kept.specs.StandsFor.{StandsFor}
 use Rattle.kept.proofs.Floors.{place_at, placed_by}
-use Rattle.kept.proofs.HeldBack.{held_after_closes, held_after_commits, held_after_hard_closes, held_stay, released}
+use Rattle.kept.proofs.Dead.{committed_stands, kept_above, kept_is}
 use Rattle.kept.proofs.Polling.{left_are}
 use Rattle.kept.proofs.RingRows.{rings_after_closes, rings_after_opens, rings_after_polls, rings_stay, untold_closes, untold_hard_closes}
 
@@ -73,38 +77,34 @@ rings_live k h ring ring' behind behind' stands rings fewer f feed is live up =
 pub rings_others : (h : List Event) (e : Event) (ring : ℕ → List Row) (behind : ℕ → Bool) → IsLegal h → IsRightEvent (effects_of h) e → is_quiet (effect_of e) ≡ true → AreRings ring behind (effects_of h) → AreRings ring behind (effects_of (e ∷ h))
 rings_others h e ring behind legal right quiet rings = rings_stay (effects_of h) (effect_of e) (legal_allowed h legal) (right_allowed (effects_of h) e right) quiet ring behind rings
 
--- what is held through n is what a closing at n releases
-pub held_released : (k : Kept) (h : List Event) (lost : ℕ → Bool) (rows : List Row) (n : ℕ) → StandsFor k h → AreHeldBack (effects_of h) lost rows → ((j : ℕ) → k.closed < j → j ≤ n → lost j ≡ false)
-    → filter (λ r. nat_le r.ts n) rows ≡ stream_of (effects_of h) whole k.closed n
-held_released k h lost rows n stands held through = released (effects_of h) lost rows n held (λ j above low. through j (omega (arith, stands.fits.closed_at)) low)
-    ∙ ap (λ c. stream_of (effects_of h) whole c n) (sym stands.fits.closed_at)
-
--- held rows after a commit
-pub held_commit : (k : Kept) (h : List Event) (e : Event) (t : ℕ) (lost lost' : ℕ → Bool) (rows rows' : List Row) → StandsFor k h → IsRightEvent (effects_of h) e → effect_of e ≡ Commits t
-    → AreHeldBack (effects_of h) lost rows → IsHeldFor k t lost lost' rows rows' → AreHeldBack (effects_of (e ∷ h)) lost' rows'
-held_commit k h e t lost lost' rows rows' stands right is held c = subst (λ d. AreHeldBack (d ∷ effects_of h) lost' rows') (sym is)
-    (held_after_commits k (effects_of h) stands.fits t (allowed_after h e (Commits t) right is) lost lost' rows rows' held c)
-
--- held rows after a closing
-pub held_close : (h : List Event) (e : Event) (n : ℕ) (lost lost' : ℕ → Bool) (rows rows' : List Row) → IsRightEvent (effects_of h) e → effect_of e ≡ Closes n
-    → AreHeldBack (effects_of h) lost rows → AreLetGo n lost lost' rows rows' → AreHeldBack (effects_of (e ∷ h)) lost' rows'
-held_close h e n lost lost' rows rows' right is held c = subst (λ d. AreHeldBack (d ∷ effects_of h) lost' rows') (sym is)
-    (held_after_closes (effects_of h) n (allowed_after h e (Closes n) right is) lost lost' rows rows' held c)
-
--- held rows after a hard closing
-pub held_hard_close : (h : List Event) (e : Event) (to n : ℕ) (lost lost' : ℕ → Bool) (rows rows' : List Row) → IsRightEvent (effects_of h) e → effect_of e ≡ HardCloses to n
-    → AreHeldBack (effects_of h) lost rows → AreLetGo n lost lost' rows rows' → AreHeldBack (effects_of (e ∷ h)) lost' rows'
-held_hard_close h e to n lost lost' rows rows' right is held c = subst (λ d. AreHeldBack (d ∷ effects_of h) lost' rows') (sym is)
-    (held_after_hard_closes (effects_of h) to n (allowed_after h e (HardCloses to n) right is) lost lost' rows rows' held c)
-
--- held rows after everything else
-pub held_others : (h : List Event) (e : Event) (lost : ℕ → Bool) (rows : List Row) → IsRightEvent (effects_of h) e → holds_still (effect_of e) ≡ true → AreHeldBack (effects_of h) lost rows → AreHeldBack (effects_of (e ∷ h)) lost rows
-held_others h e lost rows right still held = held_stay (effects_of h) (effect_of e) (right_allowed (effects_of h) e right) still lost rows held
-
--- at first nothing is held
-pub nothing_held : AreHeldBack [] (λ n. false) []
-nothing_held = record {
-  rising = tt;
-  above = λ r i. absurd i;
-  each = λ r there. (λ i. absurd i, λ h. absurd (let no' : false ≡ true = h.done in cc));
+-- what stands above the old closed timestamp is what a closing through n releases
+released : (k : Kept) (p q : List Effect) (n : ℕ) → AllAllowed q → IsKeptOf k q → horizon_of q ≤ closed_of p → ((t : ℕ) → is_committed q t ≡ is_committed p t) → ((t : ℕ) (x : List ℕ) → write_of q t x ≡ write_of p t x)
+    → AreCommittedBetween k.version k.committed (closed_of p) n (stream_of p whole (closed_of p) n)
+released k p q n all fits low same wrote = record {
+  rising = stream_rises p whole (closed_of p) n;
+  each = λ r. let s = in_stream p whole (closed_of p) n r in (
+    λ i. let m = s.0 i in
+        let done : is_committed q r.ts ≡ true = same r.ts ∙ m.done in
+        let was : committed_version_of q r.key r.ts ≡ Some r.after = ap (λ b. cond b (write_of q r.ts r.key) None) done ∙ wrote r.ts r.key ∙ m.wrote in
+        let is : k.version r.key r.ts ≡ Some r.after = fits.versions r.key r.ts ∙ kept_above q r.key r.ts (omega (arith, low, m.above)) ∙ committed_stands q all r.key r.ts r.after was in
+        (is, fits.committed r.key r.ts r.after is ∙ done, m.above, m.low),
+    λ i. s.1 (record {
+      above = i.2;
+      low = i.3;
+      done = sym (same r.ts) ∙ sym (fits.committed r.key r.ts r.after i.0) ∙ i.1;
+      inside = refl;
+      wrote = sym (wrote r.ts r.key) ∙ (version_wrote q r.key r.ts r.after (kept_is q r.key r.ts r.after (sym (fits.versions r.key r.ts) ∙ i.0))).1;
+    }),
+  );
 }
+
+-- which is a closing of either kind
+pub released_by : (k : Kept) (p : List Effect) (d : Effect) (n : ℕ) → AllAllowed (d ∷ p) → IsKeptOf k (d ∷ p) → IsClosing d n → AreCommittedBetween k.version k.committed (closed_of p) n (stream_of p whole (closed_of p) n)
+released_by k p d n all fits is = elim is [
+  | inl closes ↦ of (Closes n) closes refl (λ t. refl) (λ t x. refl)
+  | inr hard ↦ of (HardCloses hard.0 n) hard.1 refl (λ t. refl) (λ t x. refl)
+]
+  where
+    of : (c : Effect) → d ≡ c → horizon_of (c ∷ p) ≡ horizon_of p → ((t : ℕ) → is_committed (c ∷ p) t ≡ is_committed p t) → ((t : ℕ) (x : List ℕ) → write_of (c ∷ p) t x ≡ write_of p t x)
+        → AreCommittedBetween k.version k.committed (closed_of p) n (stream_of p whole (closed_of p) n)
+    of c e horizon same wrote = released k p (c ∷ p) n (subst (λ b. AllAllowed (b ∷ p)) e all) (subst (λ b. IsKeptOf k (b ∷ p)) e fits) (let l = horizon_low p all.1 in omega (arith, horizon)) same wrote

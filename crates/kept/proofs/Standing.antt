@@ -1,26 +1,22 @@
 -- What is kept after an event stands for the history with it.
-use Rattle.std.proofs.Common.{List, None, ap, cond, false, refl, subst, sym, ℕ, ◌&&◌, ◌==◌, ◌||◌, ◌∙◌, ◌∷◌, ◌≡◌}
+use Rattle.std.proofs.Common.{List, cond, false, refl, subst, sym, ℕ, ◌&&◌, ◌==◌, ◌||◌, ◌∷◌, ◌≡◌}
 use Rattle.std.specs.Prelude.{bytes_eq, max}
 use Rattle.spans.specs.declared.kind.Kind.{Kind}
 use Rattle.spans.specs.Effects.{Aborts, After, Begins, Cancels, Closes, Collects, Commits, Effect, HardCloses, NoEffect, Opens, Polls, Protects, Reads, Releases, Scans, SnapshotReads, SnapshotScans, Writes, effect_of, effects_of}
 use Rattle.spans.specs.Kept.{IsKeptOf, Kept}
 use Rattle.spans.specs.Legal.{IsRightEvent}
-use Rattle.spans.specs.Versions.{write_set}
 use Rattle.spans.specs.declared.calls.events.Event.{Event}
 use Rattle.spans.specs.declared.calls.messages.Message.{Message}
 use Rattle.spans.specs.declared.span.Span.{Span}
 use Rattle.spans.proofs.Copies.{AllAllowed, Allowed}
 use Rattle.spans.proofs.Legal.{legal_allowed, right_allowed}
-use Rattle.spans.proofs.WriteSets.{has}
 use Rattle.kept.specs.Changes.{IsAbortedBy, IsAlike, IsBegun, IsCancelledFrom, IsClosedAt, IsCollectedTo, IsCommittedBy, IsHardClosedAt, IsMovedBy, IsOpenedAt, IsProtectedBy, IsReadBy, IsReleasedFrom, IsScannedBy, IsWritten}
 use Rattle.kept.specs.StandsFor.{StandsFor}
-use Rattle.kept.specs.Table.{keys_of}
 use Rattle.kept.proofs.AfterBegins.{after_begins}
 use Rattle.kept.proofs.AfterCloses.{after_closes, after_hard_closes}
 use Rattle.kept.proofs.AfterFeeds.{after_cancels, after_opens, after_polls, after_protects, after_releases}
 use Rattle.kept.proofs.AfterReads.{after_reads, after_scans, read_noted}
 use Rattle.kept.proofs.AfterWrites.{after_aborts, after_commits, after_writes}
-use Rattle.kept.proofs.Refusals.{write_set_kept}
 use Rattle.kept.proofs.DeadSeen.{after_drops}
 use Rattle.kept.proofs.Staying.{after_nothing, after_snapshot_reads, after_snapshot_scans, alike_kept, other_committed}
 
@@ -65,22 +61,21 @@ scan_stands k k' h e t span rows stands right is c = stands_after k k' h e (Scan
 pub write_stands : (k k' : Kept) (h : List Event) (e : Event) (t : ℕ) (x : List ℕ) (a : After) → StandsFor k h → IsRightEvent (effects_of h) e → effect_of e ≡ Writes t x a → IsWritten k k' t x a → StandsFor k' (e ∷ h)
 write_stands k k' h e t x a stands right is c = stands_after k k' h e (Writes t x a) stands right is (λ all allowed.
     subst (λ n. IsKeptOf n (Writes t x a ∷ effects_of h)) (sym c.rest)
-    (other_committed (record k { version = k'.version; committed = λ y i. cond ((t == i) && bytes_eq x y) false (k.committed y i); transaction = k'.transaction }) (Writes t x a ∷ effects_of h)
-    (after_writes k (effects_of h) all stands.fits t x a allowed k'.version (λ y i. cond ((t == i) && bytes_eq x y) false (k.committed y i)) k'.transaction c.version (λ y i. refl) c.transaction)
+    (other_committed (record k { version = k'.version; committed = λ y i. cond ((t == i) && bytes_eq x y) false (k.committed y i) }) (Writes t x a ∷ effects_of h)
+    (after_writes k (effects_of h) all stands.fits t x a allowed k'.version (λ y i. cond ((t == i) && bytes_eq x y) false (k.committed y i)) c.version (λ y i. refl))
     k'.committed c.committed))
 
 -- a commit
 pub commit_stands : (k k' : Kept) (h : List Event) (e : Event) (t : ℕ) → StandsFor k h → IsRightEvent (effects_of h) e → effect_of e ≡ Commits t → IsCommittedBy k k' t → StandsFor k' (e ∷ h)
 commit_stands k k' h e t stands right is c = stands_after k k' h e (Commits t) stands right is (λ all allowed.
-    let keys : keys_of (k.transaction t) ≡ write_set (effects_of h) t = write_set_kept k (effects_of h) stands.fits t allowed in
     subst (λ n. IsKeptOf n (Commits t ∷ effects_of h)) (sym c.rest)
-    (alike_kept (record k { committed = λ y i. ((t == i) && has y (write_set (effects_of h) t)) || k.committed y i; transaction = k'.transaction }) (record k { version = k'.version; committed = k'.committed; transaction = k'.transaction }) (Commits t ∷ effects_of h)
-    (after_commits k (effects_of h) all stands.fits t allowed (λ y i. ((t == i) && has y (write_set (effects_of h) t)) || k.committed y i) k'.transaction (λ y i. refl) c.transaction)
+    (alike_kept (record k { committed = λ y i. (t == i) || k.committed y i; transaction = k'.transaction }) (record k { version = k'.version; committed = k'.committed; transaction = k'.transaction }) (Commits t ∷ effects_of h)
+    (after_commits k (effects_of h) all stands.fits t allowed (λ y i. (t == i) || k.committed y i) k'.transaction (λ y i. refl) c.transaction)
     (record {
       closed = refl;
       horizon = refl;
       version = c.version;
-      committed = λ y i b there. c.committed y i b there ∙ ap (λ ks. ((t == i) && has y ks) || k.committed y i) keys;
+      committed = c.committed;
       marked = λ y n. refl;
       transaction = λ i. refl;
       protections = refl;
@@ -92,10 +87,9 @@ commit_stands k k' h e t stands right is c = stands_after k k' h e (Commits t) s
 -- an abort, or a write that came too late
 pub abort_stands : (k k' : Kept) (h : List Event) (e : Event) (t : ℕ) → StandsFor k h → IsRightEvent (effects_of h) e → effect_of e ≡ Aborts t → IsAbortedBy k k' t → StandsFor k' (e ∷ h)
 abort_stands k k' h e t stands right is c = stands_after k k' h e (Aborts t) stands right is (λ all allowed.
-    let keys : keys_of (k.transaction t) ≡ write_set (effects_of h) t = write_set_kept k (effects_of h) stands.fits t allowed in
     subst (λ n. IsKeptOf n (Aborts t ∷ effects_of h)) (sym c.rest)
     (other_committed (record k { version = k'.version; transaction = k'.transaction }) (Aborts t ∷ effects_of h)
-    (after_aborts k (effects_of h) all stands.fits t allowed k'.version k'.transaction (λ y i. c.version y i ∙ ap (λ ks. cond ((t == i) && has y ks) None (k.version y i)) keys) c.transaction)
+    (after_aborts k (effects_of h) all stands.fits t allowed k'.version k'.transaction c.version c.transaction)
     k'.committed c.committed))
 
 -- a closing

@@ -1,11 +1,11 @@
 -- The versions that are kept are counted by those of the history.
-use Rattle.std.proofs.Common.{Bool, List, not, refl, None, Option, arith, false, ap, true, sym, length, cond, ◌≡◌, ◌-◌, ◌+◌, ◌∷◌, ◌∙◌, ℕ}
+use Rattle.std.proofs.Common.{Bool, List, not, refl, None, Option, false, ap, true, sym, length, cond, ◌≡◌, ◌+◌, ◌∙◌}
 use Rattle.std.specs.Prelude.{filter, is_some, ◌↔◌}
 use Rattle.spans.specs.Collection.{VersionName, versions_of, dead_of, is_dead}
-use Rattle.spans.specs.Effects.{Collects, After, Effect}
+use Rattle.spans.specs.Effects.{After, Effect}
 use Rattle.spans.specs.Kept.{Kept, IsKeptOf, kept_version}
 use Rattle.spans.specs.Versions.{version_of}
-use Rattle.spans.proofs.Copies.{Allowed, AllAllowed}
+use Rattle.spans.proofs.Copies.{AllAllowed}
 use Rattle.spans.proofs.Members.{Has, AreDistinct, parted}
 use Rattle.spans.proofs.Members.{distinct_filter, has_filter, same_length}
 use Rattle.spans.proofs.VersionNames.{versions_distinct, has_versions}
@@ -29,12 +29,3 @@ stored_count k p all fits vs d same =
     join : (b : Bool) (o : Option After) → not b ≡ true → is_some o ≡ true → is_some (cond b None o) ≡ true
     join true o e h = cc
     join false o e h = h
-
--- so a collection removes as many as the store loses
-pub removed_count : (k k' : Kept) (p : List Effect) (n : ℕ) → AllAllowed p → Allowed p (Collects n) → IsKeptOf k p → IsKeptOf k' (Collects n ∷ p) → (vs vs' : List VersionName) → AreDistinct vs → AreDistinct vs'
-    → ((v : VersionName) → Has v vs ↔ (is_some (k.version v.key v.ts) ≡ true)) → ((v : VersionName) → Has v vs' ↔ (is_some (k'.version v.key v.ts) ≡ true))
-    → length vs - length vs' ≡ length (dead_of (Collects n ∷ p)) - length (dead_of p)
-removed_count k k' p n all allowed fits kept' vs vs' d d' same same' =
-    let before : length (versions_of p) ≡ length vs + length (dead_of p) = stored_count k p all fits vs d same in
-    let after : length (versions_of p) ≡ length vs' + length (dead_of (Collects n ∷ p)) = stored_count k' (Collects n ∷ p) (allowed, all) kept' vs' d' same' in
-    omega (arith, before, after)

@@ -15,7 +15,7 @@ use Rattle.spans.specs.declared.calls.replies.Reply.TheVariants.{Refused}
 use Rattle.kept.specs.Changes.{IsAbortedBy, IsAlike, IsBegun, IsCancelledFrom, IsClosedAt, IsCollectedTo, IsCommittedBy, IsHardClosedAt, IsMovedBy, IsOpenedAt, IsProtectedBy, IsReadBy, IsReleasedFrom, IsScannedBy, IsWritten}
 use Rattle.kept.specs.Collecting.{IsCollected, reached}
 use Rattle.kept.specs.Finding.{AreKeysOf}
-use Rattle.kept.specs.Lists.{AreThose}
+use Rattle.kept.specs.Lists.{AreThose, IsNumberOf}
 use Rattle.kept.specs.Marks.{IsLate}
 use Rattle.kept.specs.Places.{AreNext}
 use Rattle.kept.specs.Replies.{abort_reply, begin_reply, cancel_reply, close_hard_reply, close_reply, collect_reply, commit_reply, get_reply, open_reply, poll_reply, protect_reply, read_at_reply, release_reply, scan_at_reply, scan_reply, stats_reply, write_reply}
@@ -30,6 +30,10 @@ IsScanReply k seat t span r = (keys : List (List ℕ)) × (refusal k seat t ≡ 
 -- to a write of x, by the test of its marks
 abbrev pub IsWriteReply : Kept → ℕ → ℕ → List ℕ → Reply → Type 0
 IsWriteReply k seat t x r = (late : Bool) × (refusal k seat t ≡ None → IsLate k x t late) × (r ≡ write_reply k seat t late)
+
+-- to a commit, by how many keys have a version at its timestamp
+abbrev pub IsCommitReply : Kept → ℕ → ℕ → Reply → Type 0
+IsCommitReply k seat t r = (keys : ℕ) × (refusal k seat t ≡ None → IsNumberOf (λ x. is_some (k.version x t)) keys) × (r ≡ commit_reply k seat t keys)
 
 -- to a closing, by the oldest undecided transaction
 abbrev pub IsCloseReply : Kept → ℕ → Reply → Type 0
@@ -62,7 +66,7 @@ IsReplyOf k seat (Get t x) r = r ≡ get_reply k seat t x
 IsReplyOf k seat (Scan t span) r = IsScanReply k seat t span r
 IsReplyOf k seat (Put t x v) r = IsWriteReply k seat t x r
 IsReplyOf k seat (Del t x) r = IsWriteReply k seat t x r
-IsReplyOf k seat (Commit t) r = r ≡ commit_reply k seat t
+IsReplyOf k seat (Commit t) r = IsCommitReply k seat t r
 IsReplyOf k seat (Abort t) r = r ≡ abort_reply k seat t
 IsReplyOf k seat (Close to) r = IsCloseReply k to r
 IsReplyOf k seat (CloseHard to) r = IsHardCloseReply k to r
@@ -106,7 +110,6 @@ pub record IsAnswered (k k' : Kept) (seat : ℕ) (cmd : Cmd) (reply : Reply) : T
 
 -- the command would not be refused
 abbrev pub IsAccepting : Kept → ℕ → Cmd → Type 0
-IsAccepting k seat (Collect to) = to ≤ MAX
 IsAccepting k seat (Poll f max) = (place : Place) × (k.feed f ≡ Some place) × (place.seat ≡ seat)
 IsAccepting k seat cmd = (reply : Reply) × IsReplyOf k seat cmd reply × (is_accepted reply ≡ true)
 

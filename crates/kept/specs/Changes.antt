@@ -6,14 +6,13 @@ use Rattle.spans.specs.declared.kind.Kind.{Kind}
 use Rattle.spans.specs.Effects.{After}
 use Rattle.spans.specs.Feeds.{start_at}
 use Rattle.spans.specs.Kept.{Kept, Transaction}
-use Rattle.spans.specs.Keys.{in_span, insert_key}
+use Rattle.spans.specs.Keys.{in_span}
 use Rattle.spans.specs.declared.calls.messages.Message.{Message}
 use Rattle.spans.specs.declared.span.Span.{Span}
-use Rattle.spans.proofs.WriteSets.{has}
 use Rattle.kept.specs.Finding.{is_dead_in}
 use Rattle.kept.specs.Marks.{IsForgotten, IsNoted}
 use Rattle.kept.specs.Places.{moved}
-use Rattle.kept.specs.Table.{is_open, keys_of, new_transaction}
+use Rattle.kept.specs.Table.{is_open, new_transaction}
 use Rattle.spans.specs.declared.state.State.TheVariants as states
 
 -- all is as it was
@@ -46,23 +45,22 @@ pub record IsScannedBy (k k' : Kept) (t : ℕ) (span : Span) : Type 0 where
   pub others : (y : List ℕ) → in_span span y ≡ false → (n : ℕ) → k'.marked y n ≡ k.marked y n
   pub rest : k' ≡ record k { marked = k'.marked }
 
--- t has an undecided version of x, and x is in its write set
+-- t has an undecided version of x
 pub record IsWritten (k k' : Kept) (t : ℕ) (x : List ℕ) (a : After) : Type 0 where
   pub version : (y : List ℕ) (i : ℕ) → k'.version y i ≡ (if (t == i) && bytes_eq x y then Some a else k.version y i)
   pub committed : (y : List ℕ) (i : ℕ) (b : After) → k'.version y i ≡ Some b → k'.committed y i ≡ (if (t == i) && bytes_eq x y then false else k.committed y i)
-  pub transaction : (i : ℕ) → k'.transaction i ≡ (if t == i then option_map (λ (n : Transaction). record n { keys = insert_key x n.keys }) (k.transaction i) else k.transaction i)
-  pub rest : k' ≡ record k { version = k'.version; committed = k'.committed; transaction = k'.transaction }
+  pub rest : k' ≡ record k { version = k'.version; committed = k'.committed }
 
--- the versions of t's write set are committed, and so is t
+-- the versions of t are committed, and so is t
 pub record IsCommittedBy (k k' : Kept) (t : ℕ) : Type 0 where
   pub version : (y : List ℕ) (i : ℕ) → k'.version y i ≡ k.version y i
-  pub committed : (y : List ℕ) (i : ℕ) (b : After) → k.version y i ≡ Some b → k'.committed y i ≡ (((t == i) && has y (keys_of (k.transaction t))) || k.committed y i)
+  pub committed : (y : List ℕ) (i : ℕ) (b : After) → k.version y i ≡ Some b → k'.committed y i ≡ ((t == i) || k.committed y i)
   pub transaction : (i : ℕ) → k'.transaction i ≡ (if t == i then option_map (λ (n : Transaction). record n { state = states.Committed }) (k.transaction i) else k.transaction i)
   pub rest : k' ≡ record k { version = k'.version; committed = k'.committed; transaction = k'.transaction }
 
--- the versions of t's write set are gone, and t is aborted
+-- the versions of t are gone, and t is aborted
 pub record IsAbortedBy (k k' : Kept) (t : ℕ) : Type 0 where
-  pub version : (y : List ℕ) (i : ℕ) → k'.version y i ≡ (if (t == i) && has y (keys_of (k.transaction t)) then None else k.version y i)
+  pub version : (y : List ℕ) (i : ℕ) → k'.version y i ≡ (if t == i then None else k.version y i)
   pub committed : (y : List ℕ) (i : ℕ) (b : After) → k'.version y i ≡ Some b → k'.committed y i ≡ k.committed y i
   pub transaction : (i : ℕ) → k'.transaction i ≡ (if t == i then option_map (λ (n : Transaction). record n { state = states.Aborted }) (k.transaction i) else k.transaction i)
   pub rest : k' ≡ record k { version = k'.version; committed = k'.committed; transaction = k'.transaction }
@@ -73,9 +71,9 @@ pub record IsClosedAt (k k' : Kept) (n : ℕ) : Type 0 where
   pub transaction : (i : ℕ) → k'.transaction i ≡ (if nat_lt n i then k.transaction i else None)
   pub rest : k' ≡ record k { closed = n; marked = k'.marked; transaction = k'.transaction }
 
--- the same, and of undecided transactions at or below to the versions of their write sets are gone
+-- the same, and the versions of undecided transactions at or below to are gone
 pub record IsHardClosedAt (k k' : Kept) (to n : ℕ) : Type 0 where
-  pub version : (y : List ℕ) (i : ℕ) → k'.version y i ≡ (if (nat_le i to && is_open (k.transaction i)) && has y (keys_of (k.transaction i)) then None else k.version y i)
+  pub version : (y : List ℕ) (i : ℕ) → k'.version y i ≡ (if nat_le i to && is_open (k.transaction i) then None else k.version y i)
   pub committed : (y : List ℕ) (i : ℕ) (b : After) → k'.version y i ≡ Some b → k'.committed y i ≡ k.committed y i
   pub marked : (y : List ℕ) → IsForgotten (k.marked y) (k'.marked y) n
   pub transaction : (i : ℕ) → k'.transaction i ≡ (if nat_lt n i then k.transaction i else None)

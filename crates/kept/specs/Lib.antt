@@ -5,7 +5,6 @@ pub mod Table
 pub mod Places
 pub mod StandsFor
 pub mod Rings
-pub mod HeldBack
 pub mod Leading
 pub mod Collecting
 pub mod Changes

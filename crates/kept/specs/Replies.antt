@@ -15,7 +15,7 @@ use Rattle.spans.specs.declared.calls.replies.Refusal.TheVariants.{BelowClosed, 
 use Rattle.spans.specs.declared.calls.replies.Reply.{Reply}
 use Rattle.spans.specs.declared.calls.replies.Reply.TheVariants.{Aborted, Cancelled, Closed, Collected, Committed, Found, Messages, Opened, Protected, Refused, Released, Rows, Started, Written}
 use Rattle.kept.specs.Finding.{is_seen_blocked, seen}
-use Rattle.kept.specs.Table.{keys_of, reach, refusal}
+use Rattle.kept.specs.Table.{reach, refusal}
 use Rattle.spans.specs.declared.calls.messages.Message.TheVariants as messages
 use Rattle.spans.specs.declared.calls.replies.Reply.TheVariants as replies
 
@@ -45,9 +45,9 @@ scan_reply k seat t keys = unless_refused (refusal k seat t)
 abbrev pub write_reply : Kept → ℕ → ℕ → Bool → Reply
 write_reply k seat t late = unless_refused (refusal k seat t) (if late then Refused TooLate else Written)
 
--- how many keys it wrote
-abbrev pub commit_reply : Kept → ℕ → ℕ → Reply
-commit_reply k seat t = unless_refused (refusal k seat t) (Committed (length (keys_of (k.transaction t))))
+-- with how many keys it wrote
+abbrev pub commit_reply : Kept → ℕ → ℕ → ℕ → Reply
+commit_reply k seat t keys = unless_refused (refusal k seat t) (Committed keys)
 
 -- an abort says nothing but that it was done
 abbrev pub abort_reply : Kept → ℕ → ℕ → Reply

@@ -1,5 +1,5 @@
 -- What a live report says of what is kept.
-use Rattle.std.specs.Prelude.{All, Contains, List, None, Option, Some, if◌then◌else◌, is_some, length, map, max, nat_lt, option_map, reverse, true, ℕ, ◌↔◌, ◌≡◌}
+use Rattle.std.specs.Prelude.{All, Contains, List, None, Option, Some, if◌then◌else◌, is_some, map, max, nat_lt, option_map, reverse, true, ℕ, ◌↔◌, ◌≡◌}
 use Rattle.std.specs.List.Sorted.{IsStrictlyIncreasing}
 use Rattle.spans.specs.Collection.{VersionName}
 use Rattle.spans.specs.Feeds.{start_at}
@@ -8,19 +8,20 @@ use Rattle.spans.specs.Report.{protection_report}
 use Rattle.spans.specs.declared.report.FeedReport.{FeedReport}
 use Rattle.spans.specs.declared.report.Report.{Report}
 use Rattle.spans.specs.declared.report.TransactionReport.{TransactionReport}
-use Rattle.kept.specs.Lists.{AreThose}
+use Rattle.kept.specs.Lists.{IsNumberOf}
 use Rattle.kept.specs.Places.{place_floor, row_floor}
 use Rattle.kept.specs.Table.{is_open}
 
--- a transaction: its seat, and how many keys it wrote
-abbrev pub transaction_report : ℕ → Transaction → TransactionReport
-transaction_report t n = record { timestamp = t; seat = n.seat; keys = length n.keys }
+-- a transaction: its seat, and how many keys have a version at its timestamp
+pub record IsToldOf (k : Kept) (n : TransactionReport) : Type 0 where
+  pub seat : option_map (λ (w : Transaction). w.seat) (k.transaction n.timestamp) ≡ Some n.seat
+  pub keys : IsNumberOf (λ x. is_some (k.version x n.timestamp)) n.keys
 
--- the undecided transactions of the table, timestamps rising
-pub record AreOpen (table : ℕ → Option Transaction) (ns : List TransactionReport) : Type 0 where
+-- the undecided transactions, timestamps rising
+pub record AreOpen (k : Kept) (ns : List TransactionReport) : Type 0 where
   pub rising : IsStrictlyIncreasing (map (λ (n : TransactionReport). n.timestamp) ns)
-  pub each : (t : ℕ) → Contains (map (λ (n : TransactionReport). n.timestamp) ns) t ↔ (is_open (table t) ≡ true)
-  pub right : All (λ (n : TransactionReport). option_map (transaction_report n.timestamp) (table n.timestamp) ≡ Some n) ns
+  pub each : (t : ℕ) → Contains (map (λ (n : TransactionReport). n.timestamp) ns) t ↔ (is_open (k.transaction t) ≡ true)
+  pub right : All (IsToldOf k) ns
 
 -- a number that is above a bound
 abbrev pub if_above : ℕ → ℕ → Option ℕ
@@ -61,7 +62,7 @@ pub record AreLive (feed : ℕ → Option Place) (ns : List FeedReport) : Type 0
 
 -- n is how many versions are kept
 abbrev pub IsVersionCount : Kept → ℕ → Type 0
-IsVersionCount k n = (vs : List VersionName) × AreThose (λ v. is_some (k.version v.key v.ts)) vs × (n ≡ length vs)
+IsVersionCount k n = IsNumberOf (λ (v : VersionName). is_some (k.version v.key v.ts)) n
 
 -- the report of what is kept
 pub record IsKeptReport (k : Kept) (r : Report) : Type 0 where
@@ -69,6 +70,6 @@ pub record IsKeptReport (k : Kept) (r : Report) : Type 0 where
   pub horizon : r.horizon ≡ k.horizon
   pub versions : IsVersionCount k r.versions
   pub removable : r.removable ≡ None
-  pub transactions : AreOpen k.transaction r.transactions.items
+  pub transactions : AreOpen k r.transactions.items
   pub protections : r.protections.items ≡ map protection_report (reverse k.protections)
   pub feeds : AreLive k.feed r.feeds.items

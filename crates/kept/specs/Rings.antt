@@ -1,16 +1,18 @@
--- Feeds that are served from rings, and the rows that are held back until they are closed. A ring has the rows that its
--- feed was not told, unless the feed is behind: then they are looked up in the versions that are kept.
-use Rattle.std.specs.Prelude.{Bool, List, None, Some, [], drop, false, filter, max, nat_lt, true, ℕ, ◌&&◌, ◌++◌, ◌==◌, ◌∷◌, ◌≡◌, ◌≤◌}
+-- Feeds that are served from rings. A ring has the rows that its feed was not told, unless the feed is behind: then they are
+-- looked up in the versions that are kept. A closing offers the rings the versions that it closed.
+use Rattle.std.specs.Prelude.{Bool, List, None, Option, Some, [], drop, false, filter, max, nat_lt, true, ℕ, ◌&&◌, ◌++◌, ◌==◌, ◌∷◌, ◌≡◌, ◌<◌, ◌≤◌, ◌↔◌, ◌⊎◌}
 use Rattle.timestamps.specs.declared.row.Row.{Row}
-use Rattle.spans.specs.Effects.{Closes, Effect, HardCloses, Opens, Polls, effect_of, effects_of}
+use Rattle.spans.specs.Effects.{After, Closes, Effect, HardCloses, Opens, Polls, effect_of, effects_of}
 use Rattle.spans.specs.Feeds.{Feed, feed_of, is_cancelled, untold_rows}
 use Rattle.spans.specs.Kept.{Kept, Place}
 use Rattle.spans.specs.Keys.{in_span}
 use Rattle.spans.specs.Legal.{IsLegal, IsRightEvent}
 use Rattle.spans.specs.Streams.{stream_of}
+use Rattle.spans.specs.Transactions.{closed_of}
 use Rattle.spans.specs.declared.calls.events.Event.{Event}
 use Rattle.spans.specs.declared.kind.Kind.{Kind}
 use Rattle.spans.specs.declared.span.Span.{Span}
+use Rattle.spans.proofs.StreamOrder.{IsRowIn, RisingRows}
 use Rattle.kept.specs.Places.{AreLeftAt}
 use Rattle.kept.specs.StandsFor.{StandsFor}
 
@@ -30,6 +32,11 @@ AreRings ring behind p = (f : ℕ) (feed : Feed) → feed_of p f ≡ Some feed �
 abbrev pub AreOffered : Kept → (ring ring' : ℕ → List Row) → (behind behind' : ℕ → Bool) → List Row → Type 0
 AreOffered k ring ring' behind behind' rows = (f : ℕ) (place : Place) → k.feed f ≡ Some place → behind' f ≡ false
     → (behind f ≡ false) × (ring' f ≡ ring f ++ filter (wanted place.span place.after) rows)
+
+-- the committed versions above a timestamp and at or below another, as rows in their order
+pub record AreCommittedBetween (version : List ℕ → ℕ → Option After) (committed : List ℕ → ℕ → Bool) (above through : ℕ) (rows : List Row) : Type 0 where
+  pub rising : RisingRows rows
+  pub each : (r : Row) → IsRowIn r rows ↔ ((version r.key r.ts ≡ Some r.after) × (committed r.key r.ts ≡ true) × (above < r.ts) × (r.ts ≤ through))
 
 -- the rings but that of f are as they were
 abbrev pub AreOthersSame : ℕ → (ring ring' : ℕ → List Row) → (behind behind' : ℕ → Bool) → Type 0
@@ -61,6 +68,14 @@ HoldWhatIsLeft k r = (f : ℕ) (place : Place) → k.feed f ≡ Some place → r
 -- each live feed is offered the rows of h that a closing at n releases
 abbrev pub AreOfferedAt : Kept → List Event → ℕ → Rings → Rings → Type 0
 AreOfferedAt k h n r r' = AreOffered k r.rows r'.rows r.behind r'.behind (stream_of (effects_of h) whole k.closed n)
+
+-- the effect closes through n
+abbrev pub IsClosing : Effect → ℕ → Type 0
+IsClosing d n = (d ≡ Closes n) ⊎ ((to : ℕ) × (d ≡ HardCloses to n))
+
+-- e closed through n after h: what is kept then has above the old closed timestamp just the rows of h that the closing releases
+abbrev pub AreReleasedBy : Kept → List Event → Event → ℕ → Type 0
+AreReleasedBy k h e n = let closed = closed_of (effects_of h) in AreCommittedBetween k.version k.committed closed n (stream_of (effects_of h) whole closed n)
 
 -- f lives, and has in its ring what is left for it but the first max, unless it is behind; the other rings stay
 abbrev pub IsPolledRing : Kept → ℕ → ℕ → Rings → Rings → Type 0

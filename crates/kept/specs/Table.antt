@@ -1,5 +1,5 @@
 -- What the table of transactions answers.
-use Rattle.std.specs.Prelude.{Bool, List, None, Option, Some, [], false, if◌then◌else◌, min, nat_le, not, true, ℕ, ◌-◌, ◌==◌, ◌≡◌, ◌≤◌}
+use Rattle.std.specs.Prelude.{Bool, None, Option, Some, false, if◌then◌else◌, min, nat_le, not, true, ℕ, ◌-◌, ◌==◌, ◌≡◌, ◌≤◌}
 use Rattle.spans.specs.Kept.{Kept, Transaction}
 use Rattle.spans.specs.declared.state.State.{State}
 use Rattle.spans.specs.declared.state.State.TheVariants as states
@@ -23,12 +23,7 @@ refusal k seat t = if nat_le t k.closed then Some Ended else transaction_refusal
 
 -- a transaction that has just begun
 abbrev pub new_transaction : ℕ → Transaction
-new_transaction seat = record { seat = seat; state = states.Undecided; keys = [] }
-
--- the keys that it wrote, rising
-abbrev pub keys_of : Option Transaction → List (List ℕ)
-keys_of None = []
-keys_of (Some n) = n.keys
+new_transaction seat = record { seat = seat; state = states.Undecided }
 
 -- the transaction is undecided
 abbrev pub is_open : Option Transaction → Bool

@@ -10,12 +10,12 @@ ghost use Rattle.spans.specs.Answer.{answer_of};
 ghost use Rattle.spans.specs.Legal.{is_accepted};
 ghost use Rattle.spans.specs.Kept.{Kept};
 ghost use Rattle.kept.specs.Leading.{Answers};
-ghost use Rattle.kept.specs.Answered.{IsScanReply, IsWriteReply, IsCloseReply, IsHardCloseReply, IsScanAtReply, IsCollectReply, IsPollReply, IsStatsReply};
-ghost use Rattle.kept.specs.Replies.{begin_reply, get_reply, commit_reply, abort_reply, read_at_reply, protect_reply, release_reply, open_reply, cancel_reply};
+ghost use Rattle.kept.specs.Answered.{IsScanReply, IsWriteReply, IsCommitReply, IsCloseReply, IsHardCloseReply, IsScanAtReply, IsCollectReply, IsPollReply, IsStatsReply};
+ghost use Rattle.kept.specs.Replies.{begin_reply, get_reply, abort_reply, read_at_reply, protect_reply, release_reply, open_reply, cancel_reply};
 
-/// Where k stands for a history, each reply that is made of k is the answer after that history. Some
-/// replies rest on what a layer finds in k: the keys of a span, the test of the marks, the oldest
-/// undecided transaction, the least floor, the rows left for a feed.
+/// Each reply that is made of `k` is the answer after the history that `k` stands for. Some replies rest on what a layer
+/// finds in `k`: the keys of a span, the test of the marks, the oldest undecided transaction, the least floor, the rows
+/// left for a feed.
 ///
 /// It does nothing. Its contract is the theorem.
 pub fn kept_answers()
@@ -24,7 +24,7 @@ pub fn kept_answers()
     ensures scan { (k : Kept) (seat t : ℕ) (span : Span) (r : Reply) → IsScanReply k seat t span r → Answers k seat (Scan t span) r }
     ensures put { (k : Kept) (seat t : ℕ) (x v : List ℕ) (r : Reply) → IsWriteReply k seat t x r → Answers k seat (Put t x v) r }
     ensures del { (k : Kept) (seat t : ℕ) (x : List ℕ) (r : Reply) → IsWriteReply k seat t x r → Answers k seat (Del t x) r }
-    ensures commit { (k : Kept) (seat t : ℕ) → Answers k seat (Commit t) (commit_reply k seat t) }
+    ensures commit { (k : Kept) (seat t : ℕ) (r : Reply) → IsCommitReply k seat t r → Answers k seat (Commit t) r }
     ensures abort { (k : Kept) (seat t : ℕ) → Answers k seat (Abort t) (abort_reply k seat t) }
     ensures close { (k : Kept) (seat to : ℕ) (r : Reply) → IsCloseReply k to r → Answers k seat (Close to) r }
     ensures close_hard { (k : Kept) (seat to : ℕ) (r : Reply) → IsHardCloseReply k to r → Answers k seat (CloseHard to) r }
@@ -33,7 +33,6 @@ pub fn kept_answers()
     ensures protect { (k : Kept) (seat t : ℕ) → Answers k seat (Protect t) (protect_reply k t) }
     ensures release { (k : Kept) (seat id : ℕ) → Answers k seat (Release id) (release_reply k id) }
     ensures collect { (k : Kept) (seat to : ℕ) (r : Reply) → IsCollectReply k to r → Answers k seat (Collect to) r }
-    ensures collect_accepted { (h : List Event) (seat to : ℕ) → to ≤ MAX → is_accepted (answer_of (effects_of h) seat (Collect to)) ≡ true }
     ensures open { (k : Kept) (seat c : ℕ) (span : Span) → Answers k seat (Open span c) (open_reply (kind_of false None) k c) }
     ensures open_initial { (k : Kept) (seat c : ℕ) (span : Span) → Answers k seat (OpenInitial span c) (open_reply (kind_of true None) k c) }
     ensures open_every { (k : Kept) (seat c gap : ℕ) (span : Span) → Answers k seat (OpenEvery span c gap) (open_reply (kind_of false (Some gap)) k c) }

@@ -8,7 +8,7 @@ ghost use Rattle.spans.specs.Kept.{Kept, Place};
 ghost use Rattle.kept.specs.StandsFor.{StandsFor};
 ghost use Rattle.kept.specs.Places.{AreFirsts, AreLeftAt, AreNext, AreParts, first_of};
 
-/// What is left for a feed is first what an initial feed has left of the values at its cursor, and
+/// The rows left for a feed are first those that an initial feed has left of the values at its cursor, and
 /// then the stored rows beyond its place. The first part is empty for a feed of another kind, for one
 /// that resolved its cursor or more, and for one that was told a row above its cursor; a poll for at
 /// most `max` rows asks for the second part only as far as the first leaves room. What was told lies

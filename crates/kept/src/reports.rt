@@ -8,7 +8,7 @@ ghost use Rattle.spans.specs.Report.{IsReport};
 ghost use Rattle.kept.specs.Reports.{IsKeptReport};
 ghost use Rattle.kept.specs.StandsFor.{StandsFor};
 
-/// Where k stands for a history, a report of what is kept is the live report of that history.
+/// A report of what is kept is the live report of the history that it stands for.
 ///
 /// It does nothing. Its contract is the theorem.
 pub fn kept_report()

@@ -1,14 +1,13 @@
-//! Feeds that are served from rings, and the rows that are held back until they are closed.
+//! Feeds that are served from rings, and the rows that a closing releases to them.
 ghost use Rattle.std.specs.Prelude.{List, [], ℕ, false, ◌∷◌};
 ghost use Rattle.spans.specs.declared.span.Span.{Span};
 ghost use Rattle.spans.specs.declared.calls.events.Event.{Event};
 ghost use Rattle.spans.specs.declared.calls.messages.Message.{Message};
 ghost use Rattle.spans.specs.declared.kind.Kind.{Kind};
-ghost use Rattle.spans.specs.Effects.{Commits, Closes, HardCloses, Opens, Polls};
+ghost use Rattle.spans.specs.Effects.{Closes, HardCloses, Opens, Polls, effect_of};
 ghost use Rattle.spans.specs.Kept.{Kept};
 ghost use Rattle.kept.specs.StandsFor.{StandsFor};
-ghost use Rattle.kept.specs.Rings.{Rings, AreRingsAt, RingsFollow, RingsLead, HoldWhatIsLeft, AreOfferedAt, IsPolledRing, IsOpenedRing, AreLiveSame, IsQuietAfter};
-ghost use Rattle.kept.specs.HeldBack.{HeldRows, AreHeldAt, AreHeldBack, HeldFollow, AreWholeThrough, AreReleasedAt, AreHeldFor, AreLetGoAt, IsStillAfter};
+ghost use Rattle.kept.specs.Rings.{Rings, AreRingsAt, RingsFollow, RingsLead, HoldWhatIsLeft, AreOfferedAt, IsPolledRing, IsOpenedRing, AreLiveSame, IsQuietAfter, IsClosing, AreReleasedBy};
 
 /// A feed that isn't behind is served from its ring: the ring has the rows that are left for it. A
 /// closing offers each ring the rows that it releases, a poll takes the first of them, and a feed
@@ -26,16 +25,10 @@ pub fn kept_rings()
     ensures others { (h : List Event) (e : Event) (r : Rings) → IsQuietAfter h e → AreRingsAt h r → AreRingsAt (e ∷ h) r }
 {}
 
-/// The rows of committed transactions are held back until they are closed: where none was lost
-/// through n, those through n are the rows that a closing at n releases. A commit adds its rows, a
-/// closing lets go those that it released.
+/// What a closing releases stands in what is kept: the committed versions above the timestamp that was closed before, at or
+/// below the one that is closed now. So nothing is held back for feeds between a commit and its closing.
 ///
 /// It does nothing. Its contract is the theorem.
-pub fn held_rows()
-    ensures released { (k : Kept) (h : List Event) (n : ℕ) (b : HeldRows) → StandsFor k h → AreHeldAt h b → AreWholeThrough k n b → AreReleasedAt k h n b }
-    ensures new { AreHeldBack [] (λ n. false) [] }
-    ensures commit { (k : Kept) (h : List Event) (t : ℕ) (b b' : HeldRows) → StandsFor k h → AreHeldFor k t b b' → HeldFollow h (Commits t) b b' }
-    ensures close { (h : List Event) (n : ℕ) (b b' : HeldRows) → AreLetGoAt n b b' → HeldFollow h (Closes n) b b' }
-    ensures hard_close { (h : List Event) (to n : ℕ) (b b' : HeldRows) → AreLetGoAt n b b' → HeldFollow h (HardCloses to n) b b' }
-    ensures others { (h : List Event) (e : Event) (b : HeldRows) → IsStillAfter h e → AreHeldAt h b → AreHeldAt (e ∷ h) b }
+pub fn released_rows()
+    ensures { (k : Kept) (h : List Event) (e : Event) (n : ℕ) → StandsFor k (e ∷ h) → IsClosing (effect_of e) n → AreReleasedBy k h e n }
 {}

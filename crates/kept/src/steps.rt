@@ -13,10 +13,10 @@ ghost use Rattle.kept.specs.StandsFor.{StandsFor, nothing_kept};
 ghost use Rattle.kept.specs.Leading.{LeadsTo, LeadsOn, Pairs};
 ghost use Rattle.kept.specs.Changes.{IsAlike, IsBegun, IsReadBy, IsScannedBy, IsWritten, IsCommittedBy, IsAbortedBy, IsClosedAt, IsHardClosedAt, IsCollectedTo, IsProtectedBy, IsReleasedFrom, IsOpenedAt, IsMovedBy, IsCancelledFrom};
 
-/// Where k stands for the history h, e is a right event after h, and k became k' as the event's effect
-/// wants it, k' stands for the history with e. At first nothing is kept, which stands for no event;
-/// and what is alike stands for the same history. All of them at once are `step`: a command that is
-/// answered by what is kept, and changes it as its effect wants it, or wants memory, leads on.
+/// Simulation: if `k` stands for the history `h`, an event is legal after `h`, and `k'` is `k` changed by the event's
+/// effect, then `k'` stands for the history with the event. At first nothing is kept, which stands for no event, and what
+/// is alike stands for the same history. The clause `step` is all of them at once: a command that is answered by what is
+/// kept, and changes it by its effect, or wants memory, leads on.
 ///
 /// It does nothing. Its contract is the theorem.
 pub fn kept_steps()

@@ -1,7 +1,7 @@
 //! A set of keys in order, of which the least lies in place.
 //!
-//! `txn_table` keeps in such a set what a transaction wrote, and `version_chain` the keys of a timestamp. Often that is
-//! one key, and a node of std's ordered set has room for fifteen, some 500 bytes. So a set has room for one key in itself.
+//! `version_chain` keeps in such a set the keys of a timestamp, which are what its transaction wrote. Often that is one
+//! key, and a node of std's ordered set has room for fifteen, some 500 bytes. So a set has room for one key in itself.
 //!
 //! A [`KeySet`] is seen as its keys, rising.
 //!

@@ -63,7 +63,8 @@ impl KeySet {
 
     /// How many keys there are.
     pub fn len(&self) -> usize
-        ensures { result ≡ length self.now }
+        ensures count { result ≡ length self.now }
+        ensures rising { RisingKeys self.now }
     {
         match self.least {
             None => 0,

@@ -6,7 +6,7 @@ use timestamps::key::Key;
 /// How many places of a hash are tried. They lie side by side.
 pub(crate) const PLACES: usize = 4;
 
-/// What no number is.
+/// The hint that is no number.
 const NONE: u32 = u32::MAX;
 
 /// The fewest places that there are, once there are some.

@@ -1,15 +1,15 @@
 //! Tests of the layers of storage and rules. They show that calls succeed where memory is there, and that the answers
 //! are the intended ones, by small worked cases. Nothing depends on this crate.
 //!
-//! They stand apart from the crates that they test, since the gate proves a crate that has tests two times. `txn_table`
-//! is tested by the rules that use it.
+//! They stand apart from the crates that they test, since the gate proves a crate that has tests two times.
 //!
 //! ```text
 //! closings    `closing`: closed, the protections that stand, and the least of them
-//! collections `collector`: horizons, held back by closed, protections and feeds, and the versions that went
+//! collections `mvto_rules`: horizons, held back by closed, protections and feeds, and the versions that went
 //! feeds       `feed`: openings and polls above the greatest timestamp
 //! keys        `key_set`: keys that come and go, and those above a key
 //! tables      `key_table`: the numbers of keys, while many come and go
+//! transactions `txn_table`: which stand and how, and those that are undecided
 //! versions    `version_chain`: writes, commits, aborts, collections, and searches
 //! marks       `read_marks`: spans that overlap, neighbours that are joined, pieces, readers that are forgotten
 //! rules       `mvto_rules`: who is blocked, who comes too late, which spans are marked, what is closed and what it ended

@@ -8,6 +8,7 @@ mod marks;
 mod rules;
 mod script;
 mod tables;
+mod transactions;
 mod versions;
 
 use closing::Closing;
@@ -18,6 +19,7 @@ use key_table::KeyTable;
 use mvto_rules::Rules;
 use read_marks::Marks;
 use script::play;
+use txn_table::Txns;
 use version_chain::Store;
 
 #[test]
@@ -25,6 +27,7 @@ fn layers(rt: HostRuntime) {
     play(&rt, &mut Closing::new(rt.alloc()), closings::SCRIPT);
     play(&rt, &mut KeySet::new(rt.alloc()), keys::SCRIPT);
     play(&rt, &mut KeyTable::new(rt.alloc()), tables::SCRIPT);
+    play(&rt, &mut Txns::new(rt.alloc()), transactions::SCRIPT);
     for script in versions::SCRIPTS {
         play(&rt, &mut Store::new(rt.alloc()), script);
     }

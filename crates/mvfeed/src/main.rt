@@ -27,7 +27,7 @@
 #![tactic(auto)]
 
 use command_line::sentences::{MEMORY, NO_SEED_FILE, NO_TEXT};
-use command_line::{Job, command, done, hint_of, job_in, status};
+use command_line::{Input, Job, command, done, hint_of, job_in, status};
 use sessions::{Reading, Writing};
 use std::env::Env;
 use std::fs::Files;
@@ -47,7 +47,7 @@ fn main(rt: HostRuntime) -> ExitCode {
             let Ok(seed) = seed_text(&rt, &job) else {
                 return status::failed(&rt, NO_SEED_FILE);
             };
-            let mut input = Reading::new(rt.reader());
+            let mut input = Input::new(rt.alloc(), Reading::new(rt.reader()));
             let mut output = Writing::new(io::writer(&rt));
             done(&rt, rt.alloc(), job, seed, &mut input, &mut output)
         }

@@ -13,15 +13,14 @@ use Rattle.spans.specs.declared.calls.replies.Refusal.TheVariants.{TsRange}
 use Rattle.spans.specs.declared.calls.replies.Reply.TheVariants.{Closed, Refused}
 use Rattle.spans.proofs.Members.{AreDistinct, Has}
 use Rattle.spans.proofs.Steps.{by_test}
-use Rattle.spans.proofs.WriteSets.{has}
 use Rattle.kept.specs.Answered.{IsStep}
 use Rattle.kept.specs.Changes.{IsClosedAt, IsHardClosedAt}
 use Rattle.kept.specs.Lists.{AreThose}
-use Rattle.kept.specs.Table.{IsOldest, is_open, keys_of, reach}
+use Rattle.kept.specs.Table.{IsOldest, is_open, reach}
 use Rattle.kept.proofs.Refusals.{within}
 use Rattle.kept.proofs.Staying.{alike_self}
 use Rattle.txn_table.specs.TransactionIn.{Table, transaction_in}
-use Rattle.version_chain.specs.Stores.{IsAbortedIn, Stored, version_in}
+use Rattle.version_chain.specs.Stores.{AreDroppedAt, Stored, version_in}
 use Rattle.mvto_rules.specs.Closings.{AreTakenBack, is_taken_back}
 use Rattle.mvto_rules.specs.Tables.{AreInRange}
 use Rattle.timestamps.specs.declared.ts.TheConstants.{MAX}
@@ -40,13 +39,13 @@ has_among i (x ∷ xs) h = elim h [ inl here ↦ or_left (x == i) (is_among i xs
 
 -- the transactions that are left are still to be taken back
 pub record IsTakingBack (s s' : Stored) (table : Table) (to : ℕ) (rest : List ℕ) : Type 0 where
-  pub taken : AreTakenBack s s' table (λ i. is_taken_back table to i && not (is_among i rest))
+  pub taken : AreTakenBack s s' (λ i. is_taken_back table to i && not (is_among i rest))
   pub part : (t : ℕ) → Has t rest → is_taken_back table to t ≡ true
   pub distinct : AreDistinct rest
 
 pub taking_begins : (s : Stored) (table : Table) (to : ℕ) (all : List ℕ) → AreThose (is_taken_back table to) all → IsTakingBack s s table to all
 taking_begins s table to all those = record {
-  taken = record { version = λ y i. sym (ap (λ b. cond (b && has y (keys_of (transaction_in table i))) None (version_in s y i)) (none i)); committed = λ y i b e. refl };
+  taken = record { version = λ y i. sym (ap (λ b. cond b None (version_in s y i)) (none i)); committed = λ y i b e. refl };
   part = λ t i. (those.each t).0 i;
   distinct = those.distinct;
 }
@@ -62,7 +61,7 @@ is_some_not : (a b : Option After) (c : Bool) → a ≡ cond c None b → (v : A
 is_some_not a b true is v e = (let no : None ≡ Some v = sym is ∙ e in cc)
 is_some_not a b false is v e = sym is ∙ e
 
-some_open : (o : Option Transaction) → is_open o ≡ true → is_some o ≡ true
+pub some_open : (o : Option Transaction) → is_open o ≡ true → is_some o ≡ true
 some_open None e = cc
 some_open (Some n) e = refl
 
@@ -70,44 +69,32 @@ some_open (Some n) e = refl
 pub taken_in_range : (table : Table) (to t : ℕ) → AreInRange table → is_taken_back table to t ≡ true → (1 ≤ t) × (t ≤ MAX)
 taken_in_range table to t range is = range t (some_open (transaction_in table t) (and_parts (nat_le t to) (is_open (transaction_in table t)) is).1)
 
-pub taking_goes_on : (s s1 s2 : Stored) (table : Table) (to x : ℕ) (rest : List ℕ) → IsTakingBack s s1 table to (x ∷ rest) → IsAbortedIn s1 s2 x (keys_of (transaction_in table x)) → IsTakingBack s s2 table to rest
+pub taking_goes_on : (s s1 s2 : Stored) (table : Table) (to x : ℕ) (rest : List ℕ) → IsTakingBack s s1 table to (x ∷ rest) → AreDroppedAt s1 s2 x → IsTakingBack s s2 table to rest
 taking_goes_on s s1 s2 table to x rest taking aborted = record {
   taken = record {
     version = λ y i. by_test (x == i)
-        (λ same. subst (λ j. version_in s2 y j ≡ cond ((is_taken_back table to j && not (is_among j rest)) && has y (keys j)) None (version_in s y j)) (eqb-true x i same) (here y))
-        (λ other. aborted.version y i ∙ ap (λ b. cond (b && has y (keys x)) None (version_in s1 y i)) other ∙ taking.taken.version y i
-        ∙ ap (λ b. cond ((is_taken_back table to i && not (b || is_among i rest)) && has y (keys i)) None (version_in s y i)) other);
-    committed = λ y i b e. aborted.committed y i b e ∙ taking.taken.committed y i b (is_some_not (version_in s2 y i) (version_in s1 y i) ((x == i) && has y (keys x)) (aborted.version y i) b e);
+        (λ same. subst (λ j. version_in s2 y j ≡ cond (is_taken_back table to j && not (is_among j rest)) None (version_in s y j)) (eqb-true x i same) (here y))
+        (λ other. aborted.version y i ∙ ap (λ b. cond b None (version_in s1 y i)) other ∙ taking.taken.version y i ∙ ap (λ b. cond (is_taken_back table to i && not (b || is_among i rest)) None (version_in s y i)) other);
+    committed = λ y i b e. aborted.committed y i b e ∙ taking.taken.committed y i b (is_some_not (version_in s2 y i) (version_in s1 y i) (x == i) (aborted.version y i) b e);
   };
   part = λ t i. taking.part t (inr i);
   distinct = taking.distinct.1;
 }
   where
-    keys : ℕ → List (List ℕ)
-    keys i = keys_of (transaction_in table i)
-
-    itself : (x == x) ≡ true
-    itself = eq-eqb x x refl
-
     gone : (is_taken_back table to x && not (is_among x rest)) ≡ true
     gone = by_test (is_among x rest)
         (λ on. absurd (taking.distinct.0 (among_has x rest on)))
         (λ off. ap (λ b. b && not (is_among x rest)) (taking.part x (inl refl)) ∙ ap not off)
 
-    left : (is_taken_back table to x && not (is_among x (x ∷ rest))) ≡ false
-    left = ap (λ b. b && not (is_among x (x ∷ rest))) (taking.part x (inl refl)) ∙ ap not (or_left (x == x) (is_among x rest) itself)
+    here : (y : List ℕ) → version_in s2 y x ≡ cond (is_taken_back table to x && not (is_among x rest)) None (version_in s y x)
+    here y = aborted.version y x ∙ ap (λ b. cond b None (version_in s1 y x)) (eq-eqb x x refl) ∙ sym (ap (λ b. cond b None (version_in s y x)) gone)
 
-    here : (y : List ℕ) → version_in s2 y x ≡ cond ((is_taken_back table to x && not (is_among x rest)) && has y (keys x)) None (version_in s y x)
-    here y = aborted.version y x ∙ ap (λ b. cond (b && has y (keys x)) None (version_in s1 y x)) itself
-        ∙ ap (λ o. cond (has y (keys x)) None o) (taking.taken.version y x ∙ ap (λ b. cond (b && has y (keys x)) None (version_in s y x)) left)
-        ∙ sym (ap (λ b. cond (b && has y (keys x)) None (version_in s y x)) gone)
-
-pub taking_ends : (s s' : Stored) (table : Table) (to : ℕ) → IsTakingBack s s' table to [] → AreTakenBack s s' table (is_taken_back table to)
-taking_ends s s' table to taking = record { version = λ y i. taking.taken.version y i ∙ ap (λ b. cond (b && has y (keys_of (transaction_in table i))) None (version_in s y i)) (and-true (is_taken_back table to i)); committed = taking.taken.committed }
+pub taking_ends : (s s' : Stored) (table : Table) (to : ℕ) → IsTakingBack s s' table to [] → AreTakenBack s s' (is_taken_back table to)
+taking_ends s s' table to taking = record { version = λ y i. taking.taken.version y i ∙ ap (λ b. cond b None (version_in s y i)) (and-true (is_taken_back table to i)); committed = taking.taken.committed }
 
 -- what was taken back and then closed was closed hard
 pub hard_closed : (k k' : Kept) (v : List ℕ → ℕ → Option After) (d : List ℕ → ℕ → Bool) (to n : ℕ)
-    → ((y : List ℕ) (i : ℕ) → v y i ≡ cond ((nat_le i to && is_open (k.transaction i)) && has y (keys_of (k.transaction i))) None (k.version y i)) → ((y : List ℕ) (i : ℕ) (b : After) → v y i ≡ Some b → d y i ≡ k.committed y i)
+    → ((y : List ℕ) (i : ℕ) → v y i ≡ cond (nat_le i to && is_open (k.transaction i)) None (k.version y i)) → ((y : List ℕ) (i : ℕ) (b : After) → v y i ≡ Some b → d y i ≡ k.committed y i)
     → IsClosedAt (record k { version = v; committed = d }) k' n → IsHardClosedAt k k' to n
 hard_closed k k' v d to n version committed closed =
     let sv : k'.version ≡ v = ap (λ (j : Kept). j.version) closed.rest in

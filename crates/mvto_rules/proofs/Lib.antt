@@ -8,6 +8,7 @@ pub mod Closing
 pub mod Listing
 pub mod Replies
 pub mod AtClosed
-pub mod Writing
+pub mod Telling
+pub mod Collections
 pub mod Committed
 pub mod Ending

@@ -1,5 +1,5 @@
 -- What the reply to each command of a transaction changes, by what was found for it.
-use Rattle.std.proofs.Common.{Bool, Err, List, None, Ok, Option, Result, Some, ap, cond, false, inl, inr, length, refl, subst, sym, true, ℕ, ◌⊎◌, ◌∷◌, ◌≡◌, ◌∙◌, []}
+use Rattle.std.proofs.Common.{Bool, Err, List, None, Ok, Option, Result, Some, ap, cond, false, inl, inr, refl, subst, sym, true, ℕ, ◌⊎◌, ◌∷◌, ◌≡◌, ◌∙◌, []}
 use Rattle.std.specs.Prelude.{IfOk, OnErr, is_some, map, nat_le, not}
 use Rattle.spans.specs.Answer.{first_refusal_or, is_timestamp}
 use Rattle.spans.specs.Effects.{After, effect}
@@ -18,9 +18,10 @@ use Rattle.kept.specs.Answered.{IsAnswered, IsChangedBy, IsScanReply, IsStep, Is
 use Rattle.kept.specs.Changes.{IsAbortedBy, IsAlike, IsBegun, IsCommittedBy, IsReadBy, IsScannedBy, IsWritten}
 use Rattle.kept.specs.Finding.{AreKeysOf, is_seen_blocked, seen}
 use Rattle.kept.specs.Leading.{Pairs}
+use Rattle.kept.specs.Lists.{IsNumberOf}
 use Rattle.kept.specs.Marks.{IsLate}
 use Rattle.kept.specs.Replies.{begin_reply, get_reply, scan_reply, unless_refused, write_reply}
-use Rattle.kept.specs.Table.{keys_of, refusal}
+use Rattle.kept.specs.Table.{refusal}
 use Rattle.kept.proofs.Staying.{alike_self}
 use Rattle.mvto_rules.specs.Accepting.{IsScanAccepted, IsWriteAccepted}
 use Rattle.mvto_rules.specs.Holding.{Changes, Holds, Stays, StaysIfRefused, Steps, holding, write_of}
@@ -169,11 +170,11 @@ write_steps r r' seat t x a (Err e) reply same none right written late refused a
 -- ---- the end of a transaction
 
 pub commit_refused : (k : Kept) (seat t : ℕ) (q : Refusal) → refusal k seat t ≡ Some q → IsStep k k seat (Commit t) (Refused q)
-commit_refused k seat t q is = inl (record { right = sym (ap (λ o. unless_refused o (Committed (length (keys_of (k.transaction t))))) is); change = alike_self k })
+commit_refused k seat t q is = inl (record { right = (0, (λ free. (let no : None ≡ Some q = sym free ∙ is in cc)), sym (ap (λ o. unless_refused o (Committed 0)) is)); change = alike_self k })
 
-pub commit_done : (k k' : Kept) (seat t s keys : ℕ) → s ≡ t → refusal k seat t ≡ None → keys ≡ length (keys_of (k.transaction s)) → IsCommittedBy k k' s → IsStep k k' seat (Commit t) (Committed keys)
+pub commit_done : (k k' : Kept) (seat t s keys : ℕ) → s ≡ t → refusal k seat t ≡ None → IsNumberOf (λ x. is_some (k.version x s)) keys → IsCommittedBy k k' s → IsStep k k' seat (Commit t) (Committed keys)
 commit_done k k' seat t s keys same free counted done = inl (record {
-  right = ap Committed (counted ∙ ap (λ n. length (keys_of (k.transaction n))) same) ∙ sym (ap (λ o. unless_refused o (Committed (length (keys_of (k.transaction t))))) free);
+  right = (keys, (λ none. subst (λ n. IsNumberOf (λ x. is_some (k.version x n)) keys) same counted), sym (ap (λ o. unless_refused o (Committed keys)) free));
   change = subst (IsCommittedBy k k') same done;
 })
 

@@ -2,10 +2,9 @@
 use Rattle.std.specs.Prelude.{Bool, List, None, Some, if◌then◌else◌, length, nat_le, ℕ, ◌&&◌, ◌≡◌}
 use Rattle.spans.specs.Effects.{After}
 use Rattle.spans.specs.Kept.{Kept}
-use Rattle.spans.proofs.WriteSets.{has}
 use Rattle.kept.specs.Lists.{AreThose}
 use Rattle.kept.specs.Marks.{IsForgotten}
-use Rattle.kept.specs.Table.{is_open, keys_of}
+use Rattle.kept.specs.Table.{is_open}
 use Rattle.txn_table.specs.TransactionIn.{Table, transaction_in}
 use Rattle.version_chain.specs.Stores.{Stored, is_committed_in, version_in}
 use Rattle.mvto_rules.specs.Holding.{marked_of}
@@ -16,8 +15,8 @@ abbrev pub is_taken_back : Table → ℕ → ℕ → Bool
 is_taken_back table to t = nat_le t to && is_open (transaction_in table t)
 
 -- what the transactions of these timestamps wrote is gone
-pub record AreTakenBack (s s' : Stored) (table : Table) (among : ℕ → Bool) : Type 0 where
-  pub version : (y : List ℕ) (i : ℕ) → version_in s' y i ≡ (if among i && has y (keys_of (transaction_in table i)) then None else version_in s y i)
+pub record AreTakenBack (s s' : Stored) (among : ℕ → Bool) : Type 0 where
+  pub version : (y : List ℕ) (i : ℕ) → version_in s' y i ≡ (if among i then None else version_in s y i)
   pub committed : (y : List ℕ) (i : ℕ) (b : After) → version_in s' y i ≡ Some b → is_committed_in s' y i ≡ is_committed_in s y i
 
 -- how many transactions a hard closing at to takes back

@@ -7,6 +7,6 @@ pub mod Holding
 pub mod Accepting
 pub mod Snapshots
 pub mod Closings
-pub mod Collecting
+pub mod Reaching
 pub mod Looking
 pub mod Room

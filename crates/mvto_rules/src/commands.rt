@@ -1,10 +1,12 @@
-//! Each command that the rules answer. Want of memory becomes an answer here.
+//! Each command that the rules answer. Running out of memory becomes an answer here.
 ghost use Rattle.std.specs.Prelude.{ℕ, ◌≡◌, ◌<◌, ◌≤◌, IfOk, OnErr};
 ghost use Rattle.std.specs.Option.{option_copied};
 ghost use Rattle.timestamps.specs.declared.ts.TheConstants.{MAX};
-ghost use Rattle.spans.specs.declared.calls.commands.Cmd.TheVariants.{Abort, Begin, Close, CloseHard, Commit, Get, Protect, ReadAt, Release, Scan, ScanAt};
+ghost use Rattle.spans.specs.declared.calls.commands.Cmd.TheVariants.{Abort, Begin, Close, CloseHard, Collect, Commit, Get, Protect, ReadAt, Release, Scan, ScanAt};
 ghost use Rattle.spans.specs.declared.calls.replies.Refusal.TheVariants.{NoMemory};
 ghost use Rattle.spans.specs.declared.calls.replies.Reply.TheVariants.{Refused};
+ghost use Rattle.kept.specs.Answered.{IsStep};
+ghost use Rattle.kept.specs.Places.{IsLeastFloor};
 ghost use Rattle.closing.specs.Standing.{closed_in, made_in};
 
 use crate::forgetting::take_back_through;
@@ -17,7 +19,7 @@ use timestamps::ts::MAX;
 use timestamps::value::Value;
 
 impl Rules {
-    ghost use Rattle.mvto_rules.specs.Holding.{Steps, closing_of, write_of};
+    ghost use Rattle.mvto_rules.specs.Holding.{Changes, Steps, closing_of, write_of};
     ghost use Rattle.mvto_rules.specs.Closings.{AreMarksForgotten};
 
     /// Begins a transaction of a seat.
@@ -102,6 +104,20 @@ impl Rules {
         let at = self.closing.close_hard(to);
         self.forget_closed();
         Reply::Closed { at, aborted }
+    }
+
+    /// Collects through `to`, where `floor` is the least floor of the feeds, if any lives. It drops the versions that are
+    /// dead by the horizon that it reaches, and takes no memory.
+    pub fn collect(&mut self, to: u64, floor: Option<u64>) -> Reply
+        ensures step { (seat : ℕ) → Changes self.old self.new (λ k k'. IsLeastFloor k.feed floor → IsStep k k' seat (Collect to) result) }
+    {
+        if to > MAX {
+            return Reply::Refused(Refusal::TsRange);
+        }
+        let horizon = self.horizon.max(to.min(self.limit(floor)));
+        let removed = self.store.drop_dead(horizon);
+        self.horizon = horizon;
+        Reply::Collected { horizon, removed }
     }
 
     /// Protects a timestamp.

@@ -1,10 +1,9 @@
 //! A span cut into the pieces that a scan marks.
 //!
-//! Of the keys that it reads the scan marks all, each in the gap of its own read: above the version that was read, and
-//! up to the next one. A key without a version has the gap of all timestamps. Where all readers of a key lie in its own
-//! gap, marking it in the gap of all timestamps does the same. So one piece mostly has the whole span. It is cut at keys
-//! of which the reader has its own version, since a read of that marks nothing, and at keys with a reader outside of
-//! their gap.
+//! A scan marks every key of its span, each in the gap of its read: above the version that was read, and up to the next
+//! one. A key without a version has the gap of all timestamps. A key whose readers all lie in its own gap may as well be
+//! marked in that of all timestamps, so one piece mostly has the whole span. It is cut at keys that the reader wrote
+//! itself, since such a read marks nothing, and at keys with a reader outside of their gap.
 ghost use Rattle.std.specs.Prelude.{◌≡◌, ◌++◌, ◌∷◌, [], IfOk, OnOk};
 ghost use Rattle.kept.specs.Marks as marking;
 

@@ -6,7 +6,6 @@ ghost use Rattle.mvto_rules.specs.Closings.{AreTakenBack, IsCountTakenBack, is_t
 ghost use Rattle.mvto_rules.specs.Tables.{AreInRange};
 
 use crate::rules::Rules;
-use crate::written::abort_written;
 use timestamps::ts::Ts;
 use txn_table::Txns;
 use version_chain::Store;
@@ -30,14 +29,14 @@ impl Rules {
 /// Takes back what the undecided transactions at or below `to` wrote, and says how many they are.
 pub(crate) fn take_back_through(store: &mut Store, txns: &Txns, to: u64) -> u64
     requires in_range { AreInRange txns.now }
-    ensures gone { AreTakenBack store.old store.new txns.now (is_taken_back txns.now to) }
+    ensures gone { AreTakenBack store.old store.new (is_taken_back txns.now to) }
     ensures count { IsCountTakenBack txns.now to result }
 {
     let mut count = 0u64;
     for ts in txns.undecided_through(to) {
         // each number in the table is one
         let ts = Ts::new(ts.0).unwrap();
-        abort_written(store, txns, ts);
+        store.abort(ts);
         count += 1;
     }
     count

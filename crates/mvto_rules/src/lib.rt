@@ -5,11 +5,14 @@
 //! 2. A write is too late where a reader above it has read the version below it. Then its transaction is aborted.
 //! 3. At or below closed all transactions have ended. They are forgotten, and so are the marks there.
 //! 4. A snapshot is read between horizon and closed, and marks nothing.
-//! 5. A call's reply, and what becomes of what is held, are those of its command. Want of memory changes nothing.
+//! 5. The horizon never falls. A collection moves it past neither closed, nor a protection, nor the least floor of the
+//!    feeds, which the caller tells.
+//! 6. A call's reply, and what becomes of what is held, are those of its command. Running out of memory changes nothing.
+//!
+//! What a transaction wrote is what has a version at its timestamp, and no other list of it is kept.
 //!
 //! A caller may ask with any seat and any number. Only `protect` asks for something: that fewer than
-//! 18446744073709551615 protections were made. What `take_versions` took out has to come back by `put_back`, which no
-//! contract asks for.
+//! 18446744073709551615 protections were made.
 //!
 //! ```text
 //!                          versions of "b"    readers of "b"   of "c"   closed
@@ -47,28 +50,31 @@
 //! - `close`: O(log n) for each transaction that goes; `close_hard`: also an abort of each that it takes back
 //! - `protect`, `release`: O(log p)
 //! - `read_at`: O(log k + log v); `scan_at`: O(log k), and O(log v) for each key that it meets
-//! - `take_versions`, `put_back`, `closed`, `horizon`: O(1)
+//! - `collect`: O(log n) for each version written since the last horizon, up to its own; and for each key of these a look
+//!   through one block, and at the starts of all; `limit`: O(log p)
+//! - `closed`, `horizon`: O(1); `undecided_report`: O(log n) for each undecided transaction
 //! - `oldest_undecided`, `reached`: O(log n); `version_at`: O(log k + log v), for each undecided version above it too
 //!
 //! A read copies readers that its key shares with others, and goes over all spans once these have doubled. Memory:
-//! `begin`, reads, writes and `protect` take it, but for writes that are too late and reads that are blocked. The others
-//! take none. A write notes its key first; where its version finds no memory, a new key is taken out again.
+//! `begin`, reads, writes, `protect` and `undecided_report` take it, but for writes that are too late and reads that are
+//! blocked. The others take none.
 //!
 //! Tests: `layer_tests`.
 #![tactic(auto)]
 
+mod collecting;
 mod commands;
 mod cut;
 mod forgetting;
 mod holdings;
 mod looking;
 mod reading;
+mod report;
 mod room;
 mod rules;
 mod sight;
 mod snapshots;
 mod spot;
 mod walk;
-mod written;
 
 pub use rules::Rules;

@@ -17,7 +17,7 @@ use timestamps::ts::Ts;
 use timestamps::value::Value;
 use version_chain::{Steps, Store};
 
-/// What a scan reads.
+/// The findings of a scan.
 pub(crate) enum Reading {
     /// Nothing: at the least key where something stops the reader, its timestamp.
     Stopped(u64),

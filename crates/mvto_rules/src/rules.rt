@@ -1,6 +1,6 @@
 //! The versions, the marks of readers, the transactions and what is closed, under the rules that tie them.
 //! `Sight::of` is the read rule, which gets and scans apply, and `is_too_late` the write rule.
-ghost use Rattle.std.specs.Prelude.{◌≡◌, ◌<◌, ◌≤◌, length, true, Some, None, IfOk, IfErr, OnOk, OnErr};
+ghost use Rattle.std.specs.Prelude.{◌≡◌, ◌<◌, ◌≤◌, is_some, true, Some, None, IfOk, IfErr, OnOk, OnErr};
 ghost use Rattle.std.specs.Option.{option_copied};
 ghost use Rattle.timestamps.specs.declared.ts.TheConstants.{MAX};
 ghost use Rattle.spans.specs.Effects.{After};
@@ -17,7 +17,8 @@ ghost use Rattle.kept.specs.Finding.{IsNextAbove, seen};
 ghost use Rattle.kept.specs.Marks.{IsLate};
 ghost use Rattle.kept.specs.Replies.{begin_reply, get_reply};
 ghost use Rattle.kept.specs.StandsFor.{nothing_kept};
-ghost use Rattle.kept.specs.Table.{keys_of, refusal};
+ghost use Rattle.kept.specs.Lists.{IsNumberOf};
+ghost use Rattle.kept.specs.Table.{refusal};
 ghost use Rattle.closing.specs.Standing.{closed_in};
 ghost use Rattle.version_chain.specs.Stores.{version_in};
 ghost use Rattle.mvto_rules.specs.Accepting.{IsScanAccepted, IsWriteAccepted};
@@ -26,7 +27,6 @@ ghost use Rattle.mvto_rules.specs.Tables.{AreInRange};
 use crate::reading::{Reading, read_span};
 use crate::sight::{Sight, value_of};
 use crate::spot::span_of;
-use crate::written::{abort_written, commit_written};
 use closing::Closing;
 use read_marks::{Marks, Piece};
 use spans::calls::{Refusal, Reply, Rows};
@@ -161,7 +161,7 @@ impl Rules {
             self.take_back(ts);
             return Ok(Reply::Refused(Refusal::TooLate));
         }
-        self.store_version(ts, key, after)?;
+        self.store.write(key, ts, after)?;
         Ok(Reply::Written)
     }
 
@@ -176,22 +176,6 @@ impl Rules {
         }
         let next = self.store.next_above(key, at);
         self.marks.any_between(key, at, next)
-    }
-
-    /// Notes a key, and puts its version in. Where that is refused, a new key is taken out again.
-    fn store_version(&mut self, ts: Ts, key: &Key, after: Option<&Value>) -> Result<(), AllocError>
-        ensures ok { OnOk result (Changes self.old self.new (λ k k'. IsWritten k k' ts key.now (option_copied after.entry))) }
-        ensures err { OnErr result (Stays self.old self.new) }
-    {
-        let new = self.txns.add_key(ts, key)?;
-        let Err(refused) = self.store.write(key, ts, after) else {
-            return Ok(());
-        };
-        if !new {
-            return Err(refused);
-        }
-        self.txns.remove_key(ts, key);
-        Err(refused)
     }
 
     /// Reads the keys of a span, and marks the reader at all of them, those without a version too, but
@@ -228,9 +212,9 @@ impl Rules {
     /// Commits what a transaction wrote, notes that it has committed, and says how many keys it wrote.
     pub(crate) fn commit_writes(&mut self, ts: Ts) -> u64
         ensures committed { Changes self.old self.new (λ k k'. IsCommittedBy k k' ts) }
-        ensures count { Holds self.old (λ k. result ≡ length (keys_of (k.transaction ts))) }
+        ensures count { Holds self.old (λ k. IsNumberOf (λ x. is_some (k.version x ts)) result) }
     {
-        let keys = commit_written(&mut self.store, &self.txns, ts);
+        let keys = self.store.commit(ts);
         self.txns.decide(ts, Outcome::Committed);
         keys
     }
@@ -239,7 +223,7 @@ impl Rules {
     pub(crate) fn take_back(&mut self, ts: Ts)
         ensures { Changes self.old self.new (λ k k'. IsAbortedBy k k' ts) }
     {
-        abort_written(&mut self.store, &self.txns, ts);
+        self.store.abort(ts);
         self.txns.decide(ts, Outcome::Aborted);
     }
 

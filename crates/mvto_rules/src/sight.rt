@@ -14,16 +14,16 @@ use version_chain::chain::Version;
 pub(crate) enum Sight {
     /// The reader's own.
     Own,
-    /// That of another, which has committed, or none: its timestamp, or 0.
+    /// A version of another, which has committed, or none: its timestamp, or 0.
     Other(u64),
-    /// That of another, which is undecided: its timestamp.
+    /// A version of another, which is undecided: its timestamp.
     Blocked(u64),
 }
 
 impl Sight {
     ghost use Rattle.mvto_rules.specs.Sights.{sight_of};
 
-    /// What a read of `ts` finds, whose newest version is this one, where there is one.
+    /// The sight of a read of `ts`, whose newest version is this one, where there is one.
     pub(crate) fn of(newest: Option<&Version>, ts: Ts) -> Sight
         ensures sight { result ≡ sight_of ts (option_copied newest.entry) }
         ensures above { IfSome (option_copied newest.entry) (λ v. 1 ≤ v.ts) }
@@ -42,7 +42,7 @@ impl Sight {
     }
 }
 
-/// What the version left, once more; nothing where there is none.
+/// A copy of what the version left; nothing where there is none.
 pub(crate) fn value_of(newest: Option<&Version>) -> Result<Option<Value>, AllocError>
     ensures { IfOk result (λ after. after ≡ value_in (option_copied newest.entry)) }
 {

@@ -24,7 +24,7 @@ use version_chain::{Steps, Store};
 impl Rules {
     ghost use Rattle.mvto_rules.specs.Holding.{Changes, Holds, closing_of};
 
-    /// That `t` is below the horizon, if it is: what was there may be gone.
+    /// A refusal where `t` is below the horizon: what was there may be gone.
     pub fn horizon_refusal(&self, t: u64) -> Option<Refusal>
         ensures { Holds self.now (λ k. result ≡ horizon_refusal k t) }
     {
@@ -47,7 +47,7 @@ impl Rules {
         self.horizon_refusal(t)
     }
 
-    /// What the newest version of a key at or below `t` left.
+    /// The value that the newest version of a key at or below `t` left.
     pub(crate) fn try_read_at(&self, t: u64, key: &Key) -> Result<Reply, AllocError>
         ensures answered { IfOk result (λ reply. (seat : ℕ) → Holds self.now (λ k. IsAnswered k k seat (ReadAt t key.now) reply)) }
         ensures wanting { OnErr result ((seat : ℕ) → Holds self.now (λ k. IsWanting k k seat (ReadAt t key.now))) }

@@ -17,7 +17,7 @@ use timestamps::value::Value;
 use version_chain::Steps;
 use version_chain::chain::{Chain, Version};
 
-/// What a scan has found so far: its rows, and the pieces that it will mark.
+/// The findings of a scan so far: its rows, and the pieces that it will mark.
 #[derive(Drop)]
 pub(crate) struct Walk {
     alloc: Global,

@@ -10,3 +10,4 @@ pub mod TakenLines
 pub mod Followers
 pub mod Shown
 pub mod Reported
+pub mod GoingOn

@@ -69,7 +69,7 @@ no_fault r x f e h = cc
 
 -- of a text that is read as a trace the verdict is `yes`
 trace_says : (text : List ℕ) (es : List Event) → transcript_at (format_of text) text ≡ Ok es → IsTrace es → SaysYes text
-trace_says text es read trace ends.Done out verdict = (refl, verdict.3)
+trace_says text es read trace (ends.Right count) out verdict = (refl, verdict.4)
 trace_says text es read trace (ends.No position) out verdict =
     let same : verdict.0 ≡ es = one_result (transcript_at (format_of text) text) verdict.0 es verdict.1 read in
     absurd (wrong_is_no_trace es position (subst (λ (xs : List Event). IsFirstWrong xs position) same verdict.2) trace)

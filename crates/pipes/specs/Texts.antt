@@ -1,5 +1,5 @@
 -- Which histories have a text that is read again (this project's own).
-use Rattle.std.specs.Prelude.{ℕ, List, ◌+◌, ◌<◌, ◌≡◌, ◌≤◌, codes, length}
+use Rattle.std.specs.Prelude.{ℕ, List, ◌+◌, ◌<◌, ◌≡◌, ◌≤◌, codes, length, true}
 use Rattle.std.specs.List.{All}
 use Rattle.text_format.specs.declared.Format.{Format}
 use Rattle.spans.specs.declared.calls.events.Event.{Event}
@@ -7,7 +7,7 @@ use Rattle.sessions.specs.Made.{IsHistory}
 use Rattle.sessions.specs.declared.ending.ServeEnd.{ServeEnd}
 use Rattle.sessions.specs.declared.ending.ServeEnd.TheVariants as run
 use Rattle.word_lines.specs.Limits.{IsCommand}
-use Rattle.jobs.specs.Verdicts.{IsVerdict}
+use Rattle.jobs.specs.Verdicts.{IsVerdict, is_right}
 use Rattle.jobs.specs.declared.ending.End.{End}
 use Rattle.jobs.specs.declared.ending.End.TheVariants as ends
 
@@ -29,7 +29,7 @@ pub record IsWritable (format : Format) (first : ℕ) (events : List Event) : Ty
 -- `check` says `yes` of the text, and nothing else. A text with a faulty line would contradict this, and so would one of
 -- events of which one is wrong
 abbrev pub SaysYes : List ℕ → Type 0
-SaysYes text = (end : End) (out : List ℕ) → IsVerdict text end out → (end ≡ ends.Done) × (out ≡ codes "yes\n")
+SaysYes text = (end : End) (out : List ℕ) → IsVerdict text end out → (is_right end ≡ true) × (out ≡ codes "yes\n")
 
 -- at these ends the output of a run is the text of whole events, and of nothing else. At the others a line stands behind
 -- them, or one of them is cut, or nothing was begun

@@ -1,12 +1,16 @@
 //! What one part writes the next one takes, as the contracts of functions that do nothing.
 ghost use Rattle.std.specs.Prelude.{List, None, Ok, Some, length, reverse, ℕ, ◌≡◌, ◌≤◌};
-ghost use Rattle.std.specs.List.{All};
+ghost use Rattle.std.specs.List.{All, flat_map};
 ghost use Rattle.embedded.specs.Embedded.{StandsFor};
 ghost use Rattle.embedded.specs.declared.database.Database.{Database};
+ghost use Rattle.embedded_replica.specs.Seeds.{pairs_at};
 ghost use Rattle.follow.specs.declared.options.FollowOptions.{FollowOptions};
 ghost use Rattle.jobs.specs.Races.{IsRaced};
 ghost use Rattle.pipes.specs.Followers.{IsFollowing, ReportsAll, TakesAll, TellsMaps, told_in, told_lines};
+ghost use Rattle.pipes.specs.GoingOn.{GoOnFrom, IsKept};
 ghost use Rattle.pipes.specs.Texts.{EndsWhole, IsWritable, KeepsFormat, SaysYes};
+ghost use Rattle.replica.specs.Starts.{Pairs};
+ghost use Rattle.replica.specs.declared.replica.Replica.{Replica};
 ghost use Rattle.script.specs.Transcripts.{transcript_at, transcript_text};
 ghost use Rattle.sessions.specs.Devices.{Reads, Writes};
 ghost use Rattle.sessions.specs.Runs.{IsServed};
@@ -18,7 +22,8 @@ ghost use Rattle.spans.specs.declared.calls.messages.Message.{Message};
 ghost use Rattle.text_format.specs.Limits.{format_of};
 ghost use Rattle.text_format.specs.declared.Format.TheVariants.{Two};
 ghost use Rattle.text_format.specs.declared.Format.{Format};
-ghost use Rattle.word_lines.specs.Limits.{IsEvent, KeepsLimit};
+ghost use Rattle.word_lines.specs.Limits.{IsEvent, IsPair, KeepsLimit};
+ghost use Rattle.word_lines.specs.Replies.{row_line};
 
 /// Each event of a history whose commands keep a format's limits has a text that keeps them too, so the text of them all is
 /// read again, in its format, as these events, and `check` says `yes`.
@@ -51,4 +56,13 @@ pub fn law_of_followers()
     ensures alone { (es : List Event) (o : FollowOptions) (n : ℕ) → IsFollowing es o n → o.feed ≡ None → TakesAll o (told_lines es n) (told_in es n) }
     ensures maps { (es : List Event) (o : FollowOptions) (n : ℕ) (w : IsFollowing es o n) → TellsMaps (effects_of (reverse es)) w.feed o (told_in es n) }
     ensures reported { (o : FollowOptions) (text : List ℕ) (ms : List Message) → TakesAll o text ms → ReportsAll o text ms }
+{}
+
+/// The lines of rows, as a scan's answer has them and a consumer shows them, are read as these rows by a consumer that begins
+/// with them. Where they are all rows of another consumer, and it is of the same span, it goes on from that one, at the
+/// timestamp that its line says. `law_of_replicas` has the rest: where the first one was told all through there, the second
+/// refuses none of the messages of a feed that was opened there, and has the map at each resolved timestamp.
+pub fn law_of_going_on()
+    ensures read { (rows : Pairs) → All (IsPair Two) rows → pairs_at (flat_map row_line rows) ≡ Ok rows }
+    ensures begins { (r : Replica) (n : ℕ) (line : List ℕ) (rows : Pairs) → IsKept r n line rows → GoOnFrom r n line rows }
 {}

@@ -9,7 +9,7 @@ use plain_versions::{Chains, Transactions};
 use spans::calls::{Cmd, Reply};
 use std::alloc::{AllocError, Global};
 
-/// What a history led to.
+/// The state that a history led to.
 #[derive(Drop)]
 pub struct PlainDatabase {
     pub(crate) alloc: Global,
@@ -56,7 +56,7 @@ impl PlainDatabase {
         self.closed
     }
 
-    /// What a seat's command is answered, after a history whose events a `u64` can count. It changes nothing.
+    /// The answer to a seat's command, after a history whose events a `u64` can count. It changes nothing.
     pub fn answer(&self, seat: u8, cmd: &Cmd) -> Result<Reply, AllocError>
         ensures answer { IfOk result (λ reply. AnswersCounted self.now seat cmd.now reply) }
         ensures memory { OnErr result (MayLackMemory self.now seat cmd.now) }
@@ -96,7 +96,7 @@ impl PlainDatabase {
         }
     }
 
-    /// Takes in a command with its right reply. Where memory is lacking, nothing changes.
+    /// Takes in a command with its right reply. Where it is out of memory, nothing changes.
     pub fn record(&mut self, seat: u8, cmd: &Cmd, reply: &Reply) -> Result<(), AllocError>
         ensures ok { OnOk result (Records self.old seat cmd.now reply.now self.new) }
         ensures err { OnErr result (self.new ≡ self.old) }

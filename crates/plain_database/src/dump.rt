@@ -12,18 +12,18 @@ use std::alloc::AllocError;
 use timestamps::row::Row;
 use timestamps::ts::Ts;
 
-/// What a dump writes.
+/// The contents of a dump.
 #[derive(Drop)]
 pub struct Dump {
     /// The versions that are left, by timestamp and then by key.
     pub rows: Vec<Row>,
-    /// Where the dump closes.
+    /// The timestamp at which the dump closes.
     pub to: u64,
     pub horizon: u64,
 }
 
 impl PlainDatabase {
-    /// What a dump writes that closes at `at`, or at the greatest of closed and all that began where that is above. It
+    /// The dump that closes at `at`, or at the greatest of closed and all that began where that is above. It
     /// changes nothing.
     pub fn dump(&self, at: u64) -> Result<Dump, AllocError>
         requires { at ≤ MAX }

@@ -13,7 +13,7 @@ use std::alloc::AllocError;
 use timestamps::ts::Ts;
 
 impl PlainDatabase {
-    /// What an operator may ask of it: the whole report, or the live one, which leaves out the two counts that need a walk.
+    /// The report that an operator may ask for: whole, or live, without the two counts that need a walk.
     /// It changes nothing.
     pub fn report(&self, whole: bool) -> Result<Report, AllocError>
         ensures report { IfOk result (λ report. AfterCounted self.now (λ p. IsReport whole p report)) }

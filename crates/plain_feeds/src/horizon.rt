@@ -4,7 +4,7 @@ ghost use Rattle.plain_feeds.specs.Horizon.{IsReached};
 use crate::book::FeedBook;
 use crate::protections::Protections;
 
-/// Where a collection through `to` takes the horizon. It passes no protection and no live feed's floor.
+/// The horizon after a collection through `to`. It passes no protection and no live feed's floor.
 /// It goes not above `closed`, and never below the horizon that stands.
 pub fn horizon_reached(
     feeds: &FeedBook,

@@ -7,7 +7,7 @@
 //! 1. Records stand in the order of opening: feed n stands at place n - 1.
 //! 2. Of the messages that it was told a feed keeps the name of the last row, the greatest and the latest resolved
 //!    timestamp, and the floor. They say at which [`Place`] its next rows begin.
-//! 3. A call that finds no memory changes nothing.
+//! 3. A call that runs out of memory changes nothing.
 //!
 //! ```text
 //! open from 5                    told nothing           place: above 5        floor 5

@@ -7,7 +7,7 @@ use crate::record::FeedRecord;
 use crate::told::RowName;
 use timestamps::key::Key;
 
-/// Where the rows begin that a feed was not told. Those of an initial feed begin in the snapshot at its cursor.
+/// The place behind which a feed was told nothing. An initial feed's rows begin in the snapshot at its cursor.
 pub enum Place<'a> {
     /// Behind a key of the snapshot, or at its first key; then come the rows above the cursor.
     Snapshot { after: Option<&'a Key> },
@@ -16,7 +16,7 @@ pub enum Place<'a> {
 }
 
 impl FeedRecord {
-    /// Where the rows begin that it was not told.
+    /// The place behind which it was told nothing.
     pub fn place(&self) -> Place<'_>
         ensures { IsPlace self.now result }
     {

@@ -18,7 +18,7 @@ pub(crate) enum FeedState {
     Cancelled,
 }
 
-/// What is kept of a feed. Its number is one more than its place in the book.
+/// The record of a feed. Its number is one more than its place in the book.
 #[derive(Drop)]
 pub struct FeedRecord {
     /// The seat that opened it.

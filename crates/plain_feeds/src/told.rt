@@ -15,7 +15,7 @@ use std::marker::Model;
 use timestamps::key::Key;
 use timestamps::row::Row;
 
-/// Which row was told: its key and timestamp, and not what it says.
+/// The row that was told: its key and timestamp, and not what it says.
 #[derive(Drop)]
 pub(crate) struct RowName {
     pub(crate) ts: u64,
@@ -30,7 +30,7 @@ impl Model for RowName {
     ghost view = { λ n. record { key = n.key; ts = n.ts } };
 }
 
-/// What the messages that a feed was told leave of it, however many they were.
+/// The traces that a feed's messages leave, however many they were.
 #[derive(Drop)]
 pub(crate) struct Told {
     /// The row that was told last.

@@ -59,7 +59,7 @@ impl ChainMap {
         InSpan::of(span, self.ahead_of(span))
     }
 
-    /// What is ahead of where a span begins.
+    /// The keys ahead of a span's beginning.
     fn ahead_of(&self, span: &Span) -> Range<'_, Key, Versions>
         ensures ahead { AreAheadOf span.now self.now result }
         ensures rising { RisingKeys (keys_of self.now) }

@@ -74,7 +74,7 @@ fn is_below(high: &Option<Bound>, key: &Key) -> bool
     }
 }
 
-/// Where keys at or above the bound begin, where there is one.
+/// The bound from which keys are asked for, where there is one.
 pub(crate) fn start_at(low: &Option<Bound>) -> ops::Bound<&Key>
     ensures { bound_map (λ k. k.now) result ≡ start_of low.now }
 {

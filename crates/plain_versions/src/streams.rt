@@ -17,7 +17,7 @@ use timestamps::row::{Row, copy_after};
 use timestamps::ts::Ts;
 use timestamps::value::Value;
 
-/// Which rows are wanted, and at most how many.
+/// The rows that are wanted, and at most how many.
 #[derive(Drop)]
 struct Wanted<'a> {
     transactions: &'a Transactions,
@@ -165,7 +165,7 @@ impl Chains {
         }
     }
 
-    /// What a transaction wrote at a key.
+    /// The version that a transaction wrote at a key.
     pub(crate) fn after_of(&self, key: &Key, ts: u64) -> Option<&Option<Value>>
         ensures { option_copied result ≡ version_at self.now key.now ts }
     {

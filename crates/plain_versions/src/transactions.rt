@@ -77,7 +77,7 @@ impl Transactions {
         }
     }
 
-    /// Takes in a transaction that begins, unless there is one of this timestamp. Where memory is lacking,
+    /// Takes in a transaction that begins, unless there is one of this timestamp. Where it is out of memory,
     /// nothing changes.
     pub fn begin(&mut self, ts: u64, seat: u8) -> Result<(), AllocError>
         ensures ok { OnOk result (IsSetAt self.old self.new ts (begun seat)) }

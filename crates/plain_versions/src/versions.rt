@@ -11,7 +11,7 @@ use std::marker::Model;
 use timestamps::ts_key::TsKey;
 use timestamps::value::Value;
 
-/// What a transaction wrote at a key, lent.
+/// A transaction's version of a key, lent.
 #[derive(Clone, Copy)]
 pub struct LentVersion<'a> {
     pub ts: u64,
@@ -50,7 +50,7 @@ impl Versions {
         self.map.contains_key(&TsKey(ts))
     }
 
-    /// What a transaction wrote.
+    /// A transaction's version of a key.
     pub(crate) fn get(&self, ts: u64) -> Option<&Option<Value>>
         ensures { option_copied result ≡ version_in self.now ts }
     {

@@ -1,6 +1,6 @@
 //! Where sessions that race are held.
 
-/// What a session passes before each of its calls and once after the last, so that a test can have the
+/// A gate that a session passes before each of its calls and once after the last, so that a test can have the
 /// calls of sessions in an order of its own.
 pub trait Gate {
     /// Before call `call` of the session of this seat, from 0, or after its last.

@@ -81,7 +81,7 @@ fn play<R: Wait, G: Gate>(
     })
 }
 
-/// What the thread of a session promises.
+/// The promise of a session's thread.
 #[derive(Drop)]
 struct Plays {
     db: Snapshot<Db>,
@@ -150,7 +150,7 @@ fn start_all<'s, E, R: Wait + Sync, G: Gate + Sync>(
     Ok(handles)
 }
 
-/// What all sessions left behind, in the order of their seats.
+/// The lists that all sessions left behind, in the order of their seats.
 fn gather(alloc: Global, results: Vec<Result<Ended, AllocError>>) -> Result<Vec<Ended>, RaceError>
     ensures never { IfErr result (λ e. e ≢ Counts) }
     ensures ok { IfOk result (λ all. AreOk results.items all.items) }

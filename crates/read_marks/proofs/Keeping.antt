@@ -51,18 +51,6 @@ piece_alike m n m' ts low high same p = record {
     which (inl e) = inl e
     which (inr h) = inr (sym (same p.top) ∙ h)
 
-pub piece_becomes : (m m' n' : ℕ → Bool) (ts low high : ℕ) → ((j : ℕ) → n' j ≡ m' j) → IsPiece m m' ts low high → IsPiece m n' ts low high
-piece_becomes m m' n' ts low high same p = record {
-  top = p.top;
-  marked = same p.top ∙ p.marked;
-  is = p.is;
-  least = p.least;
-  most = p.most;
-  greatest = p.greatest;
-  outside = λ j out. same j ∙ p.outside j out;
-  inside = λ j over up h. p.inside j over up (sym (same j) ∙ h);
-}
-
 -- those that are forgotten may go
 pub kept_filter : (forgotten : ℕ) (xs : List ℕ) (j : ℕ) → is_kept forgotten (filter (nat_lt forgotten) xs) j ≡ is_kept forgotten xs j
 kept_filter forgotten xs j = ap (λ b. nat_lt forgotten j && b) (filtered_reader forgotten xs j) ∙ and_self_left (nat_lt forgotten j) (is_reader xs j)

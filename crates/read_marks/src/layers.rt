@@ -115,14 +115,14 @@ impl Layers {
         Ok(())
     }
 
-    // Lone keys rise, as the keys of every map do. The call is there for its clause.
+    // for the proof: lone keys rise, as the keys of every map do
     fn see_order(&self)
         ensures { IsOrdered key_cmp self.now.lone }
     {
         self.lone.len();
     }
 
-    // A lone key that has the readers of its segment goes.
+    // Removes a lone key whose readers equal its segment's: it is redundant.
     fn join_at(&mut self, key: &SmallBytes)
         ensures { KeepsReadersIn self.old self.new }
     {
@@ -134,8 +134,8 @@ impl Layers {
         }
     }
 
-    // The greatest lone key from `lo` on and up to `end` that has the readers of its segment. It finds none where
-    // the copy of a long key is refused. Such a key goes at a later sweep.
+    // The greatest redundant lone key from `lo` on and up to `end`. It finds none where the copy of a long key is
+    // refused. Such a key is removed at a later sweep.
     fn last_repeated(&self, lo: &SmallBytes, end: Bound<&SmallBytes>) -> Option<SmallBytes> {
         for (key, readers) in self.lone.range((Bound::Unbounded, end)).rev() {
             if key < lo {
@@ -148,7 +148,7 @@ impl Layers {
         None
     }
 
-    // The lone keys from `lo` on and up to `end` that have the readers of their segments go.
+    // Removes the redundant lone keys from `lo` on and up to `end`.
     fn join(&mut self, lo: &SmallBytes, end: Bound<&SmallBytes>)
         ensures { KeepsReadersIn self.old self.new }
     {
@@ -162,7 +162,7 @@ impl Layers {
         }
     }
 
-    // Such keys go from the least start of the patches to their greatest end.
+    // Removes redundant lone keys from the least start of the patches to their greatest end.
     fn join_all(&mut self, patches: &[Patch])
         ensures { KeepsReadersIn self.old self.new }
     {

@@ -129,7 +129,7 @@ impl Segments {
         Ok(())
     }
 
-    // Starts rise, as the keys of every map do. The call is there for its clause.
+    // for the proof: starts rise, as the keys of every map do
     fn see_order(&self)
         ensures { IsOrdered key_cmp self.now.starts }
     {

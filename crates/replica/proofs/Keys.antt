@@ -4,8 +4,7 @@ use Rattle.std.specs.Prelude.{IfOk, ◌↔◌}
 use Rattle.std.specs.BTreeSet.{BTreeSet}
 use Rattle.std.proofs.lemmas.List.{append-nil}
 use Rattle.spans.proofs.Keyed.{IsIn, RisingKeys}
-use Rattle.replica.specs.declared.index.Index.{Index}
-use Rattle.replica.specs.Indexes.{is_among, is_listed, IsIndexOf}
+use Rattle.replica.specs.Indexes.{Keyed, is_among, is_listed, IsIndexOf}
 use Rattle.replica.specs.Rows.{value_at, AreKeysWith}
 use Rattle.replica.proofs.Rising.{is_in_set}
 use Rattle.replica.proofs.Tied.{has_some}
@@ -28,7 +27,7 @@ pub keys_in_set : {T E : Type 0} (items : T → List (List ℕ)) (r : Result T E
 keys_in_set items (Ok t) s o some all = λ x. in_set (items t) s o x all some
 keys_in_set items (Err e) s o some all = tt
 
-pub keys_with : {T E : Type 0} (items : T → List (List ℕ)) (r : Result T E) (rows : List (List ℕ × List ℕ)) (index : Index) (v : List ℕ) → IsIndexOf rows index
+pub keys_with : {T E : Type 0} (items : T → List (List ℕ)) (r : Result T E) (rows : List (List ℕ × List ℕ)) (index : Keyed) (v : List ℕ) → IsIndexOf rows index
     → IfOk r (λ t. RisingKeys (items t)) → IfOk r (λ t. (x : List ℕ) → IsIn x (items t) ↔ (is_listed index x v ≡ true)) → IfOk r (λ t. AreKeysWith (value_at rows) v (items t))
 keys_with items (Ok t) rows index v tied rising exact = record {
   rising = rising;

@@ -7,11 +7,7 @@ use Rattle.std.specs.BTreeSet.{BTreeSet}
 use Rattle.std.proofs.lemmas.Map.Text.{is_eq-slice_cmp}
 use Rattle.timestamps.specs.Bytes.{key_cmp}
 use Rattle.spans.proofs.Steps.{by_test, same_key}
-use Rattle.replica.specs.Indexes.{is_among, listed_in}
-
--- the keys of each value
-abbrev pub Keyed : Type 0
-Keyed = List (List ℕ × BTreeSet (List ℕ))
+use Rattle.replica.specs.Indexes.{Keyed, is_among, is_listed}
 
 pub at_bytes : (v u : List ℕ) → is_at (key_cmp v) u ≡ bytes_eq v u
 at_bytes v u = is_eq-slice_cmp v u
@@ -26,35 +22,35 @@ put_at_twice es fs gs v a b first second q = second q ∙ by_test (is_at (key_cm
     (λ here. rw here refl)
     (λ there. rw there (first q ∙ rw there refl))
 
-pub listed_more : (es fs : Keyed) (x v : List ℕ) (w : Option (BTreeSet (List ℕ))) → ArePutAt es fs v w → ((y : List ℕ) → is_among w y ≡ (bytes_eq x y || listed_in es y v))
-    → (y u : List ℕ) → listed_in fs y u ≡ ((bytes_eq v u && bytes_eq x y) || listed_in es y u)
+pub listed_more : (es fs : Keyed) (x v : List ℕ) (w : Option (BTreeSet (List ℕ))) → ArePutAt es fs v w → ((y : List ℕ) → is_among w y ≡ (bytes_eq x y || is_listed es y v))
+    → (y u : List ℕ) → is_listed fs y u ≡ ((bytes_eq v u && bytes_eq x y) || is_listed es y u)
 listed_more es fs x v w put among y u = ap (λ o. is_among o y) (put u) ∙ by_test (bytes_eq v u)
-    (λ here. rw (at_bytes v u, here) (among y ∙ ap (λ n. bytes_eq x y || listed_in es y n) (same_key v u here)))
+    (λ here. rw (at_bytes v u, here) (among y ∙ ap (λ n. bytes_eq x y || is_listed es y n) (same_key v u here)))
     (λ there. rw (at_bytes v u, there) refl)
 
 -- the same of a map that is the one after a write
 pub listed_put : (m n k : BTreeMap (List ℕ) (BTreeSet (List ℕ))) (x z v c : List ℕ) (w : Option (BTreeSet (List ℕ))) → n ≡ k → z ≡ x → c ≡ v → ArePutAt m.entries k.entries c w
-    → ((y : List ℕ) → is_among w y ≡ (bytes_eq z y || listed_in m.entries y c))
-    → (y u : List ℕ) → listed_in n.entries y u ≡ ((bytes_eq v u && bytes_eq x y) || listed_in m.entries y u)
+    → ((y : List ℕ) → is_among w y ≡ (bytes_eq z y || is_listed m.entries y c))
+    → (y u : List ℕ) → is_listed n.entries y u ≡ ((bytes_eq v u && bytes_eq x y) || is_listed m.entries y u)
 listed_put m n k x z v c w is key value put among =
-    subst (λ b. (y u : List ℕ) → listed_in n.entries y u ≡ ((bytes_eq b u && bytes_eq x y) || listed_in m.entries y u)) value
-    (subst (λ l. (y u : List ℕ) → listed_in l.entries y u ≡ ((bytes_eq c u && bytes_eq x y) || listed_in m.entries y u)) (sym is)
-    (listed_more m.entries k.entries x c w put (subst (λ b. (y : List ℕ) → is_among w y ≡ (bytes_eq b y || listed_in m.entries y c)) key among)))
+    subst (λ b. (y u : List ℕ) → is_listed n.entries y u ≡ ((bytes_eq b u && bytes_eq x y) || is_listed m.entries y u)) value
+    (subst (λ l. (y u : List ℕ) → is_listed l.entries y u ≡ ((bytes_eq c u && bytes_eq x y) || is_listed m.entries y u)) (sym is)
+    (listed_more m.entries k.entries x c w put (subst (λ b. (y : List ℕ) → is_among w y ≡ (bytes_eq b y || is_listed m.entries y c)) key among)))
 
-pub listed_less : (es fs : Keyed) (x v : List ℕ) (w : Option (BTreeSet (List ℕ))) → ArePutAt es fs v w → ((y : List ℕ) → is_among w y ≡ cond (bytes_eq x y) false (listed_in es y v))
-    → (y u : List ℕ) → listed_in fs y u ≡ cond (bytes_eq v u && bytes_eq x y) false (listed_in es y u)
+pub listed_less : (es fs : Keyed) (x v : List ℕ) (w : Option (BTreeSet (List ℕ))) → ArePutAt es fs v w → ((y : List ℕ) → is_among w y ≡ cond (bytes_eq x y) false (is_listed es y v))
+    → (y u : List ℕ) → is_listed fs y u ≡ cond (bytes_eq v u && bytes_eq x y) false (is_listed es y u)
 listed_less es fs x v w put among y u = ap (λ o. is_among o y) (put u) ∙ by_test (bytes_eq v u)
-    (λ here. rw (at_bytes v u, here) (among y ∙ ap (λ n. cond (bytes_eq x y) false (listed_in es y n)) (same_key v u here)))
+    (λ here. rw (at_bytes v u, here) (among y ∙ ap (λ n. cond (bytes_eq x y) false (is_listed es y n)) (same_key v u here)))
     (λ there. rw (at_bytes v u, there) refl)
 
 -- nothing is listed where no value has keys
-pub none_listed : (es : Keyed) → es ≡ [] → (x v : List ℕ) → listed_in es x v ≡ false
-none_listed es none x v = ap (λ l. listed_in l x v) none
+pub none_listed : (es : Keyed) → es ≡ [] → (x v : List ℕ) → is_listed es x v ≡ false
+none_listed es none x v = ap (λ l. is_listed l x v) none
 
 -- where a value has no keys, taking one out changes nothing
-pub less_none : (es : Keyed) (x v : List ℕ) → lookup (is_at (key_cmp v)) es ≡ None → (y u : List ℕ) → listed_in es y u ≡ cond (bytes_eq v u && bytes_eq x y) false (listed_in es y u)
+pub less_none : (es : Keyed) (x v : List ℕ) → lookup (is_at (key_cmp v)) es ≡ None → (y u : List ℕ) → is_listed es y u ≡ cond (bytes_eq v u && bytes_eq x y) false (is_listed es y u)
 less_none es x v none y u = by_test (bytes_eq v u)
-    (λ here. let out : listed_in es y u ≡ false = ap (λ n. listed_in es y n) (sym (same_key v u here)) ∙ ap (λ o. is_among o y) none in rw (here, out) (same (bytes_eq x y)))
+    (λ here. let out : is_listed es y u ≡ false = ap (λ n. is_listed es y n) (sym (same_key v u here)) ∙ ap (λ o. is_among o y) none in rw (here, out) (same (bytes_eq x y)))
     (λ there. rw there refl)
   where
     same : (b : Bool) → false ≡ cond b false false
@@ -62,12 +58,12 @@ less_none es x v none y u = by_test (bytes_eq v u)
     same false = refl
 
 -- nothing changed
-pub listed_still : (m n k : BTreeMap (List ℕ) (BTreeSet (List ℕ))) → n ≡ k → k.entries ≡ m.entries → (y u : List ℕ) → listed_in n.entries y u ≡ listed_in m.entries y u
-listed_still m n k is same y u = ap (λ l. listed_in l.entries y u) is ∙ ap (λ es. listed_in es y u) same
+pub listed_still : (m n k : BTreeMap (List ℕ) (BTreeSet (List ℕ))) → n ≡ k → k.entries ≡ m.entries → (y u : List ℕ) → is_listed n.entries y u ≡ is_listed m.entries y u
+listed_still m n k is same y u = ap (λ l. is_listed l.entries y u) is ∙ ap (λ es. is_listed es y u) same
 
 -- the keys of v are the same ones
-pub listed_same : (m n k : BTreeMap (List ℕ) (BTreeSet (List ℕ))) (v : List ℕ) (w : Option (BTreeSet (List ℕ))) → n ≡ k → ArePutAt m.entries k.entries v w → ((y : List ℕ) → is_among w y ≡ listed_in m.entries y v)
-    → (y u : List ℕ) → listed_in n.entries y u ≡ listed_in m.entries y u
-listed_same m n k v w is put among y u = ap (λ l. listed_in l.entries y u) is ∙ ap (λ o. is_among o y) (put u) ∙ by_test (bytes_eq v u)
-    (λ here. rw (at_bytes v u, here) (among y ∙ ap (λ n. listed_in m.entries y n) (same_key v u here)))
+pub listed_same : (m n k : BTreeMap (List ℕ) (BTreeSet (List ℕ))) (v : List ℕ) (w : Option (BTreeSet (List ℕ))) → n ≡ k → ArePutAt m.entries k.entries v w → ((y : List ℕ) → is_among w y ≡ is_listed m.entries y v)
+    → (y u : List ℕ) → is_listed n.entries y u ≡ is_listed m.entries y u
+listed_same m n k v w is put among y u = ap (λ l. is_listed l.entries y u) is ∙ ap (λ o. is_among o y) (put u) ∙ by_test (bytes_eq v u)
+    (λ here. rw (at_bytes v u, here) (among y ∙ ap (λ n. is_listed m.entries y n) (same_key v u here)))
     (λ there. rw (at_bytes v u, there) refl)

@@ -51,7 +51,7 @@ Takes old new m = (s : Start) (messages : List Message) → Follows old s messag
 abbrev pub IsFaultAt : Replica → Message → Option ApplyFault → Type 0
 IsFaultAt r m fault = (s : Start) (messages : List Message) → Follows r s messages → apply_fault s.span s.start messages m ≡ fault
 
--- the test that a fault names: want of memory is none
+-- the test that a fault names: running out of memory is none
 abbrev pub test_of : Fault → Option ApplyFault
 test_of faults.NotAfter = Some consumer.NotAfter
 test_of faults.OutsideSpan = Some consumer.OutsideSpan

@@ -6,14 +6,25 @@ ghost use Rattle.replica.specs.Indexes.{is_listed};
 use crate::content::Content;
 use std::alloc::{AllocError, Global};
 use std::collections::{BTreeMap, BTreeSet};
+use std::marker::Model;
 use timestamps::key::Key;
 use timestamps::value::Value;
 
-/// The keys of each value that some key has.
+/// The keys of each value that some key has. A value without a key is not kept.
 #[derive(Debug, Drop)]
 pub(crate) struct Index {
     alloc: Global,
     keys: BTreeMap<Content, BTreeSet<Key>>,
+}
+
+impl Model for Index {
+    ghost use Rattle.replica.specs.Indexes.{Keyed, AreSome};
+
+    ghost Value = { Keyed };
+
+    ghost view = { λ i. i.keys.entries };
+
+    ghost invariant = { λ i. AreSome i.keys.entries };
 }
 
 impl Index {

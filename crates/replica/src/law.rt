@@ -11,7 +11,7 @@ ghost use Rattle.replica.specs.Starts.{Pairs, seeded_by, initial_start, MayBegin
 ghost use Rattle.replica.specs.Right.{ReplicasAreRight};
 
 /// Of a feed that was opened in a legal history, newest event first: a replica that began as its consumer is to
-/// begin refuses none of the messages that the feed told, unless memory is wanting, and after each resolved
+/// begin refuses none of the messages that the feed told, unless it is out of memory, and after each resolved
 /// message it has the span's part of the map at its timestamp, and says so. Where it says so before the first message
 /// it has it too, and where a row is to be taken before which it is ready. What it says that it was told all through
 /// is right: all that is told later is above that. A replica that goes on with its rows, of a feed that was opened

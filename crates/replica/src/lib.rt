@@ -6,7 +6,7 @@
 //! row outside its span.
 //!
 //! 1. The index has a key under a value exactly where the rows have that value at the key.
-//! 2. A message that is refused changes nothing, also where memory is wanting.
+//! 2. A message that is refused changes nothing, also where it is out of memory.
 //! 3. After a resolved message of its feed the rows are those of the database at its timestamp, for the whole span.
 //! 4. Between resolved messages it knows through where it was told all, and before which rows its rows are the map.
 //!

@@ -7,7 +7,7 @@ use timestamps::key::Key;
 use timestamps::row::Row;
 use timestamps::ts::Ts;
 
-/// Where a row stands: rows are ordered by timestamp, and then by key.
+/// A row's place: rows are ordered by timestamp, and then by key.
 #[derive(Debug, Drop)]
 pub(crate) struct Place {
     pub(crate) ts: Ts,

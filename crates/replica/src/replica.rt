@@ -23,9 +23,9 @@ pub type KeysAndValues<'a> = Iter<'a, Key, Value>;
 #[derive(Debug)]
 pub struct Replica {
     span: Span,
-    /// What its feed was opened at.
+    /// The cursor that its feed was opened at.
     cursor: u64,
-    /// What was resolved last, or where it started.
+    /// The timestamp that was resolved last, or where it started.
     resolved: u64,
     /// The row that was taken last.
     last: Option<Place>,
@@ -36,7 +36,7 @@ pub struct Replica {
     table: Table,
 }
 
-// a call of its own, so that where a replica is dropped no proof has a case for each part of it
+// for the proof, which has no case for each part of it where a replica is dropped
 impl Drop for Replica {
     fn drop(self) {
         let Replica {

@@ -52,7 +52,7 @@ impl Table {
         }
     }
 
-    /// Puts a value at a key. Where memory is wanting nothing has changed: what was listed is taken out again,
+    /// Puts a value at a key. Where it is out of memory nothing has changed: what was listed is taken out again,
     /// which wants none.
     fn put(&mut self, key: &Key, value: Value) -> Result<(), AllocError>
         ensures ok { OnOk result ((x : List ℕ) → value_at self.new x ≡ put (value_at self.old) key.now (Some value) x) }

@@ -1,22 +1,23 @@
 -- A transaction that is written again, step by step, in what is kept.
-use Rattle.std.proofs.Common.{◌≡◌, ℕ, ◌<◌, ◌≤◌, ◌==◌, Bool, true, false, cond, ◌&&◌, ◌||◌, List, [], ◌∷◌, ◌++◌, length, map, Some, None, refl, sym, ◌∙◌, ap, subst, inl, inr, arith}
+use Rattle.std.proofs.Common.{◌≡◌, ℕ, ◌<◌, ◌≤◌, ◌==◌, Bool, true, false, cond, ◌&&◌, ◌||◌, List, [], ◌∷◌, ◌++◌, length, map, Some, None, refl, sym, ◌∙◌, ap, inl, arith}
 use Rattle.std.proofs.lemmas.Bool.Decides.{nat_tests}
-use Rattle.std.specs.Prelude.{bytes_eq, nat_le, option_map, ◌↔◌, ◌⊎◌}
+use Rattle.std.specs.Prelude.{bytes_eq, is_some, nat_le, option_map}
 use Rattle.spans.specs.Answer.{is_timestamp}
 use Rattle.spans.specs.Effects.{After, event}
 use Rattle.spans.specs.Kept.{IsCrossed, Kept, Transaction}
-use Rattle.spans.specs.Keys.{insert_key}
 use Rattle.spans.specs.declared.calls.commands.Cmd.TheVariants.{Begin, Commit, Del, Put}
 use Rattle.spans.specs.declared.calls.events.Event.{Event}
 use Rattle.spans.specs.declared.calls.replies.Reply.TheVariants.{Committed, Started, Written}
 use Rattle.spans.specs.declared.state.State.TheVariants as states
-use Rattle.spans.proofs.Keyed.{IsIn, RisingKeys, add_rises, added_in, only_in, only_keys, stays_in}
+use Rattle.spans.proofs.Keyed.{RisingKeys}
 use Rattle.spans.proofs.Steps.{by_test, same_key}
-use Rattle.spans.proofs.WriteSets.{has}
+use Rattle.spans.proofs.Members.{has_is, in_has, rising_distinct}
+use Rattle.spans.proofs.WriteSets.{has, has_in}
 use Rattle.timestamps.specs.declared.ts.TheConstants.{MAX}
 use Rattle.kept.specs.Marks.{IsLate}
 use Rattle.kept.specs.StandsFor.{StandsFor}
-use Rattle.kept.specs.Table.{keys_of, new_transaction, refusal}
+use Rattle.kept.specs.Lists.{AreThose}
+use Rattle.kept.specs.Table.{new_transaction, refusal}
 use Rattle.kept.proofs.Answering.{step_stands}
 use Rattle.restarts.specs.Dump.{write_step}
 use Rattle.restarts.specs.Running.{Step, with_steps}
@@ -31,15 +32,8 @@ steps_append h (x ∷ xs) ys = steps_append (event (length h) 0 x.0 x.1 ∷ h) x
 abbrev pub begun : Kept → ℕ → Kept
 begun k t = record k { transaction = λ i. cond (t == i) (Some (new_transaction 0)) (k.transaction i) }
 
-abbrev pub with_key : List ℕ → Transaction → Transaction
-with_key x n = record n { keys = insert_key x n.keys }
-
 abbrev pub written : Kept → ℕ → List ℕ → After → Kept
-written k t x a = record k {
-  version = λ y i. cond ((t == i) && bytes_eq x y) (Some a) (k.version y i);
-  committed = λ y i. cond ((t == i) && bytes_eq x y) false (k.committed y i);
-  transaction = λ i. cond (t == i) (option_map (with_key x) (k.transaction i)) (k.transaction i);
-}
+written k t x a = record k { version = λ y i. cond ((t == i) && bytes_eq x y) (Some a) (k.version y i); committed = λ y i. cond ((t == i) && bytes_eq x y) false (k.committed y i) }
 
 abbrev pub all_written : Kept → ℕ → (List ℕ → After) → List (List ℕ) → Kept
 all_written k t after [] = k
@@ -50,21 +44,18 @@ ended n = record n { state = states.Committed }
 
 abbrev pub committed_at : Kept → ℕ → Kept
 committed_at k t = record k {
-  committed = λ y i. ((t == i) && has y (keys_of (k.transaction t))) || k.committed y i;
+  committed = λ y i. (t == i) || k.committed y i;
   transaction = λ i. cond (t == i) (option_map ended (k.transaction i)) (k.transaction i);
 }
 
 -- ---- its steps
 
-abbrev pub open_with : List (List ℕ) → Transaction
-open_with keys = record { seat = 0; state = states.Undecided; keys = keys }
-
--- nothing is closed or marked, and t is open with these keys
-pub record IsOpenIn (k : Kept) (t : ℕ) (keys : List (List ℕ)) : Type 0 where
+-- nothing is closed or marked, and t is open
+pub record IsOpenIn (k : Kept) (t : ℕ) : Type 0 where
   pub closed : k.closed ≡ 0
   pub some : 0 < t
   pub marks : (x : List ℕ) (n : ℕ) → k.marked x n ≡ false
-  pub open' : k.transaction t ≡ Some (open_with keys)
+  pub open' : k.transaction t ≡ Some (new_transaction 0)
 
 pub begin_now : (k : Kept) (h : List Event) (t n : ℕ) → StandsFor k h → k.closed ≡ 0 → 0 < t → t ≤ MAX → k.transaction t ≡ None → StandsFor (begun k t) (event n 0 (Begin t) Started ∷ h)
 begin_now k h t n stands zeroth some high none = step_stands k (begun k t) h n 0 (Begin t) Started stands (inl (record {
@@ -73,75 +64,41 @@ begin_now k h t n stands zeroth some high none = step_stands k (begun k t) h n 0
 }))
 
 -- past the tests of its commands
-not_refused : (k : Kept) (t : ℕ) (keys : List (List ℕ)) → IsOpenIn k t keys → refusal k 0 t ≡ None
-not_refused k t keys here = let above : nat_le t k.closed ≡ false = grind (arith, nat_tests, here.closed, here.some) in rw (above, here.open') refl
+not_refused : (k : Kept) (t : ℕ) → IsOpenIn k t → refusal k 0 t ≡ None
+not_refused k t here = let above : nat_le t k.closed ≡ false = grind (arith, nat_tests, here.closed, here.some) in rw (above, here.open') refl
 
 -- no write is too late
 never_late : (k : Kept) (x : List ℕ) (t : ℕ) → ((x : List ℕ) (n : ℕ) → k.marked x n ≡ false) → IsLate k x t false
 never_late k x t marks = (λ no. cc, λ (c : IsCrossed (k.marked x) (k.version x) t). sym (marks x c.reader) ∙ c.mark)
 
-pub write_now : (k : Kept) (h : List Event) (t n : ℕ) (x : List ℕ) (a : After) (keys : List (List ℕ)) → StandsFor k h → IsOpenIn k t keys → StandsFor (written k t x a) (event n 0 (write_step t x a).0 (write_step t x a).1 ∷ h)
-write_now k h t n x None keys stands here = step_stands k (written k t x None) h n 0 (Del t x) Written stands (inl (record {
-  right = (false, λ _. never_late k x t here.marks, (rw (not_refused k t keys here) refl));
-  change = record { version = λ y i. refl; committed = λ y i b e. refl; transaction = λ i. refl; rest = refl };
+pub write_now : (k : Kept) (h : List Event) (t n : ℕ) (x : List ℕ) (a : After) → StandsFor k h → IsOpenIn k t → StandsFor (written k t x a) (event n 0 (write_step t x a).0 (write_step t x a).1 ∷ h)
+write_now k h t n x None stands here = step_stands k (written k t x None) h n 0 (Del t x) Written stands (inl (record {
+  right = (false, λ _. never_late k x t here.marks, (rw (not_refused k t here) refl));
+  change = record { version = λ y i. refl; committed = λ y i b e. refl; rest = refl };
 }))
-write_now k h t n x (Some v) keys stands here = step_stands k (written k t x (Some v)) h n 0 (Put t x v) Written stands (inl (record {
-  right = (false, λ _. never_late k x t here.marks, (rw (not_refused k t keys here) refl));
-  change = record { version = λ y i. refl; committed = λ y i b e. refl; transaction = λ i. refl; rest = refl };
+write_now k h t n x (Some v) stands here = step_stands k (written k t x (Some v)) h n 0 (Put t x v) Written stands (inl (record {
+  right = (false, λ _. never_late k x t here.marks, (rw (not_refused k t here) refl));
+  change = record { version = λ y i. refl; committed = λ y i b e. refl; rest = refl };
 }))
 
--- it stays open
-pub still_open : (k : Kept) (t : ℕ) (x : List ℕ) (a : After) (keys : List (List ℕ)) → IsOpenIn k t keys → IsOpenIn (written k t x a) t (insert_key x keys)
-still_open k t x a keys here = record {
-  closed = here.closed;
-  some = here.some;
-  marks = here.marks;
-  open' = (let same : (t == t) ≡ true = grind (arith, nat_tests) in rw (same, here.open') refl);
-}
+pub writes_now : (k : Kept) (h : List Event) (t : ℕ) (after : List ℕ → After) (xs : List (List ℕ)) → StandsFor k h → IsOpenIn k t
+    → StandsFor (all_written k t after xs) (with_steps h (map (λ x. write_step t x (after x)) xs)) × IsOpenIn (all_written k t after xs) t
+writes_now k h t after [] stands here = (stands, here)
+writes_now k h t after (x ∷ xs) stands here =
+    writes_now (written k t x (after x)) (event (length h) 0 (write_step t x (after x)).0 (write_step t x (after x)).1 ∷ h) t after xs
+    (write_now k h t (length h) x (after x) stands here) (record { closed = here.closed; some = here.some; marks = here.marks; open' = here.open' })
 
-abbrev pub all_inserted : List (List ℕ) → List (List ℕ) → List (List ℕ)
-all_inserted keys [] = keys
-all_inserted keys (x ∷ xs) = all_inserted (insert_key x keys) xs
-
-pub writes_now : (k : Kept) (h : List Event) (t : ℕ) (after : List ℕ → After) (keys xs : List (List ℕ)) → StandsFor k h → IsOpenIn k t keys
-    → StandsFor (all_written k t after xs) (with_steps h (map (λ x. write_step t x (after x)) xs)) × IsOpenIn (all_written k t after xs) t (all_inserted keys xs)
-writes_now k h t after keys [] stands here = (stands, here)
-writes_now k h t after keys (x ∷ xs) stands here =
-    writes_now (written k t x (after x)) (event (length h) 0 (write_step t x (after x)).0 (write_step t x (after x)).1 ∷ h) t after (insert_key x keys) xs
-    (write_now k h t (length h) x (after x) keys stands here) (still_open k t x (after x) keys here)
-
-pub commit_now : (k : Kept) (h : List Event) (t n : ℕ) (keys : List (List ℕ)) → StandsFor k h → IsOpenIn k t keys → StandsFor (committed_at k t) (event n 0 (Commit t) (Committed (length keys)) ∷ h)
-commit_now k h t n keys stands here = step_stands k (committed_at k t) h n 0 (Commit t) (Committed (length keys)) stands (inl (record {
-  right = (rw (not_refused k t keys here, here.open') refl);
+pub commit_now : (k : Kept) (h : List Event) (t n : ℕ) (keys : List (List ℕ)) → StandsFor k h → IsOpenIn k t → AreThose (λ x. is_some (k.version x t)) keys → StandsFor (committed_at k t) (event n 0 (Commit t) (Committed (length keys)) ∷ h)
+commit_now k h t n keys stands here those = step_stands k (committed_at k t) h n 0 (Commit t) (Committed (length keys)) stands (inl (record {
+  right = (length keys, λ _. (keys, those, refl), (rw (not_refused k t here) refl));
   change = record { version = λ y i. refl; committed = λ y i b e. refl; transaction = λ i. refl; rest = refl };
 }))
 
 -- ---- and what they leave
 
-inserted_in : (z : List ℕ) (keys xs : List (List ℕ)) → IsIn z (all_inserted keys xs) ↔ (IsIn z keys ⊎ IsIn z xs)
-inserted_in z keys [] = (λ i. inl i, λ i. elim i [ inl here ↦ here | inr none ↦ absurd none ])
-inserted_in z keys (x ∷ xs) = let more = inserted_in z (insert_key x keys) xs in (
-  λ i. elim (more.0 i) [
-    | inl here ↦ elim (only_in x z keys here) [ inl same ↦ inr (inl same) | inr before ↦ inl before ]
-    | inr there ↦ inr (inr there)
-  ],
-  λ i. more.1 (elim i [
-    | inl before ↦ inl (stays_in x z keys before)
-    | inr new ↦ elim new [ inl same ↦ inl (subst (λ w. IsIn w (insert_key x keys)) same (added_in x keys)) | inr there ↦ inr there ]
-  ]),
-)
-
-inserted_rise : (keys xs : List (List ℕ)) → RisingKeys keys → RisingKeys (all_inserted keys xs)
-inserted_rise keys [] r = r
-inserted_rise keys (x ∷ xs) r = inserted_rise (insert_key x keys) xs (add_rises x keys r)
-
--- rising keys, put in one by one, are themselves
-pub inserted_all : (xs : List (List ℕ)) → RisingKeys xs → all_inserted [] xs ≡ xs
-inserted_all xs r = only_keys (all_inserted [] xs) xs (inserted_rise [] xs tt) r (λ z. let i = inserted_in z [] xs in (λ j. elim (i.0 j) [ inl none ↦ absurd none | inr there ↦ there ], λ j. i.1 (inr j)))
-
 -- all else stays
 pub written_is : (k : Kept) (t : ℕ) (after : List ℕ → After) (xs : List (List ℕ))
-    → all_written k t after xs ≡ record k { version = (all_written k t after xs).version; committed = (all_written k t after xs).committed; transaction = (all_written k t after xs).transaction }
+    → all_written k t after xs ≡ record k { version = (all_written k t after xs).version; committed = (all_written k t after xs).committed }
 written_is k t after [] = refl
 written_is k t after (x ∷ xs) = written_is (written k t x (after x)) t after xs
 
@@ -173,7 +130,16 @@ written_committed k t after (x ∷ xs) y i = written_committed (written k t x (a
     by_both false true = refl
     by_both false false = refl
 
--- other transactions stay
-pub written_others : (k : Kept) (t : ℕ) (after : List ℕ → After) (xs : List (List ℕ)) (i : ℕ) → (t == i) ≡ false → (all_written k t after xs).transaction i ≡ k.transaction i
-written_others k t after [] i other = refl
-written_others k t after (x ∷ xs) i other = written_others (written k t x (after x)) t after xs i other ∙ (rw other refl)
+-- where t had no version, those at the keys are all that it has
+pub written_are : (k : Kept) (t : ℕ) (after : List ℕ → After) (xs : List (List ℕ)) → ((y : List ℕ) → k.version y t ≡ None) → RisingKeys xs → AreThose (λ y. is_some ((all_written k t after xs).version y t)) xs
+written_are k t after xs none rising = record {
+  distinct = rising_distinct xs rising;
+  each = λ y.
+      let same : (t == t) ≡ true = grind (arith, nat_tests) in
+      let e : is_some ((all_written k t after xs).version y t) ≡ has y xs = ap is_some (written_version k t after xs y t) ∙ (rw (same, none y) (by_key (has y xs) (after y))) in
+      let i = has_in y xs in (λ h. e ∙ i.0 (has_is y xs h), λ is. in_has y xs (i.1 (sym e ∙ is)));
+}
+  where
+    by_key : (b : Bool) (a : After) → is_some (cond b (Some a) None) ≡ b
+    by_key true a = refl
+    by_key false a = refl

@@ -1,9 +1,9 @@
 -- The commands of a dump are those of its rows, one after the other.
-use Rattle.std.proofs.Common.{◌≡◌, ℕ, zero, suc, ◌<◌, ◌≤◌, ◌==◌, Bool, true, false, not, cond, ◌&&◌, List, [], ◌∷◌, ◌++◌, length, map, Option, Some, None, refl, sym, ◌∙◌, ap, subst, inl, inr, arith, append_assoc}
+use Rattle.std.proofs.Common.{◌≡◌, ℕ, zero, suc, ◌<◌, ◌==◌, Bool, true, false, not, cond, ◌&&◌, List, [], ◌∷◌, ◌++◌, length, map, Option, Some, None, refl, sym, ◌∙◌, ap, inl, inr, arith, append_assoc}
 use Rattle.std.proofs.lemmas.Bool.Decides.{nat_tests}
 use Rattle.std.proofs.lemmas.List.Elements.{filter-append}
 use Rattle.std.proofs.lemmas.List.{append-nil}
-use Rattle.std.specs.Prelude.{bytes_eq, filter, is_some, nat_lt}
+use Rattle.std.specs.Prelude.{filter, is_some, nat_lt}
 use Rattle.timestamps.specs.declared.row.Row.{Row}
 use Rattle.spans.specs.Collection.{horizon_of, is_dead, version_name}
 use Rattle.spans.specs.Effects.{After, Effect}
@@ -18,8 +18,8 @@ use Rattle.spans.specs.declared.calls.replies.Reply.TheVariants.{Committed}
 use Rattle.spans.proofs.Keyed.{IsIn}
 use Rattle.spans.proofs.Steps.{by_test}
 use Rattle.spans.proofs.StreamOrder.{IsRowIn, in_stream}
-use Rattle.spans.proofs.WriteSets.{has, has_in, has_written}
-use Rattle.restarts.specs.Dump.{dump, end_steps, left_keys, transaction_steps, versions_through, write_step, write_steps}
+use Rattle.spans.proofs.WriteSets.{has_in, has_written}
+use Rattle.restarts.specs.Dump.{end_steps, left_keys, transaction_steps, versions_through, write_step, write_steps}
 use Rattle.restarts.specs.Rows.{all_keys, commands_by_row, dump_commands, ended, is_left, is_open, left_rows, row_commands, started}
 use Rattle.restarts.specs.Running.{Step}
 use Rattle.restarts.proofs.Rebuilding.{none_kept}

@@ -11,7 +11,6 @@ use Rattle.spans.specs.Effects.{After, Begins, Effect, HardCloses, Reads, Scans,
 use Rattle.spans.specs.Feeds.{feeds_opened}
 use Rattle.spans.specs.Keys.{in_span}
 use Rattle.spans.specs.Kept.{IsCrossed, IsKeptOf, Kept, Place, place_of}
-use Rattle.spans.specs.Legal.{IsLegal}
 use Rattle.spans.specs.Promises.{left_version_of}
 use Rattle.spans.specs.Reads.{too_late}
 use Rattle.spans.specs.Transactions.{closed_of, is_aborted, is_committed, owner_of}
@@ -44,11 +43,6 @@ use Rattle.restarts.proofs.Rebuilding.{left_kept, none_left}
 pub run_append : (h : List Event) (xs ys : List Cmd) → run h (xs ++ ys) ≡ run (run h xs) ys
 run_append h [] ys = refl
 run_append h (x ∷ xs) ys = run_append (event (length h) 0 x (answer_of (effects_of h) 0 x) ∷ h) xs ys
-
--- what was run is legal
-pub run_legal : (h : List Event) (cmds : List Cmd) → IsLegal h → IsLegal (run h cmds)
-run_legal h [] legal = legal
-run_legal h (cmd ∷ cmds) legal = run_legal (event (length h) 0 cmd (answer_of (effects_of h) 0 cmd) ∷ h) cmds (inl refl, legal)
 
 -- a command with its answer, by what is kept
 pub answered_stands : (k k' : Kept) (h : List Event) (n seat : ℕ) (cmd : Cmd) (r : Reply) → StandsFor k h → IsReplyOf k seat cmd r → IsChangedBy k k' (effect seat cmd r) → StandsFor k' (event n seat cmd (answer_of (effects_of h) seat cmd) ∷ h)

@@ -1,6 +1,6 @@
 -- What the replies rest on can always be found in what is kept of a history: the keys of a span, the test of the marks, the
--- oldest undecided transaction, what holds a collection back and what it drops, the rows that are left for a feed.
-use Rattle.std.proofs.Common.{◌≡◌, ℕ, zero, suc, ◌<◌, ◌≤◌, ◌==◌, Bool, true, ◌&&◌, List, [], ◌∷◌, Option, Some, None, refl, sym, ◌∙◌, ap, subst, inl, inr, arith}
+-- keys that a transaction wrote, the oldest undecided transaction, what holds a collection back and what it drops, the rows that are left for a feed.
+use Rattle.std.proofs.Common.{◌≡◌, ℕ, zero, suc, ◌<◌, ◌≤◌, ◌==◌, Bool, true, ◌&&◌, List, [], ◌∷◌, length, Option, Some, None, refl, sym, ◌∙◌, ap, subst, inl, inr, arith}
 use Rattle.std.proofs.lemmas.Bool.Decides.{nat_tests}
 use Rattle.std.proofs.lemmas.Bool.{and_from, and_parts, or_cases, or_left, or_right, eqb-true, leb-true, ltb-true}
 use Rattle.std.specs.List.{list_any}
@@ -13,7 +13,7 @@ use Rattle.spans.specs.Keys.{in_span}
 use Rattle.spans.specs.Kept.{IsKeptOf, Kept, Place}
 use Rattle.spans.specs.Reads.{too_late}
 use Rattle.spans.specs.Transactions.{closed_of, least_of, undecided_timestamps}
-use Rattle.spans.specs.Versions.{version_of, written_keys}
+use Rattle.spans.specs.Versions.{version_of, write_set, written_keys}
 use Rattle.spans.specs.declared.span.Span.{Span}
 use Rattle.spans.proofs.Copies.{AllAllowed}
 use Rattle.spans.proofs.Keyed.{filter_in, filter_rises}
@@ -22,12 +22,12 @@ use Rattle.spans.proofs.Members.{AreDistinct, Has, distinct_filter, has_filter, 
 use Rattle.spans.proofs.Steps.{by_test, key_itself, none_of, same_key, version_wrote}
 use Rattle.spans.proofs.VersionNames.{has_versions, versions_distinct}
 use Rattle.kept.specs.Finding.{AreKeysOf, is_dead_in, is_dropped}
-use Rattle.kept.specs.Lists.{AreThose}
+use Rattle.kept.specs.Lists.{AreThose, IsNumberOf}
 use Rattle.kept.specs.Marks.{IsLate}
 use Rattle.kept.specs.Places.{AreLeft, AreNext, IsLeastFloor, or_min, place_floor}
 use Rattle.kept.specs.Table.{IsOldest, is_open, refusal}
 use Rattle.kept.proofs.AfterCloses.{open_is}
-use Rattle.kept.proofs.Counts.{has_undecided}
+use Rattle.kept.proofs.Counts.{has_undecided, written_are}
 use Rattle.kept.proofs.Dead.{kept_is}
 use Rattle.kept.proofs.Floors.{placed_by}
 use Rattle.kept.proofs.Polling.{left_are}
@@ -119,6 +119,13 @@ pub late_found : (k : Kept) (p : List Effect) → IsKeptOf k p → (seat t : ℕ
 late_found k p fits seat t x none =
     let here = active_of p seat t (sym (refusal_is k p fits seat t) ∙ none) in
     fits.marks x t here.above (rw here.uncommitted refl)
+
+-- ---- the keys that a transaction wrote
+
+pub written_found : (k : Kept) (p : List Effect) → IsKeptOf k p → (seat t : ℕ) → refusal k seat t ≡ None → IsNumberOf (λ x. is_some (k.version x t)) (length (write_set p t))
+written_found k p fits seat t none =
+    let here = active_of p seat t (sym (refusal_is k p fits seat t) ∙ none) in
+    (write_set p t, written_are k p fits t here.uncommitted here.unaborted, refl)
 
 -- ---- the least of some numbers
 

@@ -22,7 +22,7 @@ use Rattle.spans.proofs.Keyed.{RisingKeys, filter_rises}
 use Rattle.spans.proofs.Steps.{by_test, newest_fewer, none_of}
 use Rattle.spans.proofs.WriteSets.{has, has_filtered, has_written, write_set_rises}
 use Rattle.kept.specs.Finding.{is_dead_in, is_dropped}
-use Rattle.kept.specs.Table.{is_open, keys_of}
+use Rattle.kept.specs.Table.{is_open, new_transaction}
 use Rattle.kept.specs.StandsFor.{StandsFor, nothing_kept}
 use Rattle.kept.specs.Changes.{IsAlike}
 use Rattle.kept.proofs.AfterBegins.{new_is_kept}
@@ -30,13 +30,13 @@ use Rattle.kept.proofs.Answering.{step_stands}
 use Rattle.kept.proofs.Standing.{alike_stands}
 use Rattle.restarts.specs.Dump.{dump, end_steps, left_keys, transaction_steps, versions_through, write_steps}
 use Rattle.restarts.specs.Running.{with_steps}
-use Rattle.restarts.proofs.Blocks.{IsOpenIn, all_written, begin_now, begun, commit_now, committed_at, inserted_all, open_with, ended, steps_append, writes_now, written_committed, written_is, written_others, written_version}
+use Rattle.restarts.proofs.Blocks.{all_written, begin_now, begun, commit_now, committed_at, ended, steps_append, writes_now, written_are, written_committed, written_is, written_version}
 
 -- ---- what is kept of the dump through a timestamp
 
 abbrev pub again_with : List (List ℕ) → Option Transaction
 again_with [] = None
-again_with (x ∷ keys) = Some (record { seat = 0; state = states.Committed; keys = x ∷ keys })
+again_with (x ∷ keys) = Some (record { seat = 0; state = states.Committed })
 
 abbrev pub again : List Effect → ℕ → Option Transaction
 again p t = again_with (left_keys p t)
@@ -162,9 +162,8 @@ abbrev after_block : List Effect → ℕ → List (List ℕ) → Kept
 after_block p t keys = committed_at (all_written (begun (through p t) (suc t)) (suc t) (λ x. written_value (write_of p (suc t) x)) keys) (suc t)
 
 block_alike : (p : List Effect) (t : ℕ) (x : List ℕ) (xs : List (List ℕ)) → left_keys p (suc t) ≡ x ∷ xs
-    → (all_written (begun (through p t) (suc t)) (suc t) (λ x. written_value (write_of p (suc t) x)) (x ∷ xs)).transaction (suc t) ≡ Some (open_with (x ∷ xs))
     → IsAlike (after_block p t (x ∷ xs)) (through p (suc t))
-block_alike p t x xs keys open' =
+block_alike p t x xs keys =
     let k : Kept = begun (through p t) (suc t) in
     let after : List ℕ → After = λ x. written_value (write_of p (suc t) x) in
     let is = written_is k (suc t) after (x ∷ xs) in record {
@@ -175,23 +174,22 @@ block_alike p t x xs keys open' =
           let upto : nat_le i (suc t) ≡ true = grind (arith, nat_tests) in let above : nat_le i t ≡ false = grind (arith, nat_tests) in
           rw (same, upto, above) (subst (λ n. cond (has y (left_keys p (suc t))) (Some (after y)) None ≡ left_version_of p y n) e (sym (left_of_key p y (suc t)))))
           (λ other. let alike : nat_le i (suc t) ≡ nat_le i t = grind (arith, nat_tests) in rw (other, alike) refl));
-      committed = λ y i b there. sym (ap (λ o. ((suc t == i) && has y (keys_of o)) || (all_written k (suc t) after (x ∷ xs)).committed y i) open' ∙ ap (λ c. ((suc t == i) && has y (x ∷ xs)) || c) (written_committed k (suc t) after (x ∷ xs) y i) ∙ done ((suc t == i) && has y (x ∷ xs)));
+      committed = λ y i b there. sym (ap (λ c. (suc t == i) || c) (written_committed k (suc t) after (x ∷ xs) y i) ∙ done (suc t == i) (has y (x ∷ xs)));
       marked = λ y n. sym (ap (λ (k : Kept). k.marked y n) is);
-      transaction = λ i. by_test (suc t == i)
+      transaction = λ i. sym (ap (λ (k : Kept). cond (suc t == i) (option_map ended (k.transaction i)) (k.transaction i)) is ∙ by_test (suc t == i)
           (λ same. let e : suc t ≡ i = eqb-true (suc t) i same in
           let upto : nat_le i (suc t) ≡ true = grind (arith, nat_tests) in
-          rw (upto, same) (subst (λ n. again p n ≡ option_map ended ((all_written k (suc t) after (x ∷ xs)).transaction n)) e (ap again_with keys ∙ sym (ap (option_map ended) open'))))
-          (λ other. let alike : nat_le i (suc t) ≡ nat_le i t = grind (arith, nat_tests) in
-          rw (alike, other) (sym (written_others k (suc t) after (x ∷ xs) i other ∙ (rw other refl))));
+          rw (same, upto) (subst (λ n. Some (ended (new_transaction 0)) ≡ again p n) e (sym (ap again_with keys))))
+          (λ other. let alike : nat_le i (suc t) ≡ nat_le i t = grind (arith, nat_tests) in rw (other, alike) refl));
       protections = sym (ap (λ (k : Kept). k.protections) is);
       protections_made = sym (ap (λ (k : Kept). k.protections_made) is);
       feed = λ f. sym (ap (λ (k : Kept). k.feed f) is);
       feeds_opened = sym (ap (λ (k : Kept). k.feeds_opened) is);
     }
   where
-    done : (b : Bool) → (b || cond b false true) ≡ true
-    done true = refl
-    done false = refl
+    done : (b c : Bool) → (b || cond (b && c) false true) ≡ true
+    done true c = refl
+    done false c = refl
 
 -- the transaction of one more timestamp
 block_stands : (p : List Effect) (t : ℕ) (h : List Event) → suc t ≤ MAX → StandsFor (through p t) h → (keys : List (List ℕ)) → left_keys p (suc t) ≡ keys → StandsFor (through p (suc t)) (with_steps h (transaction_steps p (suc t) keys))
@@ -203,13 +201,12 @@ block_stands p t h low stands (x ∷ xs) keys =
     let k : Kept = begun (through p t) (suc t) in
     let h' : List Event = event (length h) 0 (Begin (suc t)) Started ∷ h in
     let first : StandsFor k h' = begin_now (through p t) h (suc t) (length h) stands refl (omega arith) low (rw past refl) in
-    let wrote = writes_now k h' (suc t) after [] (x ∷ xs) first (record { closed = refl; some = omega arith; marks = λ x n. refl; open' = rw same refl }) in
+    let wrote = writes_now k h' (suc t) after (x ∷ xs) first (record { closed = refl; some = omega arith; marks = λ x n. refl; open' = rw same refl }) in
     let rising : RisingKeys (x ∷ xs) = subst RisingKeys keys (filter_rises (λ y. is_some (left_version_of p y (suc t))) (write_set p (suc t)) (write_set_rises p (suc t))) in
-    let ends : IsOpenIn (all_written k (suc t) after (x ∷ xs)) (suc t) (x ∷ xs) = subst (IsOpenIn (all_written k (suc t) after (x ∷ xs)) (suc t)) (inserted_all (x ∷ xs) rising) wrote.1 in
     let h'' : List Event = with_steps h' (write_steps p (suc t) (x ∷ xs)) in
-    let last = commit_now (all_written k (suc t) after (x ∷ xs)) h'' (suc t) (length h'') (x ∷ xs) wrote.0 ends in
+    let last = commit_now (all_written k (suc t) after (x ∷ xs)) h'' (suc t) (length h'') (x ∷ xs) wrote.0 wrote.1 (written_are k (suc t) after (x ∷ xs) (λ y. rw past refl) rising) in
     subst (StandsFor (through p (suc t))) (sym (steps_append h' (write_steps p (suc t) (x ∷ xs)) ((Commit (suc t), Committed (length (x ∷ xs))) ∷ [])))
-    (alike_stands (after_block p t (x ∷ xs)) (through p (suc t)) _ last (block_alike p t x xs keys ends.open'))
+    (alike_stands (after_block p t (x ∷ xs)) (through p (suc t)) _ last (block_alike p t x xs keys))
 
 -- all of them
 through_stands : (p : List Effect) → AllAllowed p → (n : ℕ) → n ≤ MAX → StandsFor (through p n) (with_steps [] (versions_through p n))

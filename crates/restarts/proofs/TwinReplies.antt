@@ -11,6 +11,7 @@ use Rattle.spans.specs.Kept.{IsKeptOf, Kept, Place}
 use Rattle.spans.specs.Keys.{pairs_of}
 use Rattle.spans.specs.Reads.{too_late}
 use Rattle.spans.specs.Transactions.{undecided_timestamps}
+use Rattle.spans.specs.Versions.{write_set}
 use Rattle.spans.specs.declared.kind.Kind.{Kind}
 use Rattle.spans.specs.declared.span.Span.{Span}
 use Rattle.spans.specs.declared.calls.commands.Cmd.{Cmd}
@@ -28,12 +29,12 @@ use Rattle.kept.specs.Finding.{AreKeysOf, is_seen_blocked, seen}
 use Rattle.kept.specs.Places.{AreNext}
 use Rattle.kept.specs.Replies.{abort_reply, begin_reply, cancel_reply, close_hard_reply, close_reply, collect_reply, commit_reply, feed_refusal, get_reply, kept_opening_tests, messages_left, open_reply, poll_place, poll_reply, protect_reply, read_at_reply, release_reply, scan_at_reply, scan_reply, stats_reply, unless_refused, write_reply}
 use Rattle.kept.specs.StandsFor.{StandsFor}
-use Rattle.kept.specs.Table.{keys_of, reach, refusal}
+use Rattle.kept.specs.Table.{reach, refusal}
 use Rattle.kept.proofs.Answering.{reply_is_answer}
 use Rattle.kept.proofs.Floors.{placed_by}
 use Rattle.kept.proofs.Replying.{known_is}
 use Rattle.restarts.specs.Renumbering.{number_from, renumbered_cmd, renumbered_reply}
-use Rattle.restarts.proofs.Findings.{cut_are, dropped_are, dropped_in, floor_found, keys_are, keys_in, kept_versions, late_found, least_floor, least_in, least_is, living, living_are, next_found, oldest_found, rows_for, undecided_are, versions_in}
+use Rattle.restarts.proofs.Findings.{cut_are, dropped_are, dropped_in, floor_found, keys_are, keys_in, kept_versions, late_found, least_floor, least_in, least_is, living, living_are, next_found, oldest_found, rows_for, undecided_are, versions_in, written_found}
 use Rattle.restarts.proofs.Shifting.{feed_at, floor_same, living_shifted, protected_same, protections_at, refusal_same, renumbered_either, renumbered_first, renumbered_unless, same_count, shifted}
 
 -- a reply of what is kept, and that with shifted numbers
@@ -98,7 +99,12 @@ twin_reply n m k p all fits seat (Del t x) = record {
   one = (too_late p x t, λ none. late_found k p fits seat t x none, refl);
   other = (too_late p x t, λ none. late_found k p fits seat t x none, (renumbered_unless n m (refusal k seat t) (cond (too_late p x t) (Refused TooLate) Written) ∙ ap (unless_refused (refusal k seat t)) (renumbered_either n m (too_late p x t) TooLate Written)));
 }
-twin_reply n m k p all fits seat (Commit t) = record { reply = commit_reply k seat t; one = refl; other = renumbered_unless n m (refusal k seat t) (Committed (length (keys_of (k.transaction t)))) }
+twin_reply n m k p all fits seat (Commit t) =
+    let keys : ℕ = length (write_set p t) in record {
+      reply = commit_reply k seat t keys;
+      one = (keys, λ none. written_found k p fits seat t none, refl);
+      other = (keys, λ none. written_found k p fits seat t none, renumbered_unless n m (refusal k seat t) (Committed keys));
+    }
 twin_reply n m k p all fits seat (Abort t) = record { reply = abort_reply k seat t; one = refl; other = renumbered_unless n m (refusal k seat t) Aborted }
 twin_reply n m k p all fits seat (Close to) =
     let oldest : Option ℕ = least_in (undecided_timestamps p) in record {

@@ -6,7 +6,7 @@ use Rattle.std.specs.Prelude.{bytes_eq, filter, nat_le, nat_lt, option_map}
 use Rattle.spans.specs.Collection.{Protection}
 use Rattle.spans.specs.Effects.{Aborts, After, Begins, Cancels, Closes, Collects, Commits, Effect, HardCloses, NoEffect, Opens, Polls, Protects, Reads, Releases, Scans, SnapshotReads, SnapshotScans, Writes, effect, effect_of, effects_of}
 use Rattle.spans.specs.Feeds.{start_at}
-use Rattle.spans.specs.Keys.{in_span, insert_key}
+use Rattle.spans.specs.Keys.{in_span}
 use Rattle.spans.specs.Kept.{IsKeptOf, Kept, Place, Transaction}
 use Rattle.spans.specs.Legal.{IsRightEvent}
 use Rattle.spans.specs.Transactions.{closed_of}
@@ -22,12 +22,11 @@ use Rattle.spans.specs.declared.state.State.TheVariants as states
 use Rattle.spans.proofs.Copies.{AllAllowed, Allowed}
 use Rattle.spans.proofs.Legal.{legal_allowed, right_allowed}
 use Rattle.spans.proofs.Steps.{by_test, key_itself}
-use Rattle.spans.proofs.WriteSets.{has}
 use Rattle.kept.specs.Answered.{IsChangedBy}
 use Rattle.kept.specs.Finding.{is_dead_in, seen}
 use Rattle.kept.specs.Places.{moved}
 use Rattle.kept.specs.StandsFor.{StandsFor}
-use Rattle.kept.specs.Table.{is_open, keys_of, new_transaction}
+use Rattle.kept.specs.Table.{is_open, new_transaction}
 use Rattle.kept.proofs.AfterReads.{Marked, after_reads, after_scans, other_seen, own_seen}
 use Rattle.kept.proofs.Answering.{changed_stands}
 use Rattle.kept.proofs.Marking.{added}
@@ -108,17 +107,13 @@ twin_change n m k (Begins t seat) some no_read no_scan = record {
 twin_change n m k (Reads j x v) some no_read no_scan = absurd (no_read j x v refl)
 twin_change n m k (Scans j span rows) some no_read no_scan = absurd (no_scan j span rows refl)
 twin_change n m k (Writes t x a) some no_read no_scan = record {
-  next = record k {
-    version = λ y i. cond ((t == i) && bytes_eq x y) (Some a) (k.version y i);
-    committed = λ y i. cond ((t == i) && bytes_eq x y) false (k.committed y i);
-    transaction = λ i. cond (t == i) (option_map (λ (w : Transaction). record w { keys = insert_key x w.keys }) (k.transaction i)) (k.transaction i);
-  };
-  one = record { version = λ y i. refl; committed = λ y i b e. refl; transaction = λ i. refl; rest = refl };
-  other = record { version = λ y i. refl; committed = λ y i b e. refl; transaction = λ i. refl; rest = refl };
+  next = record k { version = λ y i. cond ((t == i) && bytes_eq x y) (Some a) (k.version y i); committed = λ y i. cond ((t == i) && bytes_eq x y) false (k.committed y i) };
+  one = record { version = λ y i. refl; committed = λ y i b e. refl; rest = refl };
+  other = record { version = λ y i. refl; committed = λ y i b e. refl; rest = refl };
 }
 twin_change n m k (Commits t) some no_read no_scan = record {
   next = record k {
-    committed = λ y i. ((t == i) && has y (keys_of (k.transaction t))) || k.committed y i;
+    committed = λ y i. (t == i) || k.committed y i;
     transaction = λ i. cond (t == i) (option_map (λ (w : Transaction). record w { state = states.Committed }) (k.transaction i)) (k.transaction i);
   };
   one = record { version = λ y i. refl; committed = λ y i b e. refl; transaction = λ i. refl; rest = refl };
@@ -126,7 +121,7 @@ twin_change n m k (Commits t) some no_read no_scan = record {
 }
 twin_change n m k (Aborts t) some no_read no_scan = record {
   next = record k {
-    version = λ y i. cond ((t == i) && has y (keys_of (k.transaction t))) None (k.version y i);
+    version = λ y i. cond (t == i) None (k.version y i);
     transaction = λ i. cond (t == i) (option_map (λ (w : Transaction). record w { state = states.Aborted }) (k.transaction i)) (k.transaction i);
   };
   one = record { version = λ y i. refl; committed = λ y i b e. refl; transaction = λ i. refl; rest = refl };
@@ -140,7 +135,7 @@ twin_change n m k (Closes at) some no_read no_scan = record {
 twin_change n m k (HardCloses to at) some no_read no_scan = record {
   next = record k {
     closed = at;
-    version = λ y i. cond ((nat_le i to && is_open (k.transaction i)) && has y (keys_of (k.transaction i))) None (k.version y i);
+    version = λ y i. cond (nat_le i to && is_open (k.transaction i)) None (k.version y i);
     marked = λ y j. nat_lt at j && k.marked y j;
     transaction = λ i. cond (nat_lt at i) (k.transaction i) None;
   };

@@ -21,7 +21,7 @@ ghost use Rattle.restarts.specs.Restart.{AreForeseen, EachRestart, GoesOnAlike, 
 /// dump is, for everyone, a hard closing, the cancellation of every feed and the release of every
 /// protection, and the law of histories holds of all that was answered before and after.
 ///
-/// A dump foresees no want of memory. After it, want of memory is legal where the law of histories has it.
+/// A dump foresees that it never runs out of memory. After it, running out of memory is legal where the law of histories has it.
 ///
 /// It does nothing. Its contract is the theorem.
 pub fn law_of_restarts()

@@ -10,7 +10,7 @@ use Rattle.ripsawbean.specs.TypedParts.{IsOf}
 use Rattle.ripsawbean.specs.declared.typed.Unfit.{Unfit}
 use Rattle.ripsawbean.specs.declared.typed.Unfit.TheVariants.{KeyLength, NoMemory, ValueLength}
 
--- ---- a span's fault is never want of memory
+-- ---- a span's fault is never out of memory
 
 either_none : (a b : Option ℕ) → ¬ (a ≡ Some 12) → ¬ (b ≡ Some 12) → ¬ ((a or b) ≡ Some 12)
 either_none None b first second is = second is

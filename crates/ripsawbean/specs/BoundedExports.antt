@@ -35,7 +35,7 @@ span_fault low has_high high = bound_fault (low_of low) or bound_fault (high_of 
 abbrev pub StepsWithin : ℕ → Bounded → Database → Database → Type 0
 StepsWithin seat cmd old new = (h : List Event) → StandsFor old h → HasStepped h seat (command_within h cmd) new
 
--- one call was made on a database, or none: parts with a fault make none, and want of a position comes before want of memory
+-- one call was made on a database, or none: parts with a fault make none, and a position is asked for before memory
 abbrev pub BoundedOn : (fault : Option ℕ) (seat : ℕ) (cmd : Bounded) (old : Database) (number : ℕ) (new : Database) → Type 0
 BoundedOn (Some n) seat cmd old number new = (number ≡ n) × (new ≡ old)
 BoundedOn None seat cmd old number new =

@@ -8,7 +8,7 @@ use Rattle.ripsawbean.specs.TypedParts.{number_of}
 use Rattle.ripsawbean.specs.declared.typed.Unfit.{Unfit}
 use Rattle.ripsawbean.specs.declared.typed.Unfit.TheVariants.{NoMemory}
 
--- what is told of parts that make no command: want of a position comes before want of memory
+-- what is told of parts that make no command: a position is asked for before memory
 abbrev pub IsUnfit : Unfit → Database → ℕ → Type 0
 IsUnfit NoMemory old number = ((number ≡ 12) × IsUnspent old) ⊎ ((number ≡ 13) × IsSpent old)
 IsUnfit unfit old number = number ≡ number_of unfit

@@ -47,11 +47,11 @@ Called line (Some old) number (Some new) = Numbered line old number new
 Called line (Some old) number None = ⊥
 Called line None number new = (number ≡ 16) × (new ≡ None)
 
--- an event's text wasn't written, and found no memory
+-- an event's text wasn't written, and ran out of memory
 abbrev pub FoundNoMemory : Database → Database → Type 0
 FoundNoMemory old new = HasLast old × IsUnwritten old × IsUnwritten new
 
--- no call was made; only an event's text that isn't written finds no memory
+-- no call was made; only an event's text that isn't written is out of memory
 abbrev pub Rewritten : Database → ℕ → Database → Type 0
 Rewritten old number new = ((h : List Event) → StandsFor old h → StandsFor new h) × ((number ≡ 0) ⊎ ((number ≡ 14) × FoundNoMemory old new))
 

@@ -11,9 +11,7 @@
 //! Its numbers stand in the table of `replicas`.
 
 ghost use Rattle.std.specs.Prelude.{◌≡◌};
-ghost use Rattle.text_format.specs.declared.Format.TheVariants.{Two};
-ghost use Rattle.word_lines.specs.Memory.{WantsMemory, verb_at};
-ghost use Rattle.word_lines.specs.Table.{table};
+ghost use Rattle.embedded_replica.specs.Seeds.{IsUnseeded};
 ghost use Rattle.embedded_replica.specs.declared.consumer.SeedingError.TheVariants.{NoMemory};
 ghost use Rattle.ripsawbean.specs.ReplicaExports.{Begun, begin_number};
 
@@ -37,8 +35,8 @@ pub extern "C" fn ripsawbean_replica_begin(
     rows: &[u8],
 ) -> u8
     ensures begun { Begun line.now rows.now handle.old.consumer result handle.new.consumer }
-    // 12 is told only of the name of a command with a key, a value or a span.
-    ensures memory { result ≡ 12 → WantsMemory (verb_at Two table 64 line.now) }
+    // 12 is told only of a line that may want memory to be read, or opens a feed.
+    ensures memory { result ≡ 12 → IsUnseeded line.now rows.now NoMemory }
 {
     if handle.is_open() {
         return OPEN;

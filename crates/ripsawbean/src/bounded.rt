@@ -14,8 +14,8 @@
 //! | 4 | a bound has more than 257 bytes, or the high one has none; no call was made |
 //! | 6 | the seat is not 0 to 63; no call was made. It is tested before the bounds |
 //! | 12 | no memory for a bound, the key at which the scan ends, or the messages that are looked at; no call was made |
-//! | 13 | no position is left; no call was made. It is tested before want of memory |
-//! | 14 | the call was made and its answer told; its bytes found no memory: `ripsawbean_bytes` tries again |
+//! | 13 | no position is left; no call was made. It is tested before memory is asked for |
+//! | 14 | the call was made and its answer told; its bytes ran out of memory: `ripsawbean_bytes` tries again |
 //! | 16 | the handle is closed; nothing was done. It is tested before all else |
 
 ghost use Rattle.std.specs.Prelude.{◌≡◌, None, Some, IfOk, false, if◌then◌else◌};
@@ -155,7 +155,7 @@ fn scan_at(
     })
 }
 
-/// The span from the low bytes to the high ones. A fault comes before want of memory.
+/// The span from the low bytes to the high ones. A fault is told before memory is asked for.
 fn span_of(alloc: Global, low: &[u8], has_high: u8, high: &[u8]) -> Result<Span, Unfit>
     ensures { IsOf (span_fault low.now has_high high.now) (Unit {0}) (span_of low.now has_high high.now) result }
 {
@@ -273,7 +273,7 @@ fn call(database: &mut Database, seat: u8, cmd: Result<Bounded, Unfit>, answer: 
     }
 }
 
-/// What is told of parts that make no command.
+/// The status of parts that make no command.
 fn told(database: &Database, unfit: Unfit) -> u8
     ensures told { IsUnfit unfit database.now result }
     ensures unmade { is_made result ≡ false }

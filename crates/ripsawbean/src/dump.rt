@@ -12,7 +12,7 @@ use std::alloc::{AllocError, Global};
 use timestamps::key::{Key, MAX_KEY_BYTES};
 use timestamps::ts::MAX;
 
-/// Where a dump has come to. A dump begins at a place that is all 0.
+/// A place in a dump. A dump begins at a place that is all 0.
 #[repr(C)]
 #[derive(Clone, Copy, Debug)]
 pub struct DumpPlaceRecord {

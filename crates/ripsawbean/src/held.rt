@@ -37,7 +37,7 @@ pub extern "C" fn ripsawbean_held_by(
     }
 }
 
-/// What a seat holds, with the number that tells of it.
+/// Writes the records of what a seat holds, and tells the status.
 fn held_by(database: &Database, seat: u8, out: &mut [HeldRecord], count: &mut usize) -> u8
     ensures { ToldHeld (Some database.now) seat result out.old out.new count.new }
 {

@@ -32,7 +32,7 @@
 //! | 12 | no memory for the line's key, value or span, or for the database; nothing was done | call, open |
 //! | 13 | no position is left; no call was made | call |
 //! | 12, 13 | the same of the next line; what was taken stands | calls |
-//! | 4, 12 | the next key is none, or found no memory; what was told stands | versions_at |
+//! | 4, 12 | the next key is none, or ran out of memory; what was told stands | versions_at |
 //! | 3, 4 | a number is no timestamp, or a key has no room or is none; nothing is shown | dump |
 //! | 12 | no memory to find what is held, or for the piece; nothing is shown | held_by, dump |
 //! | 14 | no room for the next lines; nothing is shown | dump |
@@ -70,7 +70,7 @@
 
 ghost use Rattle.std.specs.Prelude.{◌≡◌, None, IfSome, IfNone};
 ghost use Rattle.text_format.specs.declared.Format.TheVariants.{Two};
-ghost use Rattle.word_lines.specs.Memory.{WantsMemory, verb_at};
+ghost use Rattle.word_lines.specs.Memory.{WantsMemory, byte_words_at};
 ghost use Rattle.word_lines.specs.Table.{table};
 ghost use Rattle.embedded.specs.declared.database.CallError.TheVariants.{NoMemory};
 ghost use Rattle.ripsawbean.specs.Exports.{refusal_of, Opened, Numbered, Called, Asked, Rewritten, Told, ToldOf, number_of};
@@ -145,7 +145,7 @@ pub extern "C" fn ripsawbean_open(alloc: Global, handle: &mut Handle, ring: u32)
 ///
 /// 0: the call was made, `out` begins with as much of the text as there is room for, and `length` is the whole text's.
 /// At every other number `out` is as it was and `length` is 0. 1 to 9: the line's fault by its code. 12: no memory for
-/// the line's key, value or span. 13: no position is left. 14: the call was made, and its text found no memory. 16: the handle is closed.
+/// the line's key, value or span. 13: no position is left. 14: the call was made, and its text ran out of memory. 16: the handle is closed.
 #[unsafe(no_mangle)]
 pub extern "C" fn ripsawbean_call(
     alloc: Global,
@@ -155,8 +155,8 @@ pub extern "C" fn ripsawbean_call(
     length: &mut usize,
 ) -> u8
     ensures called { Called line.now handle.old.database result handle.new.database }
-    // 12 is told only of the name of a command with a key, a value or a span.
-    ensures memory { result ≡ 12 → WantsMemory (verb_at Two table 64 line.now) }
+    // 12 is told only of a key, a value or a bound that is a word of more than 24 bytes.
+    ensures memory { result ≡ 12 → WantsMemory (byte_words_at Two table 64 line.now) }
     ensures text { Told result handle.old.database handle.new.database out.old out.new length.new }
 {
     match handle.take(alloc) {
@@ -215,7 +215,7 @@ pub extern "C" fn ripsawbean_close(alloc: Global, handle: &mut Handle)
 /// A call of a line, with the number that tells of it.
 fn call(database: &mut Database, line: &[u8], out: &mut [u8], length: &mut usize) -> u8
     ensures called { Numbered line.now database.old result database.new }
-    ensures memory { result ≡ 12 → WantsMemory (verb_at Two table 64 line.now) }
+    ensures memory { result ≡ 12 → WantsMemory (byte_words_at Two table 64 line.now) }
     ensures text { ToldOf result database.old database.new out.old out.new length.new }
 {
     match database.call(line) {

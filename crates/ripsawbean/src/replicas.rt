@@ -32,9 +32,7 @@
 //! | 23 | the key has no value | get |
 
 ghost use Rattle.std.specs.Prelude.{◌≡◌, None};
-ghost use Rattle.text_format.specs.declared.Format.TheVariants.{Two};
-ghost use Rattle.word_lines.specs.Memory.{WantsMemory, verb_at};
-ghost use Rattle.word_lines.specs.Table.{table};
+ghost use Rattle.embedded_replica.specs.Consumers.{IsUnopened};
 ghost use Rattle.embedded_replica.specs.declared.consumer.BeginError.TheVariants.{NoMemory};
 ghost use Rattle.ripsawbean.specs.ReplicaExports.{Opened, Taken, TakenBy, Told, NoTime, Hidden, ReadyBy, CompleteBy, GotBy, RowsBy, number_or_none, open_number, line_number, message_number, take_number, key_number};
 
@@ -72,8 +70,8 @@ pub extern "C" fn ripsawbean_replica_open(
     line: &[u8],
 ) -> u8
     ensures opened { Opened line.now handle.old.consumer result handle.new.consumer }
-    // 12 is told only of the name of a command with a key, a value or a span.
-    ensures memory { result ≡ 12 → WantsMemory (verb_at Two table 64 line.now) }
+    // 12 is told only of a line that may want memory to be read, or opens a feed.
+    ensures memory { result ≡ 12 → IsUnopened line.now NoMemory }
 {
     if handle.is_open() {
         return OPEN;
@@ -250,7 +248,7 @@ fn take(consumer: &mut Consumer, line: &[u8]) -> u8
     }
 }
 
-/// Where a line shows that the rows are the map, with the number that tells of it.
+/// Writes the timestamp at which a line shows that the rows are the map, and tells the status.
 fn ready(consumer: &Consumer, line: &[u8], at: &mut u64) -> u8
     ensures ready { ReadyBy line.now at.new consumer.now result }
     ensures none { NoTime result at.new }

@@ -15,7 +15,8 @@ use std::alloc::Global;
 /// A faulty line ends nothing: its note has its fault's code. Nor does a scan or a poll whose answer would have more than
 /// `most` bytes of rows or messages, where `most` isn't the greatest number: it makes no call, and its note has 25. 0: all lines were taken, or `notes` is full. At any other
 /// number what was taken stands, and no line behind the next one was looked at. 14: the last line's call was made, and
-/// its text found no room or no memory; `ripsawbean_text` shows it. 12, 13: the next line finds no memory, no position.
+/// its text found no room or no memory; `ripsawbean_text` shows it. 12: it is out of
+/// memory at the next line. 13: there is no position for it.
 /// 16: the handle is closed.
 #[unsafe(no_mangle)]
 pub extern "C" fn ripsawbean_calls(

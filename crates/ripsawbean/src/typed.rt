@@ -18,7 +18,7 @@
 //! | 6 | the seat is not 0 to 63; no call was made. It is tested first, then the key, then the value | all but bytes |
 //! | 12 | no memory for a key or a value of more than 24 bytes; no call was made | get, put, delete, read_at |
 //! | 13 | no position is left; no call was made | all but bytes |
-//! | 14 | the call was made and its answer told; its messages or rows found no memory: `ripsawbean_bytes` tries again | poll, bytes |
+//! | 14 | the call was made and its answer told; its messages or rows ran out of memory: `ripsawbean_bytes` tries again | poll, bytes |
 //! | 16 | the handle is closed; nothing was done. It is tested before all else | all |
 
 ghost use Rattle.std.specs.Prelude.{◌≡◌, ◌⊎◌, Some, false, IfOk};
@@ -266,7 +266,7 @@ fn put(alloc: Global, timestamp: u64, key: &[u8], value: &[u8]) -> Result<Cmd, U
 {
     match Key::new(alloc, key) {
         Err(KeyError::KeyLength) => Err(Unfit::KeyLength),
-        // a fault comes before want of memory
+        // a fault is told before memory is asked for
         Err(KeyError::NoMemory) => {
             if value.len() > MAX_VALUE_BYTES {
                 Err(Unfit::ValueLength)

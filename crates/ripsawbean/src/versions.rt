@@ -16,7 +16,7 @@ const BELOW_HORIZON: u8 = 24;
 /// many were told, and no more are than there is room for; the rest of `versions` is as it was. No call is made.
 ///
 /// 0: all keys were told, or `versions` is full. 4: the next key has no byte or more than 256, or the keys end within
-/// it. 12: the next key has more than 24 bytes, and finds no memory. 24: the timestamp is below the horizon, and none was
+/// it. 12: the next key has more than 24 bytes, and it is out of memory. 24: the timestamp is below the horizon, and none was
 /// told; it is looked at first. 16: the handle is closed, and none was told.
 #[unsafe(no_mangle)]
 pub extern "C" fn ripsawbean_versions_at(

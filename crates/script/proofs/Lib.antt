@@ -8,3 +8,4 @@ pub mod ReadEvents
 pub mod WrittenReplies
 pub mod EventsAgain
 pub mod ScriptLines
+pub mod LongParts

@@ -288,7 +288,7 @@ module _ (format : Format) where
       (header_is format text begins ∙ ap (λ (body : List ℕ). header format ++ body) f.0, f.1)
   transcript_found false text es begins e = absurd (let clash : Err (record { line = 1; fault = WordCount }) ≡ Ok es = sym (no_header format text begins) ∙ e in cc)
 
-  -- what is read of a text is its events, where nothing is said of want of memory
+  -- what is read of a text is its events, where nothing is said of being out of memory
   pub told_found : (text : List ℕ) (r : Result (Vec Event Global) TranscriptError) → Tells (λ events. events.items) r (transcript_at format text)
       → IfOk r (λ events. (text ≡ transcript_text format events.items) × All (IsEvent format) events.items)
   told_found text (Ok events) tells = transcript_found (bytes_eq (take (length (header format)) text) (header format)) text events.items refl tells

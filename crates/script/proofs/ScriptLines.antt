@@ -12,7 +12,7 @@ use Rattle.script.specs.declared.fault.TranscriptError.TheVariants as errors
 use Rattle.word_lines.specs.Commands.{joined, words_of}
 use Rattle.word_lines.specs.Limits.{IsNumber}
 use Rattle.script.specs.Lines.{Place, lines_of}
-use Rattle.word_lines.specs.Memory.{WantsMemory, verb_at}
+use Rattle.word_lines.specs.Memory.{WantsMemory, byte_words_at}
 use Rattle.word_lines.specs.Reading.{command_at}
 use Rattle.word_lines.specs.Table.{table}
 use Rattle.script.specs.Transcripts.{Fails, at_line}
@@ -74,7 +74,7 @@ module _ (format : Format) where
       let one : above front (script_from format seats p) ≡ record { calls = front; fault = None } = rw none (ap (λ (cs : List (ℕ × Cmd)). record { calls = cs; fault = None }) (append-nil front)) in
       sym so_far ∙ one
 
--- ---- want of memory
+-- ---- running out of memory
 
 -- a call that was read is kept
 pub wants_call : (front : List (ℕ × Cmd)) (call : ℕ × Cmd) (below total : Script) → above (front ++ call ∷ []) below ≡ total → total.calls ≢ []
@@ -84,7 +84,7 @@ wants_call (first ∷ front) call below total so_far none = let no : first ∷ (
 module _ (format : Format) where
   -- a line that wants memory is the first, or stands below a call
   pub wants_line : (seats : ℕ) (text : List ℕ) (front : List (ℕ × Cmd)) (p : Place) (line : List ℕ) (others : List (List ℕ)) → above front (script_from format seats p) ≡ script_at format seats text → (front ≡ [] → p.lines ≡ lines_of text)
-      → p.lines ≡ line ∷ others → WantsMemory (verb_at format table seats line) → ScriptWants format seats text
+      → p.lines ≡ line ∷ others → WantsMemory (byte_words_at format table seats line) → ScriptWants format seats text
   wants_line seats text [] p line others so_far whole cut wants = inr (line, others, sym (whole refl) ∙ cut, wants)
   wants_line seats text (first ∷ front) p line others so_far whole cut wants =
       inl (λ none. let no : first ∷ (front ++ (script_from format seats p).calls) ≡ [] = ap (λ (s : Script). s.calls) so_far ∙ none in cc)
@@ -125,7 +125,7 @@ module _ (format : Format) where
       let same : (script_at format seats text).calls ≡ calls = ap (λ (s : Script). s.calls) e in
       subst (λ (cs : List (ℕ × Cmd)). (text ≡ script_text cs) × All (IsCall format seats) cs) same (sym (lines_whole text) ∙ found.0, All-from_recursion (IsCall format seats) (script_at format seats text).calls found.1)
 
-  -- what is read of a text is its calls, where nothing is said of want of memory
+  -- what is read of a text is its calls, where nothing is said of being out of memory
   pub told_found : (seats : ℕ) (text : List ℕ) (r : Result (Vec (ℕ × Cmd) Global) TranscriptError) → TellsScript items_of r (script_at format seats text) → IfOk r (λ calls. (text ≡ script_text calls.items) × All (IsCall format seats) calls.items)
   told_found seats text (Ok calls) tells = script_found seats text calls.items tells
   told_found seats text (Err e) tells = tt

@@ -13,7 +13,7 @@ use Rattle.script.specs.declared.headings.Heading.{Heading}
 use Rattle.script.specs.declared.reply_reading.Shape.{Shape}
 use Rattle.script.specs.declared.reply_reading.Shape.TheVariants as shape
 use Rattle.script.specs.EventLines.{heading_at, row_line_at, message_line_at}
-use Rattle.script.specs.Memory.{names_want, ok_has, has_lines, counts_lines, lines_want, wants_at}
+use Rattle.script.specs.Memory.{words_want, ok_has, has_lines, counts_lines, lines_want, wants_at}
 use Rattle.spelled_words.specs.declared.fault.LineFault.{LineFault}
 use Rattle.script.specs.declared.fault.TranscriptError.{TranscriptError}
 use Rattle.script.specs.declared.fault.TranscriptError.TheVariants as errors
@@ -120,7 +120,7 @@ module _ (format : Format) where
   following_wants p h e some =
       let line = next_found (heading_at format) p h e in
       let counts : counts_lines format line.0 ≡ true = ap (ok_has (λ (x : Heading). has_lines x.shape)) line.2 ∙ some.0 in
-      ap (lines_want format) line.1 ∙ or_right (names_want format line.0) (counts_lines format line.0 && nat_lt 0 (length h.1.lines)) (rw (counts, lt-ltb 0 (length h.1.lines) some.1) refl)
+      ap (lines_want format) line.1 ∙ or_right (words_want format line.0) (counts_lines format line.0 && nat_lt 0 (length h.1.lines)) (rw (counts, lt-ltb 0 (length h.1.lines) some.1) refl)
 
 -- ---- what is left
 

@@ -1,9 +1,10 @@
--- Which events may want memory to be read: by what their first lines name (this project).
-use Rattle.std.specs.Prelude.{nat_lt, ℕ, Bool, true, false, ◌&&◌, ◌||◌, length, List, [], ◌∷◌, Option, Some, None, Result, Ok, Err}
+-- Which events may want memory to be read: by their first lines (this project).
+use Rattle.std.specs.Prelude.{nat_lt, ℕ, Bool, true, false, ◌&&◌, ◌||◌, if◌then◌else◌, length, take, List, [], ◌∷◌, ◌++◌, Option, Some, None, Result, Ok, Err}
+use Rattle.std.specs.List.{list_any}
 use Rattle.text_format.specs.declared.Format.{Format}
 use Rattle.spelled_words.specs.declared.fault.LineFault.{LineFault}
-use Rattle.word_lines.specs.declared.table.Verb.{Verb}
-use Rattle.word_lines.specs.Memory.{has_bytes}
+use Rattle.spelled_words.specs.Memory.{is_long}
+use Rattle.word_lines.specs.Memory.{byte_words}
 use Rattle.word_lines.specs.Reading.{◌>>=◌, number_at, session_at, row_at}
 use Rattle.word_lines.specs.Table.{table}
 use Rattle.word_lines.specs.Words.{text_at, words_at}
@@ -16,33 +17,29 @@ use Rattle.script.specs.EventLines.{behind_arrow, heading_at}
 use Rattle.script.specs.Lines.{Place}
 use Rattle.script.specs.ReplyTable.{replies, kind_of}
 
--- the kind of answer that is named first, if one is
-abbrev pub kind_named : List (List ℕ) → Option Kind
-kind_named [] = None
-kind_named (name ∷ words) = kind_of replies name
-
--- what the first line of an event names, where it is right up to `=>`: the command, and the answer behind that
-unfoldable pub names_of : List (List ℕ) → Result (Verb × Option Kind) LineFault
-names_of words = do
-  position ← number_at words
-  session ← session_at 64 position.1
-  row ← row_at table session.1
-  answer ← behind_arrow row.0.arguments row.1
-  Ok (row.0.verb, kind_named answer)
-
-unfoldable pub names_at : Format → List ℕ → Result (Verb × Option Kind) LineFault
-names_at format line = do
-  text ← text_at format line
-  words ← words_at text
-  names_of words
-
 abbrev pub is_value : Option Kind → Bool
 is_value (Some kind.Value) = true
 is_value _ = false
 
--- the command has a key, a value or a span, or the answer a value
-abbrev pub name_bytes : Verb × Option Kind → Bool
-name_bytes names = has_bytes names.0 || is_value names.1
+-- the word of a value, where the answer that is named first is one
+abbrev pub value_words : List (List ℕ) → List (List ℕ)
+value_words [] = []
+value_words (name ∷ words) = if is_value (kind_of replies name) then take 1 words else []
+
+-- the words of an event's first line that are keys, values or bounds, where it is right up to `=>`
+unfoldable pub event_words_of : List (List ℕ) → Result (List (List ℕ)) LineFault
+event_words_of words = do
+  position ← number_at words
+  session ← session_at 64 position.1
+  row ← row_at table session.1
+  answer ← behind_arrow row.0.arguments row.1
+  Ok (byte_words row.0.verb row.1 ++ value_words answer)
+
+unfoldable pub event_words_at : Format → List ℕ → Result (List (List ℕ)) LineFault
+event_words_at format line = do
+  text ← text_at format line
+  words ← words_at text
+  event_words_of words
 
 -- lines of rows or of messages follow
 abbrev pub has_lines : Shape → Bool
@@ -55,18 +52,18 @@ abbrev pub ok_has : {A : Type 0} → (A → Bool) → Result A LineFault → Boo
 ok_has has (Ok x) = has x
 ok_has has (Err f) = false
 
--- the first line of an event names such a command or answer
-abbrev pub names_want : Format → List ℕ → Bool
-names_want format line = ok_has name_bytes (names_at format line)
+-- one of the words of an event's first line that are keys, values or bounds is long
+abbrev pub words_want : Format → List ℕ → Bool
+words_want format line = ok_has (list_any is_long) (event_words_at format line)
 
 -- it counts lines that follow
 abbrev pub counts_lines : Format → List ℕ → Bool
 counts_lines format line = ok_has (λ (h : Heading). has_lines h.shape) (heading_at format line)
 
--- the first of the lines names such a part, or counts lines of which one is there
+-- so it is with the first of the lines, or it counts lines of which one is there
 abbrev pub lines_want : Format → List (List ℕ) → Bool
 lines_want format [] = false
-lines_want format (line ∷ lines) = names_want format line || (counts_lines format line && nat_lt 0 (length lines))
+lines_want format (line ∷ lines) = words_want format line || (counts_lines format line && nat_lt 0 (length lines))
 
 -- the event at a place may want memory to be read
 abbrev pub wants_at : Format → Place → Bool

@@ -10,7 +10,7 @@ use Rattle.word_lines.specs.Commands.{command_line}
 use Rattle.word_lines.specs.Limits.{IsCommand}
 use Rattle.script.specs.Lines.{lines_of}
 use Rattle.word_lines.specs.Reading.{command_at}
-use Rattle.word_lines.specs.Memory.{WantsMemory, verb_at}
+use Rattle.word_lines.specs.Memory.{WantsMemory, byte_words_at}
 use Rattle.word_lines.specs.Table.{table}
 use Rattle.script.specs.Transcripts.{Fault}
 
@@ -67,10 +67,10 @@ TellsScript view (Ok calls) script = script ≡ faultless (view calls)
 TellsScript view (Err errors.NoMemory) script = Unit {0}
 TellsScript view (Err (errors.Fault line fault)) script = script.fault ≡ Some (record { line = line; fault = fault })
 
--- the text has a call to keep, or its first line has a command with a key, a value or a span
+-- the text has a call to keep, or its first line has a long key, value or bound
 abbrev pub ScriptWants : Format → ℕ → List ℕ → Type 0
 ScriptWants format seats text =
-    ((script_at format seats text).calls ≢ []) ⊎ ((line : List ℕ) × (rest : List (List ℕ)) × (lines_of text ≡ line ∷ rest) × WantsMemory (verb_at format table seats line))
+    ((script_at format seats text).calls ≢ []) ⊎ ((line : List ℕ) × (rest : List (List ℕ)) × (lines_of text ≡ line ∷ rest) × WantsMemory (byte_words_at format table seats line))
 
 -- the lines of calls are read as these calls, and what stands below them as its own lines say
 abbrev pub ReadsOn : Format → ℕ → Calls → List ℕ → Type 0

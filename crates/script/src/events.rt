@@ -60,7 +60,7 @@ impl<'a> Events<'a> {
     }
 
     /// Takes the next event, if there is one. What is left after an error isn't said. Memory is wanted only where the
-    /// event's first line, read up to `=>`, names a command with a key, a value or a span, or an answer with a value,
+    /// event's first line, read up to `=>`, has a key, a value or a bound of more than 24 bytes, or such an answer,
     /// or where a line follows that it counts. That holds of each event alike, the first or a later one.
     pub fn next(&mut self, alloc: Global) -> Option<Result<Event, TranscriptError>>
         ensures { TakesEvent result self.old self.new }

@@ -19,7 +19,7 @@ pub enum TranscriptError {
 impl TranscriptError {
     ghost use Rattle.script.specs.Transcripts.{error_at_line};
 
-    /// What was wrong with the line of this number.
+    /// The fault of the line of this number.
     pub(crate) fn at_line(line: u64, error: ReadError) -> TranscriptError
         ensures { result ≡ error_at_line line error }
     {

@@ -166,7 +166,7 @@ fn read_message_line(alloc: Global, line: &[u8], format: Format) -> Result<Messa
     }
 }
 
-/// The fault of a line that is no message, or want of memory.
+/// The fault of a line that is no message, or out of memory.
 fn read_error_of(fault: MessageFault) -> ReadError
     ensures { result ≡ read_error_of fault }
 {

@@ -3,7 +3,9 @@ ghost use Rattle.std.specs.Prelude.{◌≡◌, drop, true, IfErr};
 ghost use Rattle.word_lines.specs.Reading.{Gives};
 ghost use Rattle.spelled_words.specs.declared.fault.ReadError.TheVariants.{NoMemory};
 ghost use Rattle.script.specs.EventLines.{behind_arrow, heading_of, heading_at};
-ghost use Rattle.script.specs.Memory.{name_bytes, names_at, names_of, ok_has};
+ghost use Rattle.std.specs.List.{list_any};
+ghost use Rattle.spelled_words.specs.Memory.{is_long};
+ghost use Rattle.script.specs.Memory.{event_words_at, event_words_of, ok_has};
 
 use crate::reply_reading::{Shape, read_reply};
 use spans::calls::Cmd;
@@ -15,7 +17,7 @@ use word_lines::commands::{take_arguments, take_form, take_seat};
 use word_lines::fault::{LineFault, ReadError};
 use word_lines::words::{Words, text_of, words_of};
 
-/// What the first line of an event says.
+/// The words of an event's first line, read.
 #[derive(Drop)]
 pub(crate) struct Heading {
     pub(crate) position: u64,
@@ -25,10 +27,10 @@ pub(crate) struct Heading {
 }
 
 /// Reads the first line of an event, with its newline. All commands are known here.
-#[tactic(auto, unfolding(crate::specs::EventLines::heading_at, crate::specs::Memory::names_at))]
+#[tactic(auto, unfolding(crate::specs::EventLines::heading_at, crate::specs::Memory::event_words_at))]
 pub(crate) fn read_heading(alloc: Global, line: &[u8], format: Format) -> Result<Heading, ReadError>
     ensures exact { Gives (λ x. x) result (heading_at format line.now) }
-    ensures memory { IfErr result (λ e. e ≡ NoMemory → ok_has name_bytes (names_at format line.now) ≡ true) }
+    ensures memory { IfErr result (λ e. e ≡ NoMemory → ok_has (list_any is_long) (event_words_at format line.now) ≡ true) }
 {
     let text = text_of(line, format)?;
     let mut words = words_of(text)?;
@@ -38,11 +40,11 @@ pub(crate) fn read_heading(alloc: Global, line: &[u8], format: Format) -> Result
     take_heading(alloc, &mut words, format)
 }
 
-/// What the words of an event's first line say.
-#[tactic(auto, unfolding(crate::specs::EventLines::heading_of, crate::specs::Memory::names_of))]
+/// Reads the words of an event's first line.
+#[tactic(auto, unfolding(crate::specs::EventLines::heading_of, crate::specs::Memory::event_words_of))]
 fn take_heading(alloc: Global, words: &mut Words, format: Format) -> Result<Heading, ReadError>
     ensures exact { Gives (λ x. x) result (heading_of format words.old) }
-    ensures memory { IfErr result (λ e. e ≡ NoMemory → ok_has name_bytes (names_of words.old) ≡ true) }
+    ensures memory { IfErr result (λ e. e ≡ NoMemory → ok_has (list_any is_long) (event_words_of words.old) ≡ true) }
 {
     let position = take_number(words)?;
     let seat = take_seat(words, MAX_SEATS)?;

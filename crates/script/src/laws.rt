@@ -17,14 +17,14 @@ pub fn messages()
     ensures written { (format : Format) (m : Message) → IsMessage format m → message_of format (message_line m) ≡ Some m }
 {}
 
-/// What was written of events is found to be in its format, and is read as these events, where they and their first
+/// The text of events is found to be in its format, and is read as these events, where they and their first
 /// lines keep the format's limits.
 pub fn transcripts()
     ensures format { (f : Format) (es : List Event) → All (IsEvent f) es → format_of (transcript_text f es) ≡ f }
     ensures read { (f : Format) (es : List Event) → All (IsEvent f) es → All (KeepsLimit f) es → transcript_at f (transcript_text f es) ≡ Ok es }
 {}
 
-/// What was written of calls that keep the format's limits is read as these calls, for whatever number of seats, and
+/// The text of calls that keep the format's limits is read as these calls, for whatever number of seats, and
 /// what stands behind them as its own lines say, their count carried on.
 pub fn scripts()
     ensures whole { (f : Format) (n : ℕ) (calls : Calls) → n < 2 ^ 8 → All (IsCall f n) calls → script_at f n (script_text calls) ≡ faultless calls }

@@ -82,7 +82,7 @@ pub fn first_line(text: &[u8]) -> (&[u8], &[u8])
     }
 }
 
-/// Where the first newline stands.
+/// The first newline's place.
 fn newline_at(text: &[u8]) -> Option<usize>
     ensures place { result ≡ position is_newline text.now }
     ensures within { IfSome result (λ at. at < length text.now) }

@@ -1,8 +1,10 @@
 //! Replies read from their words.
-ghost use Rattle.std.specs.Prelude.{◌≡◌, ◌≢◌, Some, IfErr};
+ghost use Rattle.std.specs.Prelude.{◌≡◌, ◌≢◌, true, IfErr};
 ghost use Rattle.word_lines.specs.Reading.{Gives, Takes};
 ghost use Rattle.spelled_words.specs.declared.fault.ReadError.TheVariants.{NoMemory};
-ghost use Rattle.script.specs.Memory.{kind_named};
+ghost use Rattle.std.specs.List.{list_any};
+ghost use Rattle.spelled_words.specs.Memory.{is_long, has_long};
+ghost use Rattle.script.specs.Memory.{value_words};
 ghost use Rattle.script.specs.ReplyReading.{stats_at, refusal_at, shape_at, named_at, reply_at};
 ghost use Rattle.script.specs.declared.reply_table.Kind.TheVariants.{Value};
 
@@ -14,7 +16,7 @@ use word_lines::arguments::{take_number, take_value};
 use word_lines::fault::{LineFault, ReadError};
 use word_lines::words::Words;
 
-/// What the words of a reply say.
+/// Reads the words of a reply.
 #[derive(Drop)]
 pub(crate) enum Shape {
     /// The whole reply.
@@ -32,7 +34,7 @@ pub(crate) fn read_reply(
     format: Format,
 ) -> Result<Shape, ReadError>
     ensures exact { Gives (λ x. x) result (reply_at format words.old) }
-    ensures memory { IfErr result (λ e. e ≡ NoMemory → kind_named words.old ≡ Some Value) }
+    ensures memory { IfErr result (λ e. e ≡ NoMemory → list_any is_long (value_words words.old) ≡ true) }
 {
     match read_named(alloc, words, format) {
         Err(ReadError::Fault(_)) => Err(ReadError::Fault(LineFault::Reply)),
@@ -43,7 +45,7 @@ pub(crate) fn read_reply(
 #[tactic(auto, unfolding(crate::specs::ReplyReading::named_at))]
 fn read_named(alloc: Global, words: &mut Words, format: Format) -> Result<Shape, ReadError>
     ensures exact { Gives (λ x. x) result (named_at format words.old) }
-    ensures memory { IfErr result (λ e. e ≡ NoMemory → kind_named words.old ≡ Some Value) }
+    ensures memory { IfErr result (λ e. e ≡ NoMemory → list_any is_long (value_words words.old) ≡ true) }
 {
     let name = words.take_word().ok_or(LineFault::WordCount)?;
     let kind = kind_of(&REPLIES, name).ok_or(LineFault::Reply)?;
@@ -54,7 +56,7 @@ fn read_named(alloc: Global, words: &mut Words, format: Format) -> Result<Shape,
     Ok(shape)
 }
 
-/// What a kind of reply says, from the words behind its name.
+/// Reads a reply of this kind, from the words behind its name.
 #[tactic(auto, unfolding(crate::specs::ReplyReading::shape_at))]
 fn take_shape(
     alloc: Global,
@@ -63,7 +65,7 @@ fn take_shape(
     format: Format,
 ) -> Result<Shape, ReadError>
     ensures exact { Takes result words.new (shape_at format kind words.old) }
-    ensures memory { IfErr result (λ e. e ≡ NoMemory → kind ≡ Value) }
+    ensures memory { IfErr result (λ e. e ≡ NoMemory → (kind ≡ Value) × (has_long 1 words.old ≡ true)) }
 {
     let reply = match kind {
         Kind::Rows => return Ok(Shape::Rows(take_number(words)?)),

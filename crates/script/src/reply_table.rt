@@ -2,7 +2,7 @@
 ghost use Rattle.std.specs.Prelude.{◌≡◌, map};
 ghost use Rattle.script.specs.ReplyTable.{reply_row, kind_of};
 
-/// Which reply.
+/// A reply's kind.
 #[derive(Clone, Copy, PartialEq, Eq)]
 pub(crate) enum Kind {
     Started,
@@ -23,7 +23,7 @@ pub(crate) enum Kind {
     Refused(Reason),
 }
 
-/// Which refusal.
+/// A refusal's kind.
 #[derive(Clone, Copy, PartialEq, Eq)]
 pub(crate) enum Reason {
     BelowClosed,

@@ -7,13 +7,13 @@
 //! ```
 //!
 //! A script is read whole, up to its first faulty line, and room is made call by call. No room is wanted before a call
-//! was read, unless the first line's command has a key, a value or a span.
+//! was read, unless the first line has a key, a value or a bound of more than 24 bytes.
 //!
 //! Cost: each byte is looked at three times. Keys, values and bounds are copied once, and at most
 //! twice where bytes are escaped.
 ghost use Rattle.std.specs.Prelude.{◌≡◌, IfOk, IfErr};
 ghost use Rattle.std.specs.List.{All};
-ghost use Rattle.word_lines.specs.Memory.{WantsMemory, verb_at};
+ghost use Rattle.word_lines.specs.Memory.{WantsMemory, byte_words_at};
 ghost use Rattle.word_lines.specs.Reading.{command_at};
 ghost use Rattle.script.specs.Scripts.{IsCall, ScriptWants, TellsScript, script_text, script_at};
 ghost use Rattle.word_lines.specs.Table.{table};
@@ -39,7 +39,7 @@ pub fn read_script(
     ensures found { IfOk result (λ calls. (text.now ≡ script_text calls.items) × All (IsCall format seats) calls.items) }
     // Which fault it is, and in which line: the first from the top and from the left.
     ensures exact { TellsScript (λ calls. calls.items) result (script_at format seats text.now) }
-    // Memory is wanted only to keep a call, or for a first line whose command has a key, a value or a span.
+    // Memory is wanted only to keep a call, or for a long key, value or bound of the first line.
     ensures memory { IfErr result (λ e. e ≡ NoMemory → ScriptWants format seats text.now) }
 {
     calls_of(alloc, text, seats, format)
@@ -75,7 +75,7 @@ fn read_call(
     format: Format,
 ) -> Result<(u8, Cmd), TranscriptError>
     ensures exact { Tells (λ x. x) result (at_line number (command_at format table seats line.now)) }
-    ensures memory { IfErr result (λ e. e ≡ NoMemory → WantsMemory (verb_at format table seats line.now)) }
+    ensures memory { IfErr result (λ e. e ≡ NoMemory → WantsMemory (byte_words_at format table seats line.now)) }
 {
     match read_command(alloc, line, seats, format) {
         Ok(call) => Ok(call),

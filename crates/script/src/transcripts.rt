@@ -27,7 +27,7 @@ use text_format::Format;
 
 /// Reads a transcript of a format: its events, or the first line that is faulty. A text that doesn't begin with the
 /// format's header is faulty in its first line, by `WordCount`. Memory is wanted only to keep an event, or where the
-/// first event's first line, read up to `=>`, names a command with a key, a value or a span, or an answer with a value,
+/// first event's first line, read up to `=>`, has a key, a value or a bound of more than 24 bytes, or such an answer,
 /// or where a line follows that it counts.
 pub fn read_transcript(
     alloc: Global,

@@ -10,7 +10,7 @@ use Rattle.spelled_words.specs.declared.fault.LineFault.{LineFault}
 use Rattle.word_lines.specs.Commands.{command_line}
 use Rattle.word_lines.specs.Limits.{IsCommand}
 use Rattle.word_lines.specs.Events.{event_text, fault_line, spent_line}
-use Rattle.word_lines.specs.Memory.{WantsMemory, verb_at}
+use Rattle.word_lines.specs.Memory.{WantsMemory, byte_words_at}
 use Rattle.word_lines.specs.Reading.{command_at}
 use Rattle.word_lines.specs.Table.{table}
 use Rattle.script.specs.Lines.{is_newline}
@@ -76,14 +76,14 @@ stop r r' w w' run events e g failed ends = record {
   failed = failed;
 }
 
--- for want of memory for the line that waits
-pub stop_memory : (r r' : Reads) (w w' : Writes) (run : Run) (events : List Event) (n : ℕ) → WantsMemory (verb_at run.terms.format table (vec_len run.callers.seats) (take n (waiting run.lines))) → IsGoing r r' w w' run events → IsStopped r r' w w' run end.Memory
+-- out of memory for the line that waits
+pub stop_memory : (r r' : Reads) (w w' : Writes) (run : Run) (events : List Event) (n : ℕ) → WantsMemory (byte_words_at run.terms.format table (vec_len run.callers.seats) (take n (waiting run.lines))) → IsGoing r r' w w' run events → IsStopped r r' w w' run end.Memory
 stop_memory r r' w w' run events n wants g =
     let next : NextWants run.terms.format run.terms.config.seats (script_text (calls_of events) ++ waiting run.lines) (calls_of events) = record {
       line = take n (waiting run.lines);
       rest = drop n (waiting run.lines);
       parts = ap (λ (xs : List ℕ). script_text (calls_of events) ++ xs) (sym (take-append-drop n (waiting run.lines)));
-      wants = subst (λ (k : ℕ). WantsMemory (verb_at run.terms.format table k (take n (waiting run.lines)))) g.seats wants;
+      wants = subst (λ (k : ℕ). WantsMemory (byte_words_at run.terms.format table k (take n (waiting run.lines)))) g.seats wants;
     } in
     stop r r' w w' run events end.Memory g g.worked (inr (inl (next, g.keeps)))
 
@@ -136,7 +136,7 @@ go_read r r' r'' w w' w'' run run' events same same' x reads t writes g =
 pub stop_input : (r r' r'' : Reads) (w w' w'' : Writes) (run run' : Run) (events : List Event) → run'.callers ≡ run.callers → run'.terms ≡ run.terms → HasReadOn run.lines run'.lines r' r'' → None ≡ position is_newline (waiting run'.lines)
     → r''.failures ≡ r'.failures + 1 → HasTaken w'.taken w''.taken run.output.pending.items run'.output.pending.items → w''.failures ≡ w'.failures → IsGoing r r' w w' run events → IsStopped r r'' w w'' run' end.Input
 stop_input r r' r'' w w' w'' run run' events same same' x none failed t writes g =
-    let before : Reads = record { given = r''.given; ended = r''.ended; failures = r'.failures } in
+    let before : Reads = record { given = r''.given; ended = r''.ended; ends = r''.ends; failures = r'.failures } in
     let input = script_text (calls_of events) ++ waiting run'.lines in
     let k : IsGoing r before w w'' run' events = go_on r r' before w w' w'' run run' events same same' x.format (read_on r.given (script_text (calls_of events)) run.lines run'.lines r' r'' x g.read) (found_on run.lines run'.lines r' r'' x g.found) refl t writes g in
     let few = few_seats run'.terms.config k.in_range.0 in
@@ -248,7 +248,7 @@ go_call r r' w w' run run' events n seat cmd event there lawful spelled by asked
     } in
     subst (λ (x : Terms). IsGoing r r' w w' (record run' { terms = x }) (events ++ event ∷ [])) (sym same) s
 
--- a call was made, and its text can't be kept for want of memory
+-- a call was made, and its text can't be kept out of memory
 pub stop_untold : (r r' : Reads) (w w' : Writes) (run run' : Run) (events : List Event) (n seat : ℕ) (cmd : Cmd) (event : Event) → seat < vec_len run.callers.seats → IsCommand run.terms.format cmd → take n (waiting run.lines) ≡ command_line seat cmd → event.seat ≡ seat → event.cmd ≡ cmd
     → HasMade run'.callers.latest run'.callers.seats.items (events ++ event ∷ []) → run'.callers.db ≡ run.callers.db → run'.terms ≡ run.terms → run'.output.pending.items ≡ run.output.pending.items
     → IsGoing r r' w w' run events → IsStopped r r' w w' run' end.Memory

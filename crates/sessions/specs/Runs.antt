@@ -5,7 +5,7 @@ use Rattle.spans.specs.declared.calls.commands.Cmd.{Cmd}
 use Rattle.spans.specs.declared.calls.events.Event.{Event}
 use Rattle.spelled_words.specs.declared.fault.LineFault.{LineFault}
 use Rattle.word_lines.specs.Events.{fault_line, spent_line}
-use Rattle.word_lines.specs.Memory.{WantsMemory, verb_at}
+use Rattle.word_lines.specs.Memory.{WantsMemory, byte_words_at}
 use Rattle.word_lines.specs.Table.{table}
 use Rattle.script.specs.Lines.{is_newline}
 use Rattle.script.specs.Scripts.{script_at, script_text}
@@ -67,12 +67,12 @@ pub record IsPart (format : Format) (used : Type 0) (seats : ℕ) (input : List 
   pub is_last : IsLast format used seats input ended (calls_of events) last
   pub begins : StartsWith (transcript_text format events ++ last) output
 
--- behind these calls stands a line whose command has a key, a value or a span
+-- behind these calls stands a line with a long key, value or bound
 pub record NextWants (format : Format) (seats : ℕ) (input : List ℕ) (calls : List (ℕ × Cmd)) : Type 0 where
   pub line : List ℕ
   pub rest : List ℕ
   pub parts : input ≡ script_text calls ++ (line ++ rest)
-  pub wants : WantsMemory (verb_at format table seats line)
+  pub wants : WantsMemory (byte_words_at format table seats line)
 
 -- memory was wanted at the start, before anything was read or written; or for the next line's command; or for the text of the latest event
 abbrev pub IsWanting : Format → ℕ → List ℕ → List Event → List ℕ → Type 0
@@ -97,7 +97,7 @@ EndsBy format used config input ended events output end.Input = AreLines format 
 EndsBy format used config input ended events output end.Output = IsPart format used config.seats input ended events output
 EndsBy format used config input ended events output end.Memory = IsWanting format config.seats input events output
 
--- the limits of a database are kept, but at `Open`, which says otherwise or that it found no memory, and comes before all others
+-- the limits of a database are kept, but at `Open`, which says otherwise or that it ran out of memory, and comes before all others
 abbrev pub IsOpenAt : Config → ServeEnd → Type 0
 IsOpenAt config (end.Open reason) = Unit {0}
 IsOpenAt config _ = SeatsInRange config × RingInRange config

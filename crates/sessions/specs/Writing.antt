@@ -1,11 +1,11 @@
 -- What writes did to bytes that were to be written, and how reading or writing a whole ends.
-use Rattle.std.specs.Prelude.{◌≡◌, List, [], true, ℕ, ◌+◌, ◌++◌, Result, Ok, Err, Vec}
+use Rattle.std.specs.Prelude.{◌≡◌, List, [], ℕ, ◌+◌, ◌++◌, Result, Ok, Err, Vec}
 use Rattle.std.specs.Global.{Global}
 use Rattle.sessions.specs.declared.output.Output.{Output}
 use Rattle.sessions.specs.declared.sink.WriteFailed.{WriteFailed}
 use Rattle.sessions.specs.declared.ending.ServeEnd.{ServeEnd}
 use Rattle.sessions.specs.declared.ending.ServeEnd.TheVariants as end
-use Rattle.sessions.specs.Devices.{Reads, Writes}
+use Rattle.sessions.specs.Devices.{Reads, Writes, EndsOnce}
 
 -- the bytes that wait to be written
 abbrev pub pending_of : Output → List ℕ
@@ -26,9 +26,9 @@ abbrev pub HasWritten : Writes → Writes → (bytes rest : List ℕ) → Result
 HasWritten w w' bytes rest (Ok _) = HasTaken w.taken w'.taken bytes rest × (w'.failures ≡ w.failures)
 HasWritten w w' bytes rest (Err _) = HasBegun w.taken w'.taken bytes × (w'.failures ≡ w.failures + 1)
 
--- a source was read to its end; or a read failed, which was the last; or memory was wanted
+-- a source was read to its end, and not once more; or a read failed, which was the last; or memory was wanted
 abbrev pub IsReadWhole : Reads → Reads → Result (Vec ℕ Global) ServeEnd → Type 0
-IsReadWhole r r' (Ok whole) = (r'.given ≡ r.given ++ whole.items) × (r'.ended ≡ true) × (r'.failures ≡ r.failures)
+IsReadWhole r r' (Ok whole) = (r'.given ≡ r.given ++ whole.items) × EndsOnce r r' × (r'.failures ≡ r.failures)
 IsReadWhole r r' (Err end.Input) = r'.failures ≡ r.failures + 1
 IsReadWhole r r' (Err end.Memory) = r'.failures ≡ r.failures
 IsReadWhole r r' (Err _) = ⊥

@@ -8,12 +8,13 @@ use crate::source::{ReadFailed, Source};
 use byte_log::{ByteLog, Growth};
 use std::io::{Read, Write};
 
-/// A reader, with what proofs know of its reads: what they gave, and one byte for each that failed.
+/// A reader, with what proofs know of its reads: what they gave, and one byte for each that found the end, or failed.
 #[derive(Drop)]
 pub struct Reading<R> {
     pub reader: R,
     ended: bool,
     given: ByteLog,
+    ends: ByteLog,
     failed: ByteLog,
 }
 
@@ -23,12 +24,14 @@ impl<R: Read> Reading<R> {
         ensures reader { result.reader ≡ reader }
         ensures ended { result.ended ≡ false }
         ensures given { result.given.bytes ≡ [] }
+        ensures ends { result.ends.bytes ≡ [] }
         ensures failed { result.failed.bytes ≡ [] }
     {
         Reading {
             reader,
             ended: false,
             given: ByteLog::new(),
+            ends: ByteLog::new(),
             failed: ByteLog::new(),
         }
     }
@@ -50,6 +53,9 @@ impl<R: Read> Source for Reading<R> {
                     bytes: &block[..count],
                 });
                 self.ended = count == 0;
+                if count == 0 {
+                    self.ends = self.ends.and(&Growth { bytes: &[0] });
+                }
                 Ok(count)
             }
             Err(_) => {

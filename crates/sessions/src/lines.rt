@@ -32,7 +32,7 @@ pub struct Lines {
     block: Vec<u8>,
     start: usize,
     end: usize,
-    /// Where the first newline stands among what waits. Each byte is looked at once, whether or not a read completes a
+    /// The first newline's place among what waits. Each byte is looked at once, whether or not a read completes a
     /// line.
     newline: Option<usize>,
     /// Whether the latest read found the end.
@@ -158,7 +158,7 @@ impl Lines {
     }
 }
 
-/// Where the first newline stands, where it is known where that of the first `searched` bytes does.
+/// The first newline's place in `bytes`. `newline` is its place in the first `searched` bytes, if they have one.
 fn newline_with(newline: Option<usize>, bytes: &[u8], searched: usize) -> Option<usize>
     requires within { searched ≤ length bytes.now }
     requires known { newline ≡ position is_newline (take searched bytes.now) }
@@ -173,7 +173,7 @@ fn newline_with(newline: Option<usize>, bytes: &[u8], searched: usize) -> Option
     }
 }
 
-/// Where the first newline stands.
+/// The first newline's place.
 #[tactic(auto, using(crate::proofs::Finding::first_newline))]
 fn newline_in(bytes: &[u8]) -> Option<usize>
     ensures place { result ≡ position is_newline bytes.now }

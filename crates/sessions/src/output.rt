@@ -37,7 +37,7 @@ impl Output {
         Ok(Output { pending })
     }
 
-    /// Keeps these bytes. Where memory is wanted, none of them.
+    /// Keeps these bytes, or none of them where it is out of memory.
     pub fn keep(&mut self, bytes: &[u8]) -> Result<(), AllocError>
         ensures ok { OnOk result (pending_of self.new ≡ pending_of self.old ++ bytes.now) }
         ensures err { OnErr result (pending_of self.new ≡ pending_of self.old) }
@@ -45,7 +45,7 @@ impl Output {
         self.pending.extend_from_slice(bytes)
     }
 
-    /// Keeps the text of an event. Where memory is wanted, none of it.
+    /// Keeps the text of an event, or none of it where it is out of memory.
     pub fn keep_event(&mut self, event: &Event) -> Result<(), AllocError>
         ensures ok { OnOk result (pending_of self.new ≡ pending_of self.old ++ event_text event.now) }
         ensures err { OnErr result (pending_of self.new ≡ pending_of self.old) }
@@ -53,8 +53,8 @@ impl Output {
         write_event(&mut self.pending, event)
     }
 
-    /// Keeps the text of an event whose command was read from a line, as it stands there. Where memory is wanted, none
-    /// of it.
+    /// Keeps the text of an event whose command was read from a line, as it stands there; none of it where it
+    /// is out of memory.
     pub fn keep_echo(&mut self, line: &[u8], event: &Event) -> Result<(), AllocError>
         requires { line.now ≡ command_line event.now.seat event.now.cmd }
         ensures ok { OnOk result (pending_of self.new ≡ pending_of self.old ++ event_text event.now) }

@@ -48,7 +48,7 @@ pub fn serve<S: Source, K: Sink, T: Wait>(
     }
 }
 
-/// What a run goes by: the database that it opens, and the format of its texts.
+/// The terms of a run: the database that it opens, and the format of its texts.
 #[derive(Clone, Copy)]
 struct Terms {
     config: Config,

@@ -6,7 +6,7 @@ ghost use Rattle.sessions.specs.Devices.{Writes, with_taken, with_failed_write};
 #[derive(Clone, Copy, Debug, PartialEq, Eq)]
 pub struct WriteFailed;
 
-/// What takes bytes, write by write. Proofs know what it took and how often it failed.
+/// A device that takes bytes, write by write. Proofs know what it took and how often it failed.
 pub trait Sink {
     ghost writes: { Self → Writes };
 

@@ -6,7 +6,7 @@ ghost use Rattle.sessions.specs.Devices.{Reads, with_given, with_failed_read};
 #[derive(Clone, Copy, Debug, PartialEq, Eq)]
 pub struct ReadFailed;
 
-/// What gives bytes, read by read. Proofs know what it gave and how often it failed.
+/// A device that gives bytes, read by read. Proofs know what it gave and how often it failed.
 pub trait Source {
     ghost reads: { Self → Reads };
 

@@ -30,7 +30,7 @@ pub record IsOpened {C : Ghosts Served Event} (config : Config) (db : Db) (seats
   pub pass_total : length passes ≡ config.seats
   pub new_passes : All (IsNewPass db.oracle 0) passes
 
--- the first limit that is passed, or want of memory where none is
+-- the first limit that is passed, or out of memory where none is
 abbrev pub IsReason : Config → OpenError → Type 0
 IsReason config SeatCount = (config.seats ≡ 0) ⊎ (64 < config.seats)
 IsReason config RingSize = SeatsInRange config × ((config.ring ≡ 0) ⊎ (65536 < config.ring))

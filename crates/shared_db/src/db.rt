@@ -18,7 +18,7 @@ pub struct Db {
     pub(crate) oracle: Oracle,
 }
 
-// a call of its own, so that where a database is dropped no proof has a case for each part of it
+// for the proof, which has no case for each part of it where a database is dropped
 impl Drop for Db {
     fn drop(self) {
         let Db { lock: _, oracle: _ } = self;

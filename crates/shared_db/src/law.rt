@@ -12,7 +12,7 @@ ghost use Rattle.shared_db.specs.declared.db.Db.{Db};
 ghost use Rattle.shared_db.specs.Calls.{IsAnswered};
 ghost use Rattle.shared_db.specs.Whole.{IsWhole};
 
-/// What a seat has seen after a call is lawful, and so is the whole history once all seats are back: each clause of
+/// A seat's view after a call is lawful, and so is the whole history once all seats are back: each clause of
 /// `spans::law::law_of_histories` holds of both.
 ///
 /// It does nothing. Its contract is the theorem.

@@ -90,11 +90,6 @@ ends (m ∷ ms) = elim (ends ms) [
   | inr more ↦ inr (m ∷ more.0, more.1, ap (λ l. m ∷ l) more.2)
 ]
 
-last_joins : (o : Option Row) (ms : List Message) (r : Row) → last_row o (ms ++ messages.Row r ∷ []) ≡ Some r
-last_joins o [] r = refl
-last_joins o (messages.Row s ∷ ms) r = last_joins (Some s) ms r
-last_joins o (messages.Resolved t ∷ ms) r = last_joins o ms r
-
 -- the number that is complete, where one is
 pub complete_is : (start cursor n : ℕ) (ms : List Message) → complete_after start cursor ms ≡ Some n → (floor_after start ms ≡ n) × (cursor ≤ n)
 complete_is start cursor n ms is = by_test (nat_lt (floor_after start ms) cursor)

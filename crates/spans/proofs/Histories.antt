@@ -1,4 +1,4 @@
--- Lists of events grow at their end, and histories at their front. Want of memory does nothing.
+-- Lists of events grow at their end, and histories at their front. Running out of memory does nothing.
 use Rattle.std.proofs.Common.{◌≡◌, ℕ, suc, ◌+◌, List, [], ◌∷◌, ◌++◌, length, reverse, refl, arith, ◌≤◌}
 use Rattle.std.proofs.lemmas.List.{reverse-append, length-map}
 use Rattle.spans.specs.declared.calls.commands.Cmd.{Cmd}
@@ -20,7 +20,7 @@ gapless_more n (x ∷ xs) e gapless at = (gapless.0, gapless_more (suc n) xs e g
 pub turned_more : (es : List Event) (e : Event) → reverse (es ++ e ∷ []) ≡ e ∷ reverse es
 turned_more es e = reverse-append es (e ∷ [])
 
--- want of memory does nothing
+-- running out of memory does nothing
 pub wanting_does_nothing : (seat : ℕ) (cmd : Cmd) → effect seat cmd (Refused NoMemory) ≡ NoEffect
 wanting_does_nothing seat (Begin t) = refl
 wanting_does_nothing seat (Put t x v) = refl

@@ -152,7 +152,7 @@ answer_allowed p seat (Collect to) = unless_is (λ r. Allowed p (effect seat (Co
     (λ _. tt, λ _. (to, refl))
 answer_allowed p seat Stats = tt
 
--- want of memory does nothing
+-- running out of memory does nothing
 pub nothing_allowed : (p : List Effect) (seat : ℕ) (cmd : Cmd) → Allowed p (effect seat cmd (Refused NoMemory))
 nothing_allowed p seat (Begin t) = tt
 nothing_allowed p seat (Put t x v) = tt

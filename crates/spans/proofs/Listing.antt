@@ -10,7 +10,7 @@ use Rattle.spans.specs.Keys.{in_span, pairs_of, IsPairIn, KeysRise}
 use Rattle.spans.specs.declared.kind.Kind.{Kind}
 use Rattle.spans.specs.Effects.{After, Effect, Writes, Commits}
 use Rattle.spans.specs.Transactions.{closed_of, is_committed}
-use Rattle.spans.specs.Versions.{committed_value, written_keys}
+use Rattle.spans.specs.Versions.{written_keys}
 use Rattle.spans.specs.Serial.{Map, serial_run, map_at, span_part}
 use Rattle.spans.specs.Streams.{stream_of, pair_row, snapshot_rows}
 use Rattle.spans.specs.Feeds.{Feed, first_rows, list_of, start_at, start_of}
@@ -148,10 +148,6 @@ part_pairs span m n [] same = refl
 part_pairs span m n (x ∷ xs) same = by_test (in_span span x)
     (λ inside. rw inside (rw (same x, part_pairs span m n xs same) refl))
     (λ out. rw out (part_pairs span m n xs same))
-
--- the map's rows are those of a scan at its timestamp
-pub snapshot_is : (p : List Effect) (span : Span) (t : ℕ) → snapshot_rows p span t ≡ map (pair_row t) (pairs_of (λ x. committed_value p x t) (filter (in_span span) (written_keys p)))
-snapshot_is p span t = ap (map (pair_row t)) (part_pairs span (map_at p t) (λ x. committed_value p x t) (written_keys p) (λ x. map_at_is p t x))
 
 -- the start is at or below the cursor
 pub start_low : (kind : Kind) (c : ℕ) → start_at kind c ≤ c

@@ -2,14 +2,18 @@
 use Rattle.std.proofs.Common.{◌≡◌, ℕ, ◌+◌, ◌-◌, ◌≤◌, ◌==◌, not, List, [], ◌∷◌, ◌++◌, length, Some, refl, sym, ◌∙◌, ap, subst, true, inl, inr, arith}
 use Rattle.std.proofs.lemmas.Bool.{eqb-true}
 use Rattle.spans.specs.declared.calls.replies.Reply.TheVariants as replies
-use Rattle.spans.specs.Effects.{After, Effect, Reads, Scans, Protects, Releases}
+use Rattle.spans.specs.declared.calls.events.Event.{Event}
+use Rattle.spans.specs.Legal.{IsLegal}
+use Rattle.spans.specs.Effects.{effects_of, After, Effect, Reads, Scans, Protects, Releases}
 use Rattle.spans.specs.Transactions.{closed_of, undecided_timestamps}
 use Rattle.spans.specs.Versions.{write_of, version_of, visible}
 use Rattle.spans.specs.Collection.{Protection, LiveFeed, horizon_of, protections_of, live_feeds, floor_of, versions_of, is_dead, dead_of}
-use Rattle.spans.specs.Promises.{ReadsOwn, NeverFalls, HasRisen, Stands, ProtectionsHold, IsHorizonHeld, SnapshotsStand, left_versions, AreVersionsCounted}
+use Rattle.spans.specs.Promises.{ReadsOwn, NeverFalls, HasRisen, MapsStand, Stands, ProtectionsHold, IsHorizonHeld, SnapshotsStand, left_versions, AreVersionsCounted}
 use Rattle.spans.proofs.Steps.{by_test, newest_at}
 use Rattle.spans.proofs.Keyed.{among_rows}
 use Rattle.spans.proofs.Copies.{IsActive, Allowed, AllAllowed, closed_grows}
+use Rattle.spans.proofs.Legal.{legal_allowed}
+use Rattle.spans.proofs.Listing.{map_stays}
 use Rattle.spans.proofs.Members.{Has, all_of, has_filter, parted}
 use Rattle.spans.proofs.VersionNames.{versions_distinct}
 use Rattle.spans.proofs.Horizon.{horizon_low, horizon_grows, protections_high}
@@ -39,6 +43,21 @@ never_falls p d allowed = record { closed = closed_grows p d allowed; horizon = 
 pub has_risen : (p : List Effect) → AllAllowed p → HasRisen p
 has_risen [] all = tt
 has_risen (d ∷ p) all = (never_falls p d all.0, has_risen p all.1)
+
+-- closed is at least where it was, and each map up to there is what it was
+stands_for_ever : (later h : List Event) → IsLegal (later ++ h)
+    → (closed_of (effects_of h) ≤ closed_of (effects_of (later ++ h))) × MapsStand (effects_of (later ++ h)) (effects_of h)
+stands_for_ever [] h legal = (omega arith, λ t low. refl)
+stands_for_ever (e ∷ later) h legal =
+    let before = stands_for_ever later h legal.1 in
+    let allowed = (legal_allowed (e ∷ later ++ h) legal).0 in
+    let risen = closed_grows (effects_of (later ++ h)) _ allowed in (
+      omega (arith, before.0, risen),
+      λ t low. map_stays (effects_of (later ++ h)) _ allowed t (omega (arith, low, before.0)) ∙ before.1 t low,
+    )
+
+pub maps_stand : (later h : List Event) → IsLegal (later ++ h) → MapsStand (effects_of (later ++ h)) (effects_of h)
+maps_stand later h legal = (stands_for_ever later h legal).1
 
 abbrev protection : ℕ → ℕ → Protection
 protection id t = record { id = id; at = t }

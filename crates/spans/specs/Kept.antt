@@ -11,17 +11,16 @@ use Rattle.spans.specs.declared.calls.messages.Message.{Message}
 use Rattle.spans.specs.declared.calls.messages.Message.TheVariants as messages
 use Rattle.spans.specs.Effects.{After, Effect}
 use Rattle.spans.specs.Transactions.{owner_of, closed_of, is_committed, is_aborted}
-use Rattle.spans.specs.Versions.{write_set, version_of, committed_version_of}
+use Rattle.spans.specs.Versions.{version_of, committed_version_of}
 use Rattle.spans.specs.Reads.{too_late}
 use Rattle.spans.specs.Feeds.{Feed, feed_of, feeds_opened, is_cancelled, told_to, resolved_of}
 use Rattle.spans.specs.Collection.{Protection, VersionName, version_name, horizon_of, protections_of, protections_made, is_dead}
 use Rattle.spans.specs.Consumer.{name_of}
 
--- a transaction: its owner, how it stands, and the keys that it wrote, rising
+-- a transaction: its owner, and how it stands. What it wrote are the versions at its timestamp
 pub record Transaction : Type 0 where
   pub seat : ℕ
   pub state : State
-  pub keys : List (List ℕ)
 
 -- a live feed and its place: the greatest of its start and its resolved timestamps, and the name of the row that was told
 -- last. The kind and the cursor say what an initial feed tells first, and where it is read
@@ -56,7 +55,7 @@ abbrev pub state_of : List Effect → ℕ → State
 state_of p t = if is_committed p t then states.Committed else (if is_aborted p t then states.Aborted else states.Undecided)
 
 abbrev pub transaction_with : List Effect → ℕ → ℕ → Transaction
-transaction_with p t seat = record { seat = seat; state = state_of p t; keys = write_set p t }
+transaction_with p t seat = record { seat = seat; state = state_of p t }
 
 -- a transaction above closed
 abbrev pub transaction_of : List Effect → ℕ → Option Transaction

@@ -1,5 +1,5 @@
--- What the guide promises of a transaction's own writes, of closed and the horizon, of snapshots and of counts, in every
--- legal history (this project).
+-- What the guide promises of a transaction's own writes, of closed and the horizon, of closed maps, of snapshots and of
+-- counts, in every legal history (this project).
 use Rattle.std.specs.Prelude.{ℕ, List, [], ◌∷◌, ◌++◌, All, filter, length, true, false, not, ◌-◌, ◌≡◌, ◌≤◌, Option, Some, None, if◌then◌else◌}
 use Rattle.spans.specs.declared.calls.commands.Cmd.TheVariants.{Stats}
 use Rattle.spans.specs.declared.calls.replies.Reply.TheVariants as replies
@@ -10,6 +10,7 @@ use Rattle.spans.specs.Transactions.{closed_of, undecided_timestamps}
 use Rattle.spans.specs.Newest.{newest}
 use Rattle.spans.specs.Versions.{write_of, committed_version_of}
 use Rattle.spans.specs.Feeds.{Feed, feed_of, is_cancelled}
+use Rattle.spans.specs.Serial.{map_at}
 use Rattle.spans.specs.Collection.{Protection, LiveFeed, live_feed, horizon_of, protections_of, live_feeds, floor_of, VersionName, version_name, versions_of, is_dead, dead_of}
 use Rattle.spans.specs.Answer.{answer_of}
 
@@ -30,6 +31,10 @@ pub record NeverFalls (p p' : List Effect) : Type 0 where
 abbrev pub HasRisen : List Effect → Type 0
 HasRisen [] = Unit {0}
 HasRisen (d ∷ p) = NeverFalls p (d ∷ p) × HasRisen p
+
+-- of a later list of effects, each map at or below where closed was is what it was then
+abbrev pub MapsStand : (later p : List Effect) → Type 0
+MapsStand later p = (t : ℕ) → t ≤ closed_of p → map_at later t ≡ map_at p t
 
 -- a protection of this number isn't released by any of the effects
 abbrev pub Stands : ℕ → List Effect → Type 0

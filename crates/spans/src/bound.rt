@@ -1,5 +1,5 @@
 //! Bounds of spans: 1 to 257 bytes, so that the place just above any key is one.
-ghost use Rattle.std.specs.Prelude.{◌≡◌, ℕ, suc, List, Some, ◌<◌, ◌≤◌, ◌⊎◌, length, take, bytes_eq, IfOk, IfErr, OnOk};
+ghost use Rattle.std.specs.Prelude.{◌≡◌, ℕ, suc, List, Some, ◌<◌, ◌≤◌, ◌⊎◌, length, take, bytes_eq, IfOk, IfErr, OnOk, OnErr};
 ghost use Rattle.std.specs.Cmp.{partial_equiv_from_equiv};
 ghost use Rattle.std.specs.Cmp.Lexicographic.{nat_list_eq_equiv};
 ghost use Rattle.spans.specs.KeyOrder.{from_low, below_high, key_lt};
@@ -54,7 +54,7 @@ struct LongBytes {
     all: SmallBytes,
 }
 
-// a call of its own, so that where a bound is dropped no proof has a case for each place of its bytes
+// for the proof, which has no case for each place of its bytes where a bound is dropped
 impl Drop for BoundBytes {
     fn drop(self) {
         match self {
@@ -81,6 +81,7 @@ impl Bound {
         ensures refused { IfErr result (λ e. e ≡ BoundLength → (length bytes.now ≡ 0) ⊎ (MAX_BOUND_BYTES < length bytes.now)) }
         ensures limit { MAX_BOUND_BYTES ≡ 257 }
         ensures memory { IfErr result (λ e. e ≡ NoMemory → (1 ≤ length bytes.now) × (length bytes.now ≤ MAX_BOUND_BYTES)) }
+        ensures many { IfErr result (λ e. e ≡ NoMemory → 24 < length bytes.now) }
     {
         if bytes.is_empty() || bytes.len() > MAX_BOUND_BYTES {
             return Err(BoundError::BoundLength);
@@ -95,7 +96,8 @@ impl Bound {
     fn of(alloc: Global, bytes: &[u8]) -> Result<Bound, AllocError>
         requires some { 1 ≤ length bytes.now }
         requires few { length bytes.now ≤ MAX_BOUND_BYTES }
-        ensures { IfOk result (λ b. b ≡ bytes.now) }
+        ensures bytes { IfOk result (λ b. b ≡ bytes.now) }
+        ensures many { OnErr result (24 < length bytes.now) }
     {
         if bytes.len() <= MAX_KEY_BYTES {
             let key = key_of(alloc, bytes)?;
@@ -174,7 +176,7 @@ impl Bound {
         }
     }
 
-    /// Where the keys at or above the bound begin, as a map of keys is asked for a range. A bound may have one byte
+    /// The beginning of the keys at or above the bound, as a map of keys is asked for a range. A bound may have one byte
     /// more than a key. Then the keys above it are those above its first bytes.
     pub fn start(&self) -> ops::Bound<&Key>
         ensures { bound_map (λ k. k.now) result ≡ start_of (Some self.now) }
@@ -228,7 +230,8 @@ impl Eq for Bound {
 fn key_of(alloc: Global, bytes: &[u8]) -> Result<Key, AllocError>
     requires some { 1 ≤ length bytes.now }
     requires few { length bytes.now ≤ MAX_KEY_BYTES }
-    ensures { IfOk result (λ k. k ≡ bytes.now) }
+    ensures bytes { IfOk result (λ k. k ≡ bytes.now) }
+    ensures many { OnErr result (24 < length bytes.now) }
 {
     match Key::new(alloc, bytes) {
         Ok(key) => Ok(key),

@@ -1,7 +1,7 @@
 //! The kinds of feeds.
 ghost use Rattle.std.specs.Prelude.{true, ◌≡◌, ◌<◌};
 
-/// What a feed tells first, and how far apart its resolved messages lie.
+/// A feed's kind: what it tells first, and how far apart its resolved messages lie.
 #[derive(Clone, Copy, Debug, PartialEq, Eq)]
 pub struct Kind {
     /// It tells what its span holds at the cursor first, as rows at the cursor, and then the versions above.
@@ -13,7 +13,7 @@ pub struct Kind {
 impl Kind {
     ghost use Rattle.spans.specs.Feeds.{start_at, is_due};
 
-    /// Where a feed of this kind starts: all that it tells is above this.
+    /// The start of a feed of this kind: all that it tells is above this.
     pub fn start(self, cursor: u64) -> u64
         ensures { result ≡ start_at self cursor }
     {

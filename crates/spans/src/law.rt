@@ -1,5 +1,5 @@
 //! The law of histories: what holds of every legal history, as the contract of one function.
-ghost use Rattle.std.specs.Prelude.{List, ◌∷◌, ℕ, ◌≡◌, ◌↔◌, true, Some};
+ghost use Rattle.std.specs.Prelude.{List, ◌∷◌, ◌++◌, ℕ, ◌≡◌, ◌↔◌, true, Some};
 ghost use Rattle.spans.specs.declared.calls.events.Event.{Event};
 ghost use Rattle.spans.specs.Effects.{effects_of};
 ghost use Rattle.spans.specs.Legal.{IsLegal};
@@ -8,7 +8,7 @@ ghost use Rattle.spans.specs.Feeds.{Feed, feed_of};
 ghost use Rattle.spans.specs.FeedRight.{FeedIsRight};
 ghost use Rattle.spans.specs.Consumer.{ConsumerIsRight};
 ghost use Rattle.spans.specs.Completeness.{CompleteIsRight};
-ghost use Rattle.spans.specs.Promises.{ReadsOwn, NeverFalls, IsHorizonHeld, SnapshotsStand, AreVersionsCounted};
+ghost use Rattle.spans.specs.Promises.{ReadsOwn, NeverFalls, MapsStand, IsHorizonHeld, SnapshotsStand, AreVersionsCounted};
 ghost use Rattle.spans.specs.Law.{IsLawful};
 ghost use Rattle.spans.specs.Serial.{IsOneCopy};
 
@@ -17,17 +17,18 @@ ghost use Rattle.spans.specs.Serial.{IsOneCopy};
 /// after each resolved message the map at its timestamp; and, between resolved messages too, it knows
 /// through where it was told all. Beside it: the write rule that the answers
 /// test is the one of Bernstein, Hadzilacos and Goodman, for every list of events; and every read,
-/// also one of a transaction that was aborted, that wasn't given its own transaction's version was
-/// given what is for good the newest committed version below its reader. (Timestamps begin at 1:
-/// `suc t` is the reader, and what is at most `t` is below it.)
+/// also by a transaction that aborts later, returns its own transaction's write, or else the newest
+/// committed version below its timestamp, and no later commit changes which version that is.
+/// (Timestamps begin at 1: `suc t` is the reader, and what is at most `t` is below it.)
 ///
 /// It keeps what the guide promises too: a transaction reads its own writes; closed and the horizon
-/// never fall; the horizon passes neither closed, nor a protection before its release, nor the floor of
+/// never fall; closed is for ever, since nothing that comes later changes the map at a closed
+/// timestamp; the horizon passes neither closed, nor a protection before its release, nor the floor of
 /// a feed before its cancellation; what a collection drops changes no snapshot from the horizon on; and
 /// `stats` tells how many versions aren't dead, each counted once. `lawful` says each clause of one
 /// history in one word, for the contracts above.
 ///
-/// Legal says of a history that each reply is the one that `answer_of` computes, or want of memory
+/// Legal says of a history that each reply is the one that `answer_of` computes, or out of memory
 /// where a command may want it. Nothing else is assumed.
 ///
 /// It does nothing. Its contract is the theorem.
@@ -40,6 +41,7 @@ pub fn law_of_histories()
     ensures completes { (h : List Event) → IsLegal h → (f : ℕ) (feed : Feed) → feed_of (effects_of h) f ≡ Some feed → CompleteIsRight (effects_of h) f feed }
     ensures own { (h : List Event) → IsLegal h → ReadsOwn (effects_of h) }
     ensures rises { (e : Event) (h : List Event) → IsLegal (e ∷ h) → NeverFalls (effects_of h) (effects_of (e ∷ h)) }
+    ensures for_ever { (later h : List Event) → IsLegal (later ++ h) → MapsStand (effects_of (later ++ h)) (effects_of h) }
     ensures horizon { (h : List Event) → IsLegal h → IsHorizonHeld (effects_of h) }
     ensures snapshots { (h : List Event) → IsLegal h → SnapshotsStand (effects_of h) }
     ensures counts { (h : List Event) → IsLegal h → AreVersionsCounted (effects_of h) }

@@ -65,7 +65,7 @@ pub struct FeedReport {
     pub resolved: Option<u64>,
     /// Through where its consumer knows that all was told; none while an initial feed tells what is at its cursor.
     pub complete: Option<u64>,
-    /// What a collection leaves for it.
+    /// The floor that it sets to a collection.
     pub floor: u64,
     /// How many rows at or below closed it has still to tell. Only a whole report has it.
     pub untold: Option<u64>,
@@ -85,7 +85,7 @@ pub struct Report {
     pub feeds: Vec<FeedReport>,
 }
 
-// a call of its own, so that where a report is dropped no proof has a case for each part of it
+// for the proof, which has no case for each part of it where a report is dropped
 impl Drop for Report {
     fn drop(self) {
         let Report {
@@ -100,7 +100,7 @@ impl Drop for Report {
     }
 }
 
-/// What keeps a collection from going further.
+/// The holder that keeps a collection from going further.
 #[derive(Clone, Copy, Debug, PartialEq, Eq)]
 pub enum Holder {
     /// Nothing but the closed timestamp.

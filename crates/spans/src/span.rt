@@ -12,7 +12,7 @@ pub struct Span {
     pub hi: Option<Bound>,
 }
 
-// a call of its own, so that where a span is dropped no proof has a case for each bound of it
+// for the proof, which has no case for each bound of it where a span is dropped
 impl Drop for Span {
     fn drop(self) {
         let Span { lo: _, hi: _ } = self;

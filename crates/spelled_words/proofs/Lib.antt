@@ -2,3 +2,4 @@ pub mod Spellings
 pub mod Splitting
 pub mod Unescaping
 pub mod SpelledWords
+pub mod LongWords

@@ -1,6 +1,7 @@
 //! The words of a command read as what it takes, from left to right.
-ghost use Rattle.std.specs.Prelude.{◌≢◌, IfErr};
+ghost use Rattle.std.specs.Prelude.{◌≡◌, ◌≢◌, true, drop, IfErr};
 ghost use Rattle.spelled_words.specs.declared.fault.ReadError.TheVariants.{NoMemory};
+ghost use Rattle.spelled_words.specs.Memory.{has_long};
 ghost use Rattle.spelled_words.specs.Reading.{Takes, number_at, key_at, value_at, bound_at, span_at, number_and_key_at, number_and_span_at, opening_at, opening_every_at};
 
 use crate::fault::{LineFault, ReadError};
@@ -30,7 +31,8 @@ pub fn take_number(words: &mut Words) -> Result<u64, ReadError>
 #[inline(always)]
 #[tactic(auto, unfolding(crate::specs::Reading::key_at))]
 pub fn take_key(alloc: Global, words: &mut Words, format: Format) -> Result<Key, ReadError>
-    ensures { Takes result words.new (key_at format words.old) }
+    ensures exact { Takes result words.new (key_at format words.old) }
+    ensures memory { IfErr result (λ e. e ≡ NoMemory → has_long 1 words.old ≡ true) }
 {
     let word = words.take_word().ok_or(LineFault::WordCount)?;
     let spelled = bytes_of(alloc, word)?;
@@ -48,7 +50,8 @@ pub fn take_key(alloc: Global, words: &mut Words, format: Format) -> Result<Key,
 /// A value of the format. Its bytes are copied as a key's are.
 #[tactic(auto, unfolding(crate::specs::Reading::value_at))]
 pub fn take_value(alloc: Global, words: &mut Words, format: Format) -> Result<Value, ReadError>
-    ensures { Takes result words.new (value_at format words.old) }
+    ensures exact { Takes result words.new (value_at format words.old) }
+    ensures memory { IfErr result (λ e. e ≡ NoMemory → has_long 1 words.old ≡ true) }
 {
     let word = words.take_word().ok_or(LineFault::WordCount)?;
     let spelled = bytes_of(alloc, word)?;
@@ -66,7 +69,8 @@ pub fn take_value(alloc: Global, words: &mut Words, format: Format) -> Result<Va
 /// A bound of the format, or `-` for none.
 #[tactic(auto, unfolding(crate::specs::Reading::bound_at))]
 fn take_bound(alloc: Global, words: &mut Words, format: Format) -> Result<Option<Bound>, ReadError>
-    ensures { Takes result words.new (bound_at format words.old) }
+    ensures exact { Takes result words.new (bound_at format words.old) }
+    ensures memory { IfErr result (λ e. e ≡ NoMemory → has_long 1 words.old ≡ true) }
 {
     let word = words.take_word().ok_or(LineFault::WordCount)?;
     if word == b"-".as_slice() {
@@ -87,7 +91,8 @@ fn take_bound(alloc: Global, words: &mut Words, format: Format) -> Result<Option
 /// A span: its lower and its upper bound.
 #[tactic(auto, unfolding(crate::specs::Reading::span_at))]
 pub fn take_span(alloc: Global, words: &mut Words, format: Format) -> Result<Span, ReadError>
-    ensures { Takes result words.new (span_at format words.old) }
+    ensures exact { Takes result words.new (span_at format words.old) }
+    ensures memory { IfErr result (λ e. e ≡ NoMemory → has_long 2 words.old ≡ true) }
 {
     let lo = take_bound(alloc, words, format)?;
     let hi = take_bound(alloc, words, format)?;
@@ -102,7 +107,8 @@ pub fn take_number_and_key(
     words: &mut Words,
     format: Format,
 ) -> Result<(u64, Key), ReadError>
-    ensures { Takes result words.new (number_and_key_at format words.old) }
+    ensures exact { Takes result words.new (number_and_key_at format words.old) }
+    ensures memory { IfErr result (λ e. e ≡ NoMemory → has_long 1 (drop 1 words.old) ≡ true) }
 {
     let number = take_number(words)?;
     let key = take_key(alloc, words, format)?;
@@ -116,7 +122,8 @@ pub fn take_number_and_span(
     words: &mut Words,
     format: Format,
 ) -> Result<(u64, Span), ReadError>
-    ensures { Takes result words.new (number_and_span_at format words.old) }
+    ensures exact { Takes result words.new (number_and_span_at format words.old) }
+    ensures memory { IfErr result (λ e. e ≡ NoMemory → has_long 2 (drop 1 words.old) ≡ true) }
 {
     let number = take_number(words)?;
     let span = take_span(alloc, words, format)?;
@@ -130,7 +137,8 @@ pub fn take_opening(
     words: &mut Words,
     format: Format,
 ) -> Result<(Span, u64), ReadError>
-    ensures { Takes result words.new (opening_at format words.old) }
+    ensures exact { Takes result words.new (opening_at format words.old) }
+    ensures memory { IfErr result (λ e. e ≡ NoMemory → has_long 2 words.old ≡ true) }
 {
     let span = take_span(alloc, words, format)?;
     let cursor = take_number(words)?;
@@ -144,7 +152,8 @@ pub fn take_opening_every(
     words: &mut Words,
     format: Format,
 ) -> Result<(Span, u64, u64), ReadError>
-    ensures { Takes result words.new (opening_every_at format words.old) }
+    ensures exact { Takes result words.new (opening_every_at format words.old) }
+    ensures memory { IfErr result (λ e. e ≡ NoMemory → has_long 2 words.old ≡ true) }
 {
     let (span, cursor) = take_opening(alloc, words, format)?;
     let gap = take_number(words)?;

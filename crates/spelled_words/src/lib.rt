@@ -24,8 +24,8 @@
 //! - `take_number`, `take_key`, `take_value`, `take_span` and their like: the bytes of their words, twice
 //! - `put_spelling`: O(b), each byte once; `bytes_of`: O(b), each byte once or twice
 //!
-//! A reader takes memory for keys, values and bounds alone, and for the bytes of an escaped word. `put_spelling` pushes
-//! into the caller's buffer, and takes memory where that has to grow.
+//! A reader takes memory for keys, values and bounds alone, and only where their words have more than 24 bytes.
+//! `put_spelling` pushes into the caller's buffer, and takes memory where that has to grow.
 //!
 //! Tests: `unit_tests`.
 #![tactic(auto)]

@@ -1,14 +1,17 @@
 //! Bytes spelled as a word: `-` for none, a printable byte as itself, any other as `%` and two
 //! hexadecimal digits. Each list of bytes has one spelling.
 
-ghost use Rattle.std.specs.Prelude.{◌≡◌, ◌++◌, ◌<◌, length, ok_or, IfSome, MatchOption, OnOk, OnErr};
+ghost use Rattle.std.specs.Prelude.{◌≡◌, ◌++◌, ◌<◌, ◌≤◌, true, length, ok_or, IfSome, MatchOption, IfOk, IfErr, OnOk, OnErr};
 ghost use Rattle.json_lines.specs.Writing.{Keeps};
 ghost use Rattle.spelled_words.specs.SpelledBytes.{spelled_bytes};
+ghost use Rattle.spelled_words.specs.Memory.{is_long};
+ghost use Rattle.spelled_words.specs.declared.fault.ReadError.TheVariants.{NoMemory};
 ghost use Rattle.spelled_words.specs.Reading.{Gives};
 ghost use Rattle.std.specs.List.{flat_map, list_all};
 ghost use Rattle.spelled_words.specs.Spelling.{is_plain, hex_digit, hex_value, escaped, first_at, unspelled, bytes_of, escape, spelled, spelling};
 
 use crate::fault::{LineFault, ReadError};
+use smallvec::SmallVec;
 use std::alloc::{AllocError, Global};
 
 /// Whether a byte stands for itself: it is printable, and neither the space nor `%`.
@@ -93,7 +96,7 @@ fn hex_digit(value: u8) -> u8
 #[derive(Debug, Drop)]
 pub enum Spelled<'a> {
     Plain(&'a [u8]),
-    Escaped(Vec<u8>),
+    Escaped(SmallVec<u8, 24>),
 }
 
 impl Spelled<'_> {
@@ -111,11 +114,13 @@ impl Spelled<'_> {
 }
 
 /// The bytes that a word spells, or the fault `BadByte` where it isn't the spelling of any. It
-/// allocates only for a word with an escaped byte.
+/// allocates only for a long word with an escaped byte.
 #[inline(always)]
 #[tactic(auto, using(crate::proofs::Spellings::plain_word), unfolding(crate::specs::Spelling::bytes_of))]
 pub fn bytes_of<'a>(alloc: Global, word: &'a [u8]) -> Result<Spelled<'a>, ReadError>
-    ensures { Gives spelled_bytes result (ok_or (bytes_of word.now) LineFault.BadByte) }
+    ensures exact { Gives spelled_bytes result (ok_or (bytes_of word.now) LineFault.BadByte) }
+    ensures shorter { IfOk result (λ bytes. length (spelled_bytes bytes) ≤ length word.now) }
+    ensures memory { IfErr result (λ e. e ≡ NoMemory → is_long word.now ≡ true) }
 {
     if word.is_empty() {
         return Err(ReadError::Fault(LineFault::BadByte));
@@ -135,10 +140,12 @@ pub fn bytes_of<'a>(alloc: Global, word: &'a [u8]) -> Result<Spelled<'a>, ReadEr
 /// The bytes of a word, of which some are escaped.
 #[cold]
 #[inline(never)]
-fn unescaped(alloc: Global, word: &[u8]) -> Result<Vec<u8>, ReadError>
-    ensures { Gives (λ bytes. bytes.items) result (ok_or (unspelled word.now) LineFault.BadByte) }
+fn unescaped(alloc: Global, word: &[u8]) -> Result<SmallVec<u8, 24>, ReadError>
+    ensures exact { Gives (λ bytes. bytes.items) result (ok_or (unspelled word.now) LineFault.BadByte) }
+    ensures shorter { IfOk result (λ bytes. length bytes.items ≤ length word.now) }
+    ensures memory { IfErr result (λ e. e ≡ NoMemory → is_long word.now ≡ true) }
 {
-    let mut bytes = Vec::new(alloc);
+    let mut bytes = SmallVec::new(alloc);
     let mut rest = word;
     while !rest.is_empty() {
         match first_spelled(rest) {

@@ -103,7 +103,7 @@ impl Format {
         }
     }
 
-    /// What a transcript begins with, before its first event: whole lines.
+    /// The lines that a transcript begins with, before its first event.
     pub fn header(self) -> &'static [u8]
         ensures { result.now ≡ header self }
     {

@@ -14,6 +14,11 @@ use Rattle.ticket_lock.specs.Seats as seats
 abbrev pub HasLooked : List Look → ℕ → ℕ → List Look → Type 0
 HasLooked before served next after = (after ≡ Next next ∷ Serving served ∷ before) ⊎ (after ≡ Next next ∷ Next served ∷ Serving served ∷ before)
 
+-- Where no ticket is left: the serving word had some number, and the ticket word the greatest after it. It noted no other looks.
+abbrev pub HasMetSpent : List Look → Denied → List Look → Type 0
+HasMetSpent before (Busy served next) after = Unit {0}
+HasMetSpent before Spent after = (served : ℕ) × (after ≡ Next 18446744073709551615 ∷ Serving served ∷ before)
+
 module _ {T E : Type 0} {C : Ghosts T E} where
   -- The seat has the turn t of a lock that began at `first`. The value stands for what it found: all turns so far, which begin with what it had seen.
   pub record HasTurn (stands : T → ℕ → List E → Type 0) (floor_of : T → ℕ) (first : ℕ) (old : Seat T E C) (value : T) (t : ℕ) (new : Seat T E C) : Type 0 where

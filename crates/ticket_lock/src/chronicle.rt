@@ -20,7 +20,7 @@ ghost use Rattle.std.specs.Prelude.{◌≡◌, ◌≤◌, ◌++◌, ℕ, List};
 /// }
 /// ```
 pub trait Chronicle {
-    /// What one turn adds to the list.
+    /// The entry that one turn adds to the list.
     type Entry;
 
     /// The value stands for this list, whose first entry has this number.

@@ -18,10 +18,10 @@ pub(crate) const FLOOR: usize = 2;
 /// of what they contain.
 pub(crate) const BEDS: usize = 3;
 
-/// What a bed says while a seat sleeps there, or is about to.
+/// A bed's word while a seat sleeps there, or is about to.
 pub(crate) const ASLEEP: u64 = 1;
 
-/// What it says else.
+/// A bed's word else.
 pub(crate) const AWAKE: u64 = 0;
 
 /// How often a seat looks for a free turn before it draws a ticket and waits in line.
@@ -33,7 +33,7 @@ pub(crate) const NEAR: u64 = 3;
 /// The slot that has the value while nobody has a turn.
 pub(crate) const HOME: usize = 0;
 
-/// What a seat keeps from turn to turn. No value of it is made.
+/// A seat's memory from turn to turn. No value of it is made.
 pub struct SeatRecord<E> {
     /// The number of the lock's first ticket.
     pub first: u64,
@@ -49,7 +49,7 @@ pub struct SeatRecord<E> {
     pub known: u64,
 }
 
-/// What a seat found in a word. No value of it is made.
+/// A seat's finding in a word. No value of it is made.
 pub enum Look {
     /// The ticket that is served.
     Serving(u64),
@@ -63,13 +63,13 @@ pub enum Look {
     Bed,
 }
 
-/// What a seat at the table knows. No value of it is made.
+/// A seat's view at the table. No value of it is made.
 pub struct View<E> {
     /// It is a seat of the lock. The seat that issues the others, a report of what one has seen and
     /// the seat that gathers all at the end are none.
     pub sits: bool,
     pub kept: SeatRecord<E>,
-    /// What the seats that it gathered kept.
+    /// The memories of the seats that it gathered.
     pub gathered: LinkedList<SeatRecord<E>>,
     /// The numbers of the seats that it has still to issue.
     pub unissued: LinkedList<u8>,
@@ -83,14 +83,14 @@ pub struct View<E> {
     pub raised: u64,
     /// The serving number that it loaded last.
     pub loaded: u64,
-    /// What it found in the words, the newest first. The loads that await its turn and the store that
+    /// Its findings in the words, the newest first. The loads that await its turn and the store that
     /// ends it aren't among them.
     pub looks: LinkedList<Look>,
-    /// What another seat had seen, until it is compared with what this one has.
+    /// Another seat's list, until it is compared with what this one has.
     pub heard: LinkedList<E>,
 }
 
-/// What the table is told once: the first ticket and the number of seats.
+/// The table's constants: the first ticket and the number of seats.
 #[derive(Drop)]
 pub struct Setup {
     pub first: u64,

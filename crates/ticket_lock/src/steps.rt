@@ -3,6 +3,7 @@ ghost use Rattle.std.specs.Prelude.{◌≡◌, List, ◌≤◌, ◌<◌, ◌+◌
 ghost use Rattle.ticket_lock.specs.Lists.{of_seat, StartsWith};
 ghost use Rattle.ticket_lock.specs.Views.{drawn, met_spent, looked, looking, holding, ended};
 ghost use Rattle.ticket_lock.specs.declared.rule.Look.TheVariants.{Serving, Next};
+ghost use Rattle.ticket_lock.specs.Turns.{HasMetSpent};
 ghost use Rattle.ticket_lock.specs.Steps.{DeniedAt, Draws, DrawsServed, PutOffAt, HasDrawn, Took};
 ghost use Rattle.ticket_lock.specs.Proper.{IsSamePass};
 
@@ -45,6 +46,7 @@ impl<T: Chronicle> TicketLock<T> {
         ensures ok { IfOk result (DrawsServed pass.old.me pass.new.me) }
         ensures looked { IfOk result (λ t. pass.new.me.0.looks ≡ Next t ∷ Next t ∷ Serving t ∷ pass.old.me.0.looks) }
         ensures err { IfErr result (λ d. DeniedAt pass.old.me d pass.new.me) }
+        ensures spent { IfErr result (λ d. HasMetSpent pass.old.me.0.looks d pass.new.me.0.looks) }
     {
         let shared = &self.board.shared;
         let served = shared.load::<LoadServing>(pass, SERVING);

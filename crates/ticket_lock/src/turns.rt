@@ -3,7 +3,7 @@ ghost use Rattle.std.specs.Prelude.{◌≡◌, ◌≤◌, ◌++◌, List, [], �
 ghost use Rattle.ticket_lock.specs.Lists.{of_seat};
 ghost use Rattle.ticket_lock.specs.Seats.{number, seen, mine, met_spent, known, ticket, found, raised, looks, IsOf, IsSame};
 ghost use Rattle.ticket_lock.specs.declared.rule.Look.TheVariants.{Serving, Next};
-ghost use Rattle.ticket_lock.specs.Turns.{HasTurn, IsSpent, IsDenied};
+ghost use Rattle.ticket_lock.specs.Turns.{HasMetSpent, HasTurn, IsSpent, IsDenied};
 
 use crate::chronicle::Chronicle;
 use crate::denied::Denied;
@@ -55,6 +55,8 @@ impl<T: Chronicle> TicketLock<T> {
         // It noted three looks: at the serving word, at the ticket word, and by the exchange that drew the ticket.
         ensures looked { IfOk result (λ h. looks seat.new ≡ Next h.ticket ∷ Next h.ticket ∷ Serving h.ticket ∷ looks seat.old) }
         ensures err { IfErr result (λ d. IsDenied self.now.first seat.old d seat.new) }
+        // `Spent` noted two: at the serving word, and at the ticket word.
+        ensures spent { IfErr result (λ d. HasMetSpent (looks seat.old) d (looks seat.new)) }
         ensures own { mine seat.old ≡ of_seat T.seat_of (number seat.old) (seen seat.old) }
     {
         let ticket = self.try_draw(&mut seat.pass)?;

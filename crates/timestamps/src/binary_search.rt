@@ -37,7 +37,7 @@ impl BinarySearch {
         self.low + self.size / 2
     }
 
-    /// What is left where the timestamp at the middle is `ts` and those above `t` are looked for.
+    /// The half that is left where the timestamp at the middle is `ts` and those above `t` are looked for.
     pub fn after(&self, ts: u64, t: u64) -> BinarySearch
         ensures size { result.size ≡ self.now.size / 2 }
         ensures within { result.low + result.size ≤ self.now.low + self.now.size }

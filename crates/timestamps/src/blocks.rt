@@ -19,10 +19,10 @@ use atomic_table::{Join, Play, Seat, Split, Table, TableRule};
 use std::alloc::Global;
 use std::collections::LinkedList;
 
-/// Where the number of the next block stands.
+/// The place of the next block's number.
 pub(crate) const NEXT: usize = 0;
 
-/// What a pass knows. No value of it is made.
+/// A pass's view. No value of it is made.
 pub struct Draws {
     /// The blocks that it drew, the oldest first.
     pub drawn: LinkedList<u64>,

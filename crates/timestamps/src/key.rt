@@ -14,7 +14,7 @@ use std::marker::Model;
 /// The most bytes that a key has.
 pub const MAX_KEY_BYTES: usize = 256;
 
-/// What a value is stored under: 1 to [`MAX_KEY_BYTES`] bytes, ordered byte by byte, a beginning
+/// A key, under which a value is stored: 1 to [`MAX_KEY_BYTES`] bytes, ordered byte by byte, a beginning
 /// before what it begins. The bytes of a key of up to 24 lie in the key, and take no memory of their own.
 #[derive(Debug, Drop)]
 pub struct Key {

@@ -30,14 +30,14 @@ use crate::lease::{BLOCKS, Lease};
 use atomic_table::Table;
 use std::alloc::{AllocError, Global};
 
-/// What hands out the blocks.
+/// The oracle, which hands out the blocks.
 #[derive(Drop)]
 pub struct Oracle {
     board: Board,
     ghost one_word: { board.shared.table_id.words ≡ 1 },
 }
 
-/// What one thread draws with.
+/// The right of one thread to draw.
 #[derive(Drop)]
 pub struct OraclePass {
     seat: Pass,

@@ -27,14 +27,14 @@ impl Model for SmallBytes {
     ghost invariant = { λ b. IsPlaced b.place };
 }
 
-/// Where bytes lie.
+/// The bytes, in place or in a vector.
 #[derive(Debug)]
 enum Place {
     Few(FewBytes),
     Many(Vec<u8>),
 }
 
-// a call of its own, so that where bytes are dropped no proof has a case for each place of them
+// for the proof, which has no case for each place of them where bytes are dropped
 impl Drop for Place {
     fn drop(self) {
         match self {

@@ -12,7 +12,7 @@ use std::marker::Model;
 /// The most bytes that a value has.
 pub const MAX_VALUE_BYTES: usize = 65536;
 
-/// What is stored under a key: 0 to [`MAX_VALUE_BYTES`] bytes. Up to 24 lie in the value, and take no memory of their
+/// A value, stored under a key: 0 to [`MAX_VALUE_BYTES`] bytes. Up to 24 lie in the value, and take no memory of their
 /// own.
 #[derive(Debug, Drop)]
 pub struct Value {

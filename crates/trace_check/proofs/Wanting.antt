@@ -1,4 +1,4 @@
--- Want of memory leaves a database as it was.
+-- Running out of memory leaves a database as it was.
 use Rattle.std.proofs.Common.{◌≡◌, true, List, ◌∷◌, ap, ◌∙◌, inr}
 use Rattle.spans.specs.declared.calls.replies.Reply.TheVariants.{Refused}
 use Rattle.spans.specs.declared.calls.replies.Refusal.TheVariants.{NoMemory}

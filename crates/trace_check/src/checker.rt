@@ -14,11 +14,11 @@ use std::alloc::{AllocError, Global};
 /// The events that were taken so far are legal and have no gap. It holds what they left, and not the events.
 pub struct Checker {
     database: PlainDatabase,
-    /// Where the latest event stands, if there was one.
+    /// The latest event's position, if there was one.
     last: Option<u64>,
 }
 
-// a call of its own, so that where a checker is dropped no proof has a case for each part of it
+// for the proof, which has no case for each part of it where a checker is dropped
 impl Drop for Checker {
     fn drop(self) {
         let Checker {
@@ -62,7 +62,7 @@ impl Checker {
         self.database.report(whole)
     }
 
-    /// What a dump writes after the events that were taken, which closes at `at` or above.
+    /// The dump after the events that were taken, which closes at `at` or above.
     pub fn dump(&self, at: u64) -> Result<Dump, AllocError>
         requires { at ≤ MAX }
         ensures dump { IfOk result (Dumps self.now at) }

@@ -8,8 +8,8 @@
 //! 1. The database stands for the events taken so far, which are legal and have no gap.
 //! 2. An event has to stand one place further than the event before. It is right where its reply is the answer.
 //!    `nomemory` is right too, where the answer is no refusal and the command may want memory.
-//! 3. An event that isn't right, or that finds no memory, leaves the checker as it was. Only an event in its place finds
-//!    none, where the answer is no refusal and the command may want memory.
+//! 3. An event that isn't right, or that runs out of memory, leaves the checker as it was. Only an event in its place runs
+//!    out of it, where the answer is no refusal and the command may want memory.
 //!
 //! ```text
 //! 7 0 begin 10 => started           right           10 is undecided
@@ -46,7 +46,7 @@ use crate::checker::Checker;
 use spans::calls::Event;
 use std::alloc::{AllocError, Global};
 
-/// What is said of a list of events.
+/// The verdict on a list of events.
 #[derive(Clone, Copy, Debug, PartialEq, Eq)]
 pub enum Verdict {
     /// The events are legal and have no gap.

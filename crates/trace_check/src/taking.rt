@@ -23,11 +23,11 @@ pub(crate) fn take_in(database: &mut PlainDatabase, event: &Event) -> Result<boo
         database.record(event.seat, &event.cmd, &event.reply)?;
         return Ok(true);
     }
-    // want of memory leaves the database as it is
+    // running out of memory leaves the database as it is
     Ok(is_want_of_memory(event, &answer))
 }
 
-/// Whether the reply is want of memory, where the answer is no refusal and the command may want it.
+/// Whether the reply is out of memory, where the answer is no refusal and the command may want it.
 fn is_want_of_memory(event: &Event, answer: &Reply) -> bool
     ensures { (result ≡ true) ↔ ((event.now.reply ≡ Refused NoMemory) × (is_accepted answer.now ≡ true) × (may_lack_memory event.now.cmd ≡ true)) }
 {
@@ -53,6 +53,7 @@ fn may_want_memory(cmd: &Cmd) -> bool
         Cmd::Close { to: _ } => false,
         Cmd::CloseHard { to: _ } => false,
         Cmd::Release { id: _ } => false,
+        Cmd::Collect { to: _ } => false,
         Cmd::Cancel { feed: _ } => false,
         Cmd::Stats => false,
         _ => true,

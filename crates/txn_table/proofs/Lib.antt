@@ -1,3 +1,1 @@
-pub mod Noted
 pub mod Standing
-pub mod Reports

@@ -1,8 +1,6 @@
--- How a transaction begins, what it notes and how it ends.
-use Rattle.std.specs.Prelude.{List, Option, Some, bytes_eq, unwrap_or, ℕ}
-use Rattle.std.specs.Set.{remove_key}
+-- How a transaction begins and how it ends.
+use Rattle.std.specs.Prelude.{Option, Some, unwrap_or, ℕ}
 use Rattle.spans.specs.Kept.{Transaction}
-use Rattle.spans.specs.Keys.{insert_key}
 use Rattle.spans.specs.declared.state.State.{State}
 use Rattle.spans.specs.declared.state.State.TheVariants as states
 use Rattle.kept.specs.Table.{new_transaction}
@@ -12,14 +10,6 @@ use Rattle.txn_table.specs.declared.transaction.Outcome.TheVariants as outcomes
 -- the transaction that there is, or else a new one of the seat
 abbrev pub begun : ℕ → Option Transaction → Option Transaction
 begun seat o = Some (unwrap_or o (new_transaction seat))
-
--- the transaction, with the key in its write set
-abbrev pub with_key : List ℕ → Transaction → Transaction
-with_key x n = record n { keys = insert_key x n.keys }
-
--- the transaction, without the key in its write set
-abbrev pub without_key : List ℕ → Transaction → Transaction
-without_key x n = record n { keys = remove_key (λ y. bytes_eq y x) n.keys }
 
 -- how a transaction stands that has ended so
 abbrev pub state_after : Outcome → State

@@ -1,34 +1,26 @@
 //! The transactions that stand, by timestamp.
-ghost use Rattle.std.specs.Prelude.{◌≡◌, ◌&&◌, ℕ, List, [], Some, None, MatchOption, IfSome, IfOk, OnOk, OnErr, IsSome, false, nat_le, nat_lt, not, option_map, is_none, if◌then◌else◌, length, ◌<◌, ◌^◌};
+ghost use Rattle.std.specs.Prelude.{◌≡◌, ◌&&◌, ℕ, None, IfOk, OnOk, OnErr, nat_le, nat_lt, option_map, is_none, if◌then◌else◌, length, ◌<◌, ◌^◌};
 ghost use Rattle.std.specs.List.Sorted.{IsStrictlyIncreasing};
 ghost use Rattle.spans.specs.Kept.{Transaction};
-ghost use Rattle.spans.proofs.Keyed.{RisingKeys};
-ghost use Rattle.spans.proofs.WriteSets.{has};
 ghost use Rattle.kept.specs.Lists.{AreThose};
-ghost use Rattle.kept.specs.Table.{IsOldest, is_open, keys_of};
-ghost use Rattle.txn_table.specs.States.{begun, decided, with_key, without_key};
-ghost use Rattle.kept.specs.Reports.{AreOpen};
+ghost use Rattle.kept.specs.Table.{IsOldest, is_open};
+ghost use Rattle.txn_table.specs.States.{begun, decided};
 ghost use Rattle.txn_table.specs.TransactionIn.{transaction_in, IsCountOf, IsGreatest, IsSetAt};
 
-use crate::changes::{add_key_at, decide_at, forget_transactions, forget_undecided, remove_key_at};
-use crate::report::undecided_report;
+use crate::changes::{decide_at, forget_transactions, forget_undecided};
 use crate::transaction::{Outcome, Transaction};
-use key_set::Keys;
-use spans::report::TransactionReport;
 use spans::state::State;
 use std::alloc::{AllocError, Global};
 use std::collections::btree_map::Entry;
 use std::collections::btree_set::Range;
 use std::collections::{BTreeMap, BTreeSet};
 use std::marker::Model;
-use timestamps::key::Key;
 use timestamps::ts::Ts;
 use timestamps::ts_key::TsKey;
 
 /// The transactions, and which of them are undecided.
 #[derive(Drop)]
 pub struct Txns {
-    alloc: Global,
     table: BTreeMap<TsKey, Transaction>,
     undecided: BTreeSet<TsKey>,
 }
@@ -50,14 +42,13 @@ impl Txns {
         ensures { (i : ℕ) → transaction_in result i ≡ None }
     {
         Txns {
-            alloc,
             table: BTreeMap::new(alloc),
             undecided: BTreeSet::new(alloc),
         }
     }
 
     /// Begins a transaction of a seat, unless there is one of `ts`, and answers whether it did. It takes
-    /// no memory where there is one; where memory is wanting, nothing has begun.
+    /// no memory where there is one; where it is out of memory, nothing has begun.
     pub fn begin(&mut self, ts: Ts, seat: u8) -> Result<bool, AllocError>
         ensures new { IfOk result (λ new. new ≡ is_none (transaction_in self.old ts)) }
         ensures ok { OnOk result (IsSetAt self.old self.new ts (begun seat)) }
@@ -69,7 +60,7 @@ impl Txns {
             Entry::Occupied(_) => Ok(false),
             Entry::Vacant(place) => {
                 self.undecided.insert(ts)?;
-                place.insert(Transaction::new(self.alloc, seat));
+                place.insert(Transaction::new(seat));
                 Ok(true)
             }
         }
@@ -83,37 +74,6 @@ impl Txns {
             None => None,
             Some(transaction) => Some(transaction.standing()),
         }
-    }
-
-    /// The keys that the transaction of `ts` wrote, rising, where there is one.
-    pub fn write_set(&self, ts: u64) -> Option<Keys<'_>>
-        ensures keys { MatchOption result (transaction_in self.now ts ≡ None) (λ keys. keys ≡ keys_of (transaction_in self.now ts)) }
-        ensures rising { IfSome result RisingKeys }
-        ensures fits { IfSome result (λ keys. length keys < 2 ^ 64) }
-    {
-        match self.table.get(&TsKey(ts)) {
-            None => None,
-            Some(transaction) => Some(transaction.keys()),
-        }
-    }
-
-    /// Notes that the transaction of `ts` wrote the key, and answers whether that is new. It takes no
-    /// memory where the key is noted already; where memory is wanting, nothing is noted.
-    pub fn add_key(&mut self, ts: Ts, key: &Key) -> Result<bool, AllocError>
-        ensures new { IfOk result (λ new. new ≡ not (has key.now (keys_of (transaction_in self.old ts)))) }
-        ensures ok { OnOk result (IsSetAt self.old self.new ts (option_map (with_key key.now))) }
-        ensures known { IfOk result (λ new. new ≡ false → self.new ≡ self.old) }
-        ensures err { OnErr result (self.new ≡ self.old) }
-        ensures absent { OnErr result (has key.now (keys_of (transaction_in self.old ts)) ≡ false) }
-    {
-        add_key_at(&mut self.table, ts.get(), key)
-    }
-
-    /// Takes a key that the transaction of `ts` wrote out again, where there is one. It takes no memory.
-    pub fn remove_key(&mut self, ts: Ts, key: &Key)
-        ensures { IsSetAt self.old self.new ts (option_map (without_key key.now)) }
-    {
-        remove_key_at(&mut self.table, ts.get(), key);
     }
 
     /// Ends the transaction of `ts`, where there is one. It takes no memory.
@@ -158,13 +118,6 @@ impl Txns {
         ensures fits { length result < 2 ^ 63 }
     {
         self.undecided.range(..=TsKey(to))
-    }
-
-    /// The undecided transactions, timestamps rising. It takes memory for them alone.
-    pub fn undecided_report(&self) -> Result<Vec<TransactionReport>, AllocError>
-        ensures { IfOk result (λ ns. AreOpen (transaction_in self.now) ns.items) }
-    {
-        undecided_report(self.alloc, &self.table, self.undecided.range(..))
     }
 
     /// Forgets the transactions at or below `ts`, undecided ones too. It takes no memory.

@@ -47,9 +47,9 @@
 //! keys 1= b         the keys that have the value 1   b
 //! ```
 //!
-//! **Engines.** A feed is behind while it is served from the store: where its ring is full, where it opens with rows
-//! below closed that it may have to tell, or where rows are closed that were committed while no feed was open. A poll
-//! that leaves no row brings it back. A feed that is behind for longer would still tell the same, so no contract sees it.
+//! **Engines.** A feed is behind while it is served from the store: where its ring is full, or where it opens with rows
+//! below closed that it may have to tell. A poll that leaves no row brings it back. A feed that is behind for longer would
+//! still tell the same, so no contract sees it.
 //!
 //! ```text
 //!                  feed 1 with a ring of 1    with a ring of 2

@@ -14,7 +14,7 @@ use Rattle.version_chain.specs.declared.index.Index.{Index}
 use Rattle.version_chain.specs.Chains.{chain_of, found_in}
 use Rattle.version_chain.specs.Stores.{Stored, after_of, is_committed, version_in, IsCountOf}
 use Rattle.version_chain.specs.Dead.{is_dead_in, is_dropped_in, newest_of, ArePartlyThinned, IsThinnedAt, IsCollectedIn}
-use Rattle.version_chain.specs.Indexes.{is_listed, IsFirstBetween, IsIndexOf, IsNoneBetween, IsSound, IsTaken}
+use Rattle.version_chain.specs.Indexes.{is_listed, AreTakenAlike, IsFilled, IsFirstBetween, IsIndexOf, IsNoneBetween, IsSound, IsTakenAlone}
 use Rattle.version_chain.proofs.Dead.{top_above}
 use Rattle.version_chain.proofs.Indexes.{next_or_rest}
 use Rattle.version_chain.proofs.Thinning.{done_some, found_before, partly_more, partly_next, partly_none, partly_one, settled_here, settled_partly, settled_still}
@@ -28,10 +28,10 @@ pub record IsThinning (es fs : Stored) (index : Index) (t n count from : ℕ) (r
   pub before : (y : List ℕ) (i : ℕ) → is_dead_in es from y i ≡ false
   pub counted : IsCountOf fs count
   pub listed : (y : List ℕ) (i : ℕ) → is_listed index y i ≡ cond (t == i) false (is_some (found_in fs y i))
-  pub taken : IsTaken index t
+  pub taken : IsTakenAlone index t
 
 pub thinning_first : (es : Stored) (index index' : Index) (t n count from : ℕ) (keys : List (List ℕ)) → IsSound es index count from → ((y : List ℕ) → has y keys ≡ is_listed index y t)
-    → ((y : List ℕ) (i : ℕ) → is_listed index' y i ≡ cond (t == i) false (is_listed index y i)) → IsTaken index' t → IsThinning es es index' t n count from keys
+    → ((y : List ℕ) (i : ℕ) → is_listed index' y i ≡ cond (t == i) false (is_listed index y i)) → IsTakenAlone index' t → IsThinning es es index' t n count from keys
 thinning_first es index index' t n count from keys sound among others taken = record {
   partly = partly_none es n;
   settled = λ y some. inr (among y ∙ sound.indexed y t ∙ some);
@@ -42,7 +42,7 @@ thinning_first es index index' t n count from keys sound among others taken = re
 }
 
 pub thinning_next : (es fs gs : Stored) (index index' : Index) (t n count from r : ℕ) (x : List ℕ) (rest more : List (List ℕ)) → rest ≡ x ∷ more → IsThinnedAt fs gs x n → ((m : ℕ) → IsCountOf fs m → (r ≤ m) × IsCountOf gs (m - r))
-    → ((y : List ℕ) (i : ℕ) → is_listed index' y i ≡ cond (bytes_eq x y && is_dead_in fs n y i) false (is_listed index y i)) → ((i : ℕ) → IsTaken index i → IsTaken index' i)
+    → ((y : List ℕ) (i : ℕ) → is_listed index' y i ≡ cond (bytes_eq x y && is_dead_in fs n y i) false (is_listed index y i)) → AreTakenAlike index index'
     → IsThinning es fs index t n count from rest → IsThinning es gs index' t n (count - r) from more
 thinning_next es fs gs index index' t n count from r x rest more is thin fewer less still s = record {
   partly = partly_next es fs gs x n s.partly thin;
@@ -56,7 +56,7 @@ thinning_next es fs gs index index' t n count from r x rest more is thin fewer l
   before = s.before;
   counted = (fewer count s.counted).1;
   listed = λ y i. less y i ∙ ap (cond (bytes_eq x y && is_dead_in fs n y i) false) (s.listed y i) ∙ left (bytes_eq x y && is_dead_in fs n y i) (t == i) (found_in fs y i) ∙ ap (λ o. cond (t == i) false (is_some o)) (sym (thin y i));
-  taken = still t s.taken;
+  taken = λ i. let same = still i in let alone = s.taken i in (λ is. alone.0 (same.1 is), λ here. same.0 (alone.1 here));
 }
   where
     left : (a b : Bool) (o : Option Version) → cond a false (cond b false (is_some o)) ≡ cond b false (is_some (cond a None o))
@@ -73,12 +73,13 @@ thinning_ends es fs index t n count from rest none s y i some = elim (s.settled 
 
 -- those of the keys that still have a version at t were put back
 pub thinning_sound : (es fs : Stored) (index index' index'' : Index) (t n count from : ℕ) (keys kept : List (List ℕ)) (rest : List (List ℕ)) → IsIndexOf es index → ((y : List ℕ) → has y keys ≡ is_listed index y t)
-    → kept ≡ filter (λ x. is_some (found_in fs x t)) keys → ((y : List ℕ) (i : ℕ) → is_listed index'' y i ≡ cond (t == i) (has y kept) (is_listed index' y i)) → IsThinning es fs index' t n count from rest → IsSound fs index'' count from
-thinning_sound es fs index index' index'' t n count from keys kept rest indexed among filtered back s = record {
+    → kept ≡ filter (λ x. is_some (found_in fs x t)) keys → ((y : List ℕ) (i : ℕ) → is_listed index'' y i ≡ cond (t == i) (has y kept) (is_listed index' y i)) → IsFilled index'' → IsThinning es fs index' t n count from rest → IsSound fs index'' count from
+thinning_sound es fs index index' index'' t n count from keys kept rest indexed among filtered back filled s = record {
   counted = s.counted;
   indexed = λ y i. back y i ∙ by_test (t == i)
       (λ here. rw here (stays y ∙ ap (λ j. is_some (found_in fs y j)) (eqb-true t i here)))
       (λ there. rw there (s.listed y i ∙ (rw there refl)));
+  filled = filled;
   settled = settled_partly es fs from n s.partly s.before;
 }
   where

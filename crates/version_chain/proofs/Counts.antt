@@ -1,17 +1,19 @@
--- How many versions there are after one came or went.
-use Rattle.std.proofs.Common.{◌≡◌, ℕ, suc, ◌<◌, ◌≤◌, ◌-◌, ◌+◌, ◌==◌, Bool, true, false, ◌&&◌, List, [], ◌∷◌, length, map, cond, Option, Some, None, refl, sym, ◌∙◌, ap, subst, inl, inr, arith, eq-eqb}
+-- How many versions there are after some came or went.
+use Rattle.std.proofs.Common.{◌≡◌, ℕ, ◌<◌, ◌≤◌, ◌-◌, ◌+◌, ◌==◌, Bool, true, false, ◌&&◌, List, [], ◌∷◌, length, map, cond, Option, Some, None, refl, sym, ◌∙◌, ap, subst, inl, inr, arith, eq-eqb}
 use Rattle.std.specs.Prelude.{bytes_eq, is_some, is_none, not, ◌↔◌}
 use Rattle.std.specs.List.{filter}
 use Rattle.std.proofs.lemmas.List.{length-map}
 use Rattle.std.proofs.lemmas.List.Filters.{length-filter_both}
-use Rattle.std.proofs.lemmas.Bool.{eqb-true, and_parts}
+use Rattle.std.proofs.lemmas.Bool.{eqb-true, and_from, and_parts}
 use Rattle.spans.specs.Collection.{VersionName, version_name}
 use Rattle.spans.proofs.Steps.{by_test, same_key, key_itself}
-use Rattle.spans.proofs.Members.{Has, AreDistinct, same_length, has_filter, distinct_filter}
+use Rattle.spans.proofs.Keyed.{RisingKeys}
+use Rattle.spans.proofs.Members.{Has, AreDistinct, same_length, has_filter, has_is, in_has, distinct_filter, rising_distinct}
+use Rattle.spans.proofs.WriteSets.{has, has_in}
 use Rattle.version_chain.specs.declared.chain.Version.{Version}
 use Rattle.version_chain.specs.Versions.{AreAbove, DoRise, version_of}
 use Rattle.version_chain.specs.Chains.{chain_of, found_in, IsChangedAt}
-use Rattle.version_chain.specs.Stores.{Stored, after_of, version_in, IsCountOf}
+use Rattle.version_chain.specs.Stores.{Stored, after_of, version_in, IsCountAt, IsCountOf}
 
 abbrev is_there : Stored → VersionName → Bool
 is_there s v = is_some (version_in s v.key v.ts)
@@ -40,10 +42,6 @@ pub none_more : (o : Option Version) → is_none o ≡ true → is_some (after_o
 none_more None e = refl
 none_more (Some v) e = (let no : false ≡ true = e in cc)
 
-pub some_more : (o : Option Version) → is_some o ≡ true → is_some (after_of o) ≡ true
-some_more None e = e
-some_more (Some v) e = refl
-
 pub counted_more : (es fs : Stored) (x : List ℕ) (t n : ℕ) (a : Version) → IsChangedAt es fs x t (λ _. Some a) → is_none (found_in es x t) ≡ true → IsCountOf es n → IsCountOf fs (n + 1)
 counted_more es fs x t n a h none c = record {
   versions = version_name x t ∷ c.versions;
@@ -64,38 +62,6 @@ counted_more es fs x t n a h none c = record {
   count = (let before : length c.versions ≡ n = c.count in omega arith);
 }
 
-pub counted_less : (es fs : Stored) (x : List ℕ) (t n : ℕ) → IsChangedAt es fs x t (λ _. None) → is_some (found_in es x t) ≡ true → IsCountOf es n → (1 ≤ n) × IsCountOf fs (n - 1)
-counted_less es fs x t n h some c =
-    let q = λ (v : VersionName). not (is_named x t v) in
-    let d : AreDistinct (filter q c.versions) = distinct_filter q c.versions c.all.distinct in
-    let gone : (v : VersionName) → q v ≡ true → is_named x t v ≡ false = λ v e. by_test (is_named x t v) (λ here. (let no : false ≡ true = sym (ap not here) ∙ e in cc)) (λ off. off) in
-    let other : (v : VersionName) → is_named x t v ≡ false → q v ≡ true = λ v off. ap not off in
-    let one : length c.versions ≡ suc (length (filter q c.versions)) = same_length c.versions (version_name x t ∷ filter q c.versions) c.all.distinct
-    (λ i. (let no : false ≡ true = sym (gone (version_name x t) ((has_filter q (version_name x t) c.versions).0 i).0) ∙ name_itself x t in cc), d)
-    (λ v. (
-      λ i. by_test (is_named x t v) (λ here. inl (named x t v here)) (λ off. inr ((has_filter q v c.versions).1 (other v off, i))),
-      λ i. elim i [
-        | inl e ↦ subst (λ w. Has w c.versions) e ((c.all.each (version_name x t)).1 (some_more (found_in es x t) some))
-        | inr k ↦ ((has_filter q v c.versions).0 k).1
-      ],
-    )) in
-    let before : length c.versions ≡ n = c.count in (
-      omega arith,
-      record {
-        versions = filter q c.versions;
-        all = record {
-          distinct = d;
-          each = λ v. (
-            λ i. (let both = (has_filter q v c.versions).0 i in there_off es fs x t (λ _. None) v h (gone v both.0) ∙ (c.all.each v).0 both.1),
-            λ there. by_test (is_named x t v)
-                (λ here. (let no : false ≡ true = sym (there_at es fs x t (λ _. None) v h here) ∙ there in cc))
-                (λ off. (has_filter q v c.versions).1 (other v off, (c.all.each v).1 (sym (there_off es fs x t (λ _. None) v h off) ∙ there))),
-          );
-        };
-        count = omega arith;
-      },
-    )
-
 -- what is there is as it was
 pub counted_alike : (es fs : Stored) (n : ℕ) → ((v : VersionName) → is_some (after_of (found_in fs v.key v.ts)) ≡ is_some (after_of (found_in es v.key v.ts))) → IsCountOf es n → IsCountOf fs n
 counted_alike es fs n same c = record {
@@ -112,6 +78,87 @@ counted_replaced es fs x t n a h some c = counted_alike es fs n (λ v. by_test (
     some_there : (o : Option Version) → is_none o ≡ false → is_some (after_of o) ≡ true
     some_there None e = (let no : true ≡ false = e in cc)
     some_there (Some v) e = refl
+
+-- ---- all versions of one timestamp
+
+pub after_there : (o : Option Version) → is_some (after_of o) ≡ is_some o
+after_there None = refl
+after_there (Some v) = refl
+
+-- a key is one of these exactly where it has a version at t
+abbrev pub AreWrittenAt : Stored → ℕ → List (List ℕ) → Type 0
+AreWrittenAt es t keys = (y : List ℕ) → has y keys ≡ is_some (found_in es y t)
+
+has_key : (es : Stored) (t : ℕ) (keys : List (List ℕ)) → AreWrittenAt es t keys → (x : List ℕ) → Has x keys ↔ (is_some (version_in es x t) ≡ true)
+has_key es t keys written x =
+    let there : is_some (version_in es x t) ≡ has x keys = after_there (found_in es x t) ∙ sym (written x) in (
+      λ i. there ∙ (has_in x keys).0 (has_is x keys i),
+      λ e. in_has x keys ((has_in x keys).1 (sym there ∙ e)),
+    )
+
+-- they are counted
+pub count_at : (es : Stored) (t n : ℕ) (keys : List (List ℕ)) → RisingKeys keys → AreWrittenAt es t keys → n ≡ length keys → IsCountAt es t n
+count_at es t n keys rising written is = (keys, record { distinct = rising_distinct keys rising; each = has_key es t keys written }, is)
+
+-- the versions of t at these keys, by name
+abbrev names_at : ℕ → List (List ℕ) → List VersionName
+names_at t keys = map (λ x. version_name x t) keys
+
+has_name : (t : ℕ) (v : VersionName) (keys : List (List ℕ)) → Has v (names_at t keys) ↔ ((t ≡ v.ts) × Has v.key keys)
+has_name t v [] = (λ i. absurd i, λ e. e.1)
+has_name t v (x ∷ keys) = let rest = has_name t v keys in (
+  λ i. elim i [
+    | inl here ↦ (ap (λ (u : VersionName). u.ts) here, inl (ap (λ (u : VersionName). u.key) here))
+    | inr there ↦ (let r = rest.0 there in (r.0, inr r.1))
+  ],
+  λ e. elim e.1 [
+    | inl here ↦ inl (ap (λ y. version_name y t) here ∙ ap (version_name v.key) e.0)
+    | inr there ↦ inr (rest.1 (e.0, there))
+  ],
+)
+
+distinct_at : (t : ℕ) (keys : List (List ℕ)) → AreDistinct keys → AreDistinct (names_at t keys)
+distinct_at t [] d = tt
+distinct_at t (x ∷ keys) d = (λ i. d.0 ((has_name t (version_name x t) keys).0 i).1, distinct_at t keys d.1)
+
+-- the versions of t are gone, and any other is found as it was
+abbrev pub AreGoneAt : Stored → Stored → ℕ → Type 0
+AreGoneAt es fs t = (y : List ℕ) (i : ℕ) → found_in fs y i ≡ cond (t == i) None (found_in es y i)
+
+pub counted_gone : (es fs : Stored) (t n : ℕ) (keys : List (List ℕ)) → AreGoneAt es fs t → RisingKeys keys → AreWrittenAt es t keys → IsCountOf es n → (length keys ≤ n) × IsCountOf fs (n - length keys)
+counted_gone es fs t n keys gone rising written c =
+    let at = λ (v : VersionName). t == v.ts in
+    let off = λ (v : VersionName). not (t == v.ts) in
+    let both : length (filter at c.versions) + length (filter off c.versions) ≡ length c.versions = length-filter_both at off (λ v. refl) c.versions in
+    let same : length (filter at c.versions) ≡ length (names_at t keys) = same_length (filter at c.versions) (names_at t keys) (distinct_filter at c.versions c.all.distinct) (distinct_at t keys (rising_distinct keys rising)) (λ v.
+    let h = has_filter at v c.versions in
+    let k = has_name t v keys in
+    let w = has_key es t keys written v.key in (
+      λ i. let here : t ≡ v.ts = eqb-true t v.ts (h.0 i).0 in k.1 (here, w.1 (ap (λ j. is_some (version_in es v.key j)) here ∙ (c.all.each v).0 (h.0 i).1)),
+      λ i. let here : t ≡ v.ts = (k.0 i).0 in h.1 (eq-eqb t v.ts here, (c.all.each v).1 (ap (λ j. is_some (version_in es v.key j)) (sym here) ∙ w.0 (k.0 i).1)),
+    )) in
+    let named : length (names_at t keys) ≡ length keys = length-map _ _ in
+    let before : length c.versions ≡ n = c.count in (
+      omega arith,
+      record {
+        versions = filter off c.versions;
+        all = record {
+          distinct = distinct_filter off c.versions c.all.distinct;
+          each = λ v. let h = has_filter off v c.versions in (
+            λ i. there v ∙ and_from _ _ (h.0 i).0 ((c.all.each v).0 (h.0 i).1),
+            λ e. let b = and_parts (off v) (is_there es v) (sym (there v) ∙ e) in h.1 (b.0, (c.all.each v).1 b.1),
+          );
+        };
+        count = omega arith;
+      },
+    )
+  where
+    left : (b : Bool) (o : Option Version) → is_some (after_of (cond b None o)) ≡ (not b && is_some (after_of o))
+    left true o = refl
+    left false o = refl
+
+    there : (v : VersionName) → is_there fs v ≡ (not (t == v.ts) && is_there es v)
+    there v = ap (λ o. is_some (after_of o)) (gone v.key v.ts) ∙ left (t == v.ts) (found_in es v.key v.ts)
 
 -- ---- many versions of one key go
 

@@ -1,16 +1,16 @@
 -- What is listed after the keys of one timestamp changed, and the tie of an index to the chains.
 use Rattle.std.proofs.Common.{◌≡◌, ℕ, ◌<◌, ◌≤◌, ◌⊎◌, inl, inr, ◌==◌, true, false, cond, ◌&&◌, ◌||◌, List, [], ◌∷◌, Option, Some, eq-eqb, refl, sym, ◌∙◌, ap, subst, arith}
-use Rattle.std.specs.Prelude.{bytes_eq}
+use Rattle.std.specs.Prelude.{bytes_eq, ◌↔◌}
 use Rattle.std.specs.List.{filter}
 use Rattle.std.specs.Map.{lookup}
 use Rattle.std.specs.BTreeMap.{BTreeMap, is_at}
 use Rattle.std.specs.BTreeMap.Range.{range_contains}
 use Rattle.std.specs.declared.ops.Bound.TheVariants.{Excluded, Included}
 use Rattle.std.specs.Ordering.{nat_cmp}
-use Rattle.std.proofs.lemmas.Bool.{eqb-true, or_cases}
+use Rattle.std.proofs.lemmas.Bool.{both_ways, eqb-true, or_cases}
 use Rattle.std.proofs.lemmas.Bool.Decides.{nat_tests}
 use Rattle.spans.specs.Keys.{insert_key}
-use Rattle.spans.proofs.Steps.{by_test, same_key}
+use Rattle.spans.proofs.Steps.{by_test, key_itself, same_key}
 use Rattle.spans.proofs.WriteSets.{has, has_added}
 use Rattle.version_chain.specs.Indexes.{is_among, listed_in}
 
@@ -52,6 +52,9 @@ listed_less es fs x t w put among y i = ap (λ o. is_among o y) (put i) ∙ by_t
 -- a key came to the others, or went from them
 pub one_more : (x y : List ℕ) (keys : List (List ℕ)) → has y (insert_key x keys) ≡ (bytes_eq x y || has y keys)
 one_more x y keys = has_added y x keys
+
+pub added_some : (x : List ℕ) (keys : List (List ℕ)) → insert_key x keys ≡ [] → ⊥
+added_some x keys none = both_ways _ (ap (has x) none) (one_more x x keys ∙ (rw (key_itself x) refl))
 
 -- what lies between two timestamps is listed as in the whole
 pub listed_between : (a b : ℕ) (es : Keyed) (y : List ℕ) (i : ℕ) → a < i → i ≤ b → listed_in (filter (λ (e : ℕ × List (List ℕ)). range_contains nat_cmp (Excluded a) (Included b) e.0) es) y i ≡ listed_in es y i
@@ -96,16 +99,48 @@ listed_where es fs t w put y i = ap (λ o. is_among o y) (put i) ∙ by_test (t 
 abbrev pub IsTakenIn : Keyed → ℕ → Type 0
 IsTakenIn es t = lookup (is_at (nat_cmp t)) es ≡ Some []
 
-pub taken_still : (es fs : Keyed) (t : ℕ) (w : Option (List (List ℕ))) → ArePutAt es fs t w → (IsTakenIn es t → w ≡ Some []) → (i : ℕ) → IsTakenIn es i → IsTakenIn fs i
-taken_still es fs t w put still i is = put i ∙ by_test (t == i)
-    (λ here. rw (is_at_number t i, here) (still (subst (IsTakenIn es) (sym (eqb-true t i here)) is)))
-    (λ there. rw (is_at_number t i, there) is)
+-- what is at t, and elsewhere, after the keys of t became w
+put_here : (es fs : Keyed) (t i : ℕ) (w : Option (List (List ℕ))) → ArePutAt es fs t w → (t == i) ≡ true → lookup (is_at (nat_cmp i)) fs ≡ w
+put_here es fs t i w put here = put i ∙ rw (is_at_number t i, here) refl
+
+put_there : (es fs : Keyed) (t i : ℕ) (w : Option (List (List ℕ))) → ArePutAt es fs t w → (t == i) ≡ false → lookup (is_at (nat_cmp i)) fs ≡ lookup (is_at (nat_cmp i)) es
+put_there es fs t i w put there = put i ∙ rw (is_at_number t i, there) refl
+
+-- the same entries are without keys
+pub taken_alike : (es fs : Keyed) (t : ℕ) (w : Option (List (List ℕ))) → ArePutAt es fs t w → IsTakenIn es t ↔ (w ≡ Some []) → (i : ℕ) → IsTakenIn es i ↔ IsTakenIn fs i
+taken_alike es fs t w put same i = by_test (t == i)
+    (λ here. subst (λ j. IsTakenIn es j ↔ IsTakenIn fs j) (eqb-true t i here) (
+      λ is. put_here es fs t t w put (eq-eqb t t refl) ∙ same.0 is,
+      λ is. same.1 (sym (put_here es fs t t w put (eq-eqb t t refl)) ∙ is),
+    ))
+    (λ there. (λ is. put_there es fs t i w put there ∙ is, λ is. sym (put_there es fs t i w put there) ∙ is))
+
+-- no entry is without keys, where t's has some and no other was
+pub filled_put : (es fs : Keyed) (t : ℕ) (w : Option (List (List ℕ))) → ArePutAt es fs t w → (w ≡ Some [] → ⊥) → ((i : ℕ) → (t == i) ≡ false → IsTakenIn es i → ⊥) → (i : ℕ) → IsTakenIn fs i → ⊥
+filled_put es fs t w put some others i is = by_test (t == i)
+    (λ here. some (sym (put_here es fs t i w put here) ∙ is))
+    (λ there. others i there (sym (put_there es fs t i w put there) ∙ is))
+
+-- the same of a map that is the one after a write
+pub filled_after : (m n k : BTreeMap ℕ (List (List ℕ))) (t : ℕ) (keys : List (List ℕ)) → n ≡ k → ArePutAt m.entries k.entries t (Some keys) → (keys ≡ [] → ⊥) → ((i : ℕ) → IsTakenIn m.entries i → ⊥) → (i : ℕ) → IsTakenIn n.entries i → ⊥
+filled_after m n k t keys is put some filled i taken = filled_put m.entries k.entries t (Some keys) put (λ none. some (let e : keys ≡ [] = cc in e)) (λ j there. filled j) i (subst (λ (l : BTreeMap ℕ (List (List ℕ))). IsTakenIn l.entries i) is taken)
+
+-- t's alone is, where it is and no other was
+pub taken_alone : (es fs : Keyed) (t : ℕ) (keys : List (List ℕ)) → ArePutAt es fs t (Some keys) → keys ≡ [] → ((i : ℕ) → IsTakenIn es i → ⊥) → (i : ℕ) → IsTakenIn fs i ↔ (t ≡ i)
+taken_alone es fs t keys put none filled i = (
+  λ is. by_test (t == i)
+      (λ here. eqb-true t i here)
+      (λ there. absurd (filled i (sym (put_there es fs t i (Some keys) put there) ∙ is))),
+  λ here. put_here es fs t i (Some keys) put (eq-eqb t i here) ∙ ap Some none,
+)
 
 -- from no keys none is taken
 pub none_taken : (es : Keyed) (t : ℕ) (keys : List (List ℕ)) → lookup (is_at (nat_cmp t)) es ≡ Some keys → IsTakenIn es t → keys ≡ []
 none_taken es t keys found is = let same : Some keys ≡ Some [] = sym found ∙ is in cc
 
-pub emptied : (es fs : Keyed) (t : ℕ) (keys : List (List ℕ)) → ArePutAt es fs t (Some keys) → keys ≡ [] → IsTakenIn fs t
-emptied es fs t keys put none =
-    let at : is_at (nat_cmp t) t ≡ true = is_at_number t t ∙ eq-eqb t t refl in
-    put t ∙ ap (λ b. cond b (Some keys) (lookup (is_at (nat_cmp t)) es)) at ∙ ap Some none
+-- a set that loses a key that it doesn't have stays without keys, or with some
+pub none_before : (x : List ℕ) (keys keys' : List (List ℕ)) → has x keys ≡ false → ((y : List ℕ) → has y keys' ≡ cond (bytes_eq x y) false (has y keys)) → keys' ≡ [] → keys ≡ []
+none_before x [] keys' none less is = refl
+none_before x (z ∷ keys) keys' none less is = by_test (bytes_eq x z)
+    (λ here. absurd (both_ways _ none (ap (λ y. has y (z ∷ keys)) (same_key x z here) ∙ (rw (key_itself z) refl))))
+    (λ there. absurd (both_ways _ (ap (has z) is) (less z ∙ (rw (there, key_itself z) refl))))

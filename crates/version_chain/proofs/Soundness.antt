@@ -1,17 +1,19 @@
--- The count and the index after one place of the chains changed.
-use Rattle.std.proofs.Common.{◌≡◌, ℕ, ◌<◌, ◌≤◌, ◌==◌, true, false, cond, ◌&&◌, ◌||◌, List, Option, Some, None, refl, sym, ◌∙◌, ap, subst, arith}
+-- The count and the index after one place of the chains changed, or all of one timestamp.
+use Rattle.std.proofs.Common.{◌≡◌, ℕ, ◌<◌, ◌≤◌, ◌-◌, ◌==◌, Bool, true, false, cond, ◌&&◌, ◌||◌, List, length, Option, Some, None, refl, sym, ◌∙◌, ap, subst, arith}
 use Rattle.std.specs.Prelude.{bytes_eq, is_some, is_none, max, nat_le, option_map}
 use Rattle.std.proofs.lemmas.Bool.Decides.{nat_tests}
 use Rattle.std.proofs.lemmas.Bool.{and_parts, both_ways, eqb-true, ne_eqb}
+use Rattle.spans.proofs.Keyed.{RisingKeys}
 use Rattle.spans.proofs.Steps.{by_test, same_key}
+use Rattle.spans.proofs.WriteSets.{has}
 use Rattle.version_chain.specs.declared.chain.Version.{Version}
 use Rattle.version_chain.specs.declared.index.Index.{Index}
-use Rattle.version_chain.specs.Chains.{found_in, IsChangedAt}
+use Rattle.version_chain.specs.Chains.{found_in, AreChangedAt, IsChangedAt}
 use Rattle.version_chain.specs.Versions.{as_committed}
-use Rattle.version_chain.specs.Stores.{Stored, after_of, is_committed}
+use Rattle.version_chain.specs.Stores.{IsCountOf, Stored, after_of, is_committed}
 use Rattle.version_chain.specs.Dead.{is_dead_in}
-use Rattle.version_chain.specs.Indexes.{is_listed, IsIndexOf, IsSound}
-use Rattle.version_chain.proofs.Counts.{counted_alike}
+use Rattle.version_chain.specs.Indexes.{is_listed, IsFilled, IsIndexOf, IsSound}
+use Rattle.version_chain.proofs.Counts.{AreGoneAt, AreWrittenAt, after_there, counted_alike, counted_gone}
 use Rattle.version_chain.proofs.Dead.{live_lower}
 use Rattle.version_chain.proofs.Thinning.{settled_fewer}
 
@@ -24,12 +26,6 @@ at_place es x t y i here =
 pub indexed_more : (es fs : Stored) (index index' : Index) (x : List ℕ) (t : ℕ) (a : Version) → IsChangedAt es fs x t (λ _. Some a) → ((y : List ℕ) (i : ℕ) → is_listed index' y i ≡ (((t == i) && bytes_eq x y) || is_listed index y i)) → IsIndexOf es index → IsIndexOf fs index'
 indexed_more es fs index index' x t a h more is y i = more y i ∙ by_test ((t == i) && bytes_eq x y)
     (λ here. let found : found_in fs y i ≡ Some a = h y i ∙ (rw here refl) in rw here (ap is_some (sym found)))
-    (λ there. let found : found_in fs y i ≡ found_in es y i = h y i ∙ (rw there refl) in rw there (is y i ∙ ap is_some (sym found)))
-
--- a version went
-pub indexed_less : (es fs : Stored) (index index' : Index) (x : List ℕ) (t : ℕ) → IsChangedAt es fs x t (λ _. None) → ((y : List ℕ) (i : ℕ) → is_listed index' y i ≡ cond ((t == i) && bytes_eq x y) false (is_listed index y i)) → IsIndexOf es index → IsIndexOf fs index'
-indexed_less es fs index index' x t h less is y i = less y i ∙ by_test ((t == i) && bytes_eq x y)
-    (λ here. let found : found_in fs y i ≡ None = h y i ∙ (rw here refl) in rw here (ap is_some (sym found)))
     (λ there. let found : found_in fs y i ≡ found_in es y i = h y i ∙ (rw there refl) in rw there (is y i ∙ ap is_some (sym found)))
 
 -- the index is as it was
@@ -59,29 +55,25 @@ settled_write es fs x t n a open' h none = settled_fewer es fs n (λ y i low don
     (λ here. let found : found_in fs y i ≡ Some a = h y i ∙ (rw here refl) in absurd (both_ways _ open' (ap is_committed (sym found) ∙ done)))
     (λ there. h y i ∙ (rw there refl))) none
 
--- a version went
-pub settled_drop : (es fs : Stored) (x : List ℕ) (t n : ℕ) → IsChangedAt es fs x t (λ _. None) → AreSettled es n → AreSettled fs n
-settled_drop es fs x t n h none = settled_fewer es fs n (λ y i low done. by_test ((t == i) && bytes_eq x y)
-    (λ here. let found : found_in fs y i ≡ None = h y i ∙ (rw here refl) in let no' : is_committed None ≡ true = ap is_committed (sym found) ∙ done in (let f : false ≡ true = no' in cc))
-    (λ there. h y i ∙ (rw there refl))) none
-
--- a version above a lower horizon changed
-pub settled_above : (es fs : Stored) (x : List ℕ) (t m n : ℕ) (f : Option Version → Option Version) → IsChangedAt es fs x t f → m ≤ n → m < t → AreSettled es n → AreSettled fs m
-settled_above es fs x t m n f h low above none = settled_fewer es fs m (λ y i at done. let off : (t == i) ≡ false = ne_eqb t i (λ same. omega arith) in h y i ∙ (rw off refl)) (λ y i. live_lower (found_in es y) m n low (none y) i)
+-- versions above a lower horizon changed
+pub settled_above : (es fs : Stored) (t m n : ℕ) → ((y : List ℕ) (i : ℕ) → (t == i) ≡ false → found_in fs y i ≡ found_in es y i) → m ≤ n → m < t → AreSettled es n → AreSettled fs m
+settled_above es fs t m n same low above none = settled_fewer es fs m (λ y i at done. same y i (ne_eqb t i (λ here. omega arith))) (λ y i. live_lower (found_in es y) m n low (none y) i)
 
 -- what is found is as it was
 pub sound_alike : (es fs : Stored) (index : Index) (n horizon : ℕ) → ((y : List ℕ) (i : ℕ) → found_in fs y i ≡ found_in es y i) → IsSound es index n horizon → IsSound fs index n horizon
 sound_alike es fs index n horizon same s = record {
   counted = counted_alike es fs n (λ v. ap (λ o. is_some (after_of o)) (same v.key v.ts)) s.counted;
   indexed = λ y i. s.indexed y i ∙ ap is_some (sym (same y i));
+  filled = s.filled;
   settled = settled_fewer es fs horizon (λ y i low done. same y i) s.settled;
 }
 
 -- the same chains, and an index that lists the same
-pub sound_index : (es : Stored) (index index' : Index) (n horizon : ℕ) → ((y : List ℕ) (i : ℕ) → is_listed index' y i ≡ is_listed index y i) → IsSound es index n horizon → IsSound es index' n horizon
-sound_index es index index' n horizon same s = record {
+pub sound_index : (es : Stored) (index index' : Index) (n horizon : ℕ) → ((y : List ℕ) (i : ℕ) → is_listed index' y i ≡ is_listed index y i) → (IsFilled index → IsFilled index') → IsSound es index n horizon → IsSound es index' n horizon
+sound_index es index index' n horizon same still s = record {
   counted = s.counted;
   indexed = indexed_alike es index index' same s.indexed;
+  filled = still s.filled;
   settled = s.settled;
 }
 
@@ -95,39 +87,65 @@ went_again es fs gs x t a none came went y i = went y i ∙ by_test ((t == i) &&
     nothing None e = refl
     nothing (Some v) e = (let no : false ≡ true = e in cc)
 
--- where there was no version none goes
-pub none_went : (es fs : Stored) (x : List ℕ) (t : ℕ) → IsChangedAt es fs x t (λ _. None) → is_some (found_in es x t) ≡ false → (y : List ℕ) (i : ℕ) → found_in fs y i ≡ found_in es y i
-none_went es fs x t h none y i = h y i ∙ by_test ((t == i) && bytes_eq x y)
-    (λ here.
-    let there : found_in es y i ≡ None = sym (at_place es x t y i here) ∙ nothing (found_in es x t) none in
-    rw here (sym there))
-    (λ off. rw off refl)
+-- ---- the versions of one timestamp
+
+-- they are marked as committed, above the horizon
+pub sound_commit : (es fs : Stored) (index : Index) (keys : List (List ℕ)) (t n m horizon : ℕ) → AreChangedAt es fs keys t (option_map as_committed) → m ≤ horizon → m < t → IsSound es index n horizon → IsSound fs index n m
+sound_commit es fs index keys t n m horizon h low above s = record {
+  counted = counted_alike es fs n (λ v. after_there (found_in fs v.key v.ts) ∙ there v.key v.ts ∙ sym (after_there (found_in es v.key v.ts))) s.counted;
+  indexed = λ y i. s.indexed y i ∙ sym (there y i);
+  filled = s.filled;
+  settled = settled_above es fs t m horizon (λ y i off. h y i ∙ (rw off refl)) low above s.settled;
+}
+  where
+    marked : (b : Bool) (o : Option Version) → is_some (cond b (option_map as_committed o) o) ≡ is_some o
+    marked true None = refl
+    marked true (Some v) = refl
+    marked false o = refl
+
+    there : (y : List ℕ) (i : ℕ) → is_some (found_in fs y i) ≡ is_some (found_in es y i)
+    there y i = ap is_some (h y i) ∙ marked ((t == i) && has y keys) (found_in es y i)
+
+-- they go at all keys that have one
+gone_at : (es fs : Stored) (keys : List (List ℕ)) (t : ℕ) → AreChangedAt es fs keys t (λ _. None) → AreWrittenAt es t keys → AreGoneAt es fs t
+gone_at es fs keys t h written y i = h y i ∙ by_test (t == i)
+    (λ here. by_test (has y keys)
+    (λ on. rw (here, on) refl)
+    (λ off. rw (here, off) (nothing (found_in es y i) (ap (λ j. is_some (found_in es y j)) (sym (eqb-true t i here)) ∙ sym (written y) ∙ off))))
+    (λ there. rw there refl)
   where
     nothing : (o : Option Version) → is_some o ≡ false → o ≡ None
     nothing None e = refl
     nothing (Some v) e = (let no' : true ≡ false = e in cc)
 
--- a version is marked as committed, above the horizon
-pub sound_commit : (es fs : Stored) (index : Index) (x : List ℕ) (t n m horizon : ℕ) → IsChangedAt es fs x t (option_map as_committed) → m ≤ horizon → m < t → IsSound es index n horizon → IsSound fs index n m
-sound_commit es fs index x t n m horizon h low above s = record {
-  counted = counted_alike es fs n (λ v. there v.key v.ts ∙ refl) s.counted;
-  indexed = λ y i. s.indexed y i ∙ sym (marked_there y i);
-  settled = settled_above es fs x t m horizon (option_map as_committed) h low above s.settled;
-}
+pub sound_drop : (es fs : Stored) (index index' : Index) (keys : List (List ℕ)) (t n horizon : ℕ) → AreChangedAt es fs keys t (λ _. None) → RisingKeys keys → ((y : List ℕ) → has y keys ≡ is_listed index y t)
+    → ((y : List ℕ) (i : ℕ) → is_listed index' y i ≡ cond (t == i) false (is_listed index y i)) → (IsFilled index → IsFilled index') → IsSound es index n horizon → (length keys ≤ n) × IsSound fs index' (n - length keys) horizon
+sound_drop es fs index index' keys t n horizon h rising listed less still s = (
+  count.0,
+  record {
+    counted = count.1;
+    indexed = λ y i. less y i ∙ ap (cond (t == i) false) (s.indexed y i) ∙ left (t == i) (found_in es y i) ∙ ap is_some (sym (gone y i));
+    filled = still s.filled;
+    settled = settled_fewer es fs horizon (λ y i low done. stood (t == i) (found_in fs y i) (found_in es y i) (gone y i) done) s.settled;
+  },
+)
   where
-    some_marked : (o : Option Version) → is_some (option_map as_committed o) ≡ is_some o
-    some_marked None = refl
-    some_marked (Some v) = refl
+    written : AreWrittenAt es t keys
+    written y = listed y ∙ s.indexed y t
 
-    after_marked : (o : Option Version) → is_some (after_of (option_map as_committed o)) ≡ is_some (after_of o)
-    after_marked None = refl
-    after_marked (Some v) = refl
+    gone : AreGoneAt es fs t
+    gone = gone_at es fs keys t h written
 
-    marked_there : (y : List ℕ) (i : ℕ) → is_some (found_in fs y i) ≡ is_some (found_in es y i)
-    marked_there y i = ap is_some (h y i) ∙ by_test ((t == i) && bytes_eq x y) (λ here. rw here (some_marked (found_in es y i))) (λ off. rw off refl)
+    count : (length keys ≤ n) × IsCountOf fs (n - length keys)
+    count = counted_gone es fs t n keys gone rising written s.counted
 
-    there : (y : List ℕ) (i : ℕ) → is_some (after_of (found_in fs y i)) ≡ is_some (after_of (found_in es y i))
-    there y i = ap (λ o. is_some (after_of o)) (h y i) ∙ by_test ((t == i) && bytes_eq x y) (λ here. rw here (after_marked (found_in es y i))) (λ off. rw off refl)
+    left : (b : Bool) (o : Option Version) → cond b false (is_some o) ≡ is_some (cond b None o)
+    left true o = refl
+    left false o = refl
+
+    stood : (c : Bool) (p o : Option Version) → p ≡ cond c None o → is_committed p ≡ true → p ≡ o
+    stood true p o e done = (let no' : false ≡ true = sym (ap is_committed e) ∙ done in cc)
+    stood false p o e done = e
 
 pub settled_max : (es : Stored) (a b : ℕ) → AreSettled es a → AreSettled es b → AreSettled es (max a b)
 settled_max es a b first second = by_test (nat_le a b)

@@ -3,6 +3,7 @@ use Rattle.std.specs.Prelude.{ℕ, List, [], ◌∷◌, ◌≡◌, ◌==◌, ◌
 use Rattle.std.specs.Map.{lookup}
 use Rattle.std.specs.BTreeMap.{is_at}
 use Rattle.timestamps.specs.Bytes.{key_cmp}
+use Rattle.spans.proofs.WriteSets.{has}
 use Rattle.version_chain.specs.declared.chain.Version.{Version}
 use Rattle.version_chain.specs.Versions.{version_of}
 
@@ -25,6 +26,10 @@ found_in es x t = version_of (chain_of es x) t
 -- a change at one place alone: what was found at x and t became f of it
 abbrev pub IsChangedAt : List Entry → List Entry → List ℕ → ℕ → (Option Version → Option Version) → Type 0
 IsChangedAt es fs x t f = (y : List ℕ) (i : ℕ) → found_in fs y i ≡ (if (t == i) && bytes_eq x y then f (found_in es y i) else found_in es y i)
+
+-- the same at t and each of these keys
+abbrev pub AreChangedAt : List Entry → List Entry → List (List ℕ) → ℕ → (Option Version → Option Version) → Type 0
+AreChangedAt es fs keys t f = (y : List ℕ) (i : ℕ) → found_in fs y i ≡ (if (t == i) && has y keys then f (found_in es y i) else found_in es y i)
 
 -- no chain is empty
 abbrev pub AreFilled : List Entry → Type 0

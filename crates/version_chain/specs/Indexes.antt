@@ -1,5 +1,5 @@
 -- Which keys have a version at each timestamp.
-use Rattle.std.specs.Prelude.{ℕ, List, [], ◌∷◌, Bool, bytes_eq, false, if◌then◌else◌, ◌&&◌, ◌||◌, ◌==◌, ◌≡◌, ◌<◌, ◌≤◌, Option, Some, None, is_some}
+use Rattle.std.specs.Prelude.{ℕ, List, [], ◌∷◌, Bool, bytes_eq, false, if◌then◌else◌, ◌&&◌, ◌||◌, ◌==◌, ◌≡◌, ◌↔◌, ◌<◌, ◌≤◌, Option, Some, None, is_some}
 use Rattle.std.specs.Map.{lookup}
 use Rattle.std.specs.BTreeMap.{is_at}
 use Rattle.std.specs.Ordering.{nat_cmp}
@@ -33,9 +33,21 @@ IsUnlistedAt index index' t x = (y : List ℕ) (i : ℕ) → is_listed index' y 
 abbrev pub IsUnlisted : Index → Index → List ℕ → (ℕ → Bool) → Type 0
 IsUnlisted index index' x gone = (y : List ℕ) (i : ℕ) → is_listed index' y i ≡ (if bytes_eq x y && gone i then false else is_listed index y i)
 
--- t has an entry, whose keys are taken
+-- t has an entry without keys, since they are taken
 abbrev pub IsTaken : Index → ℕ → Type 0
 IsTaken index t = lookup (is_at (nat_cmp t)) index.keys.entries ≡ Some []
+
+-- no entry is without keys
+abbrev pub IsFilled : Index → Type 0
+IsFilled index = (t : ℕ) → IsTaken index t → ⊥
+
+-- the entry of t alone is without keys
+abbrev pub IsTakenAlone : Index → ℕ → Type 0
+IsTakenAlone index t = (i : ℕ) → IsTaken index i ↔ (t ≡ i)
+
+-- the same entries are without keys
+abbrev pub AreTakenAlike : Index → Index → Type 0
+AreTakenAlike index index' = (i : ℕ) → IsTaken index i ↔ IsTaken index' i
 
 -- no key is listed above a and at or below b
 abbrev pub IsNoneBetween : Index → ℕ → ℕ → Type 0
@@ -60,4 +72,5 @@ IsIndexOf es index = (x : List ℕ) (t : ℕ) → is_listed index x t ≡ is_som
 pub record IsSound (es : List Entry) (index : Index) (n horizon : ℕ) : Type 0 where
   pub counted : IsCountOf es n
   pub indexed : IsIndexOf es index
+  pub filled : IsFilled index
   pub settled : (x : List ℕ) (t : ℕ) → is_dead_in es horizon x t ≡ false

@@ -2,8 +2,7 @@
 use Rattle.std.specs.Prelude.{ℕ, List, Bool, false, ◌≡◌, ◌<◌, ◌≤◌, ◌==◌, ◌&&◌, ◌||◌, if◌then◌else◌, bytes_eq, Option, Some, None, option_map, is_some, length}
 use Rattle.spans.specs.Effects.{After}
 use Rattle.spans.specs.Collection.{VersionName}
-use Rattle.kept.specs.Lists.{AreThose}
-use Rattle.spans.proofs.WriteSets.{has}
+use Rattle.kept.specs.Lists.{AreThose, IsNumberOf}
 use Rattle.version_chain.specs.declared.chain.Version.{Version}
 use Rattle.version_chain.specs.Chains.{Entry, found_in}
 
@@ -32,6 +31,10 @@ pub record IsCountOf (s : Stored) (n : ℕ) : Type 0 where
   pub all : AreThose (λ v. is_some (version_in s v.key v.ts)) versions
   pub count : length versions ≡ n
 
+-- n is how many keys have a version at t
+abbrev pub IsCountAt : Stored → ℕ → ℕ → Type 0
+IsCountAt s t n = IsNumberOf (λ x. is_some (version_in s x t)) n
+
 -- v is the version of x with the greatest timestamp at or below t
 pub record IsNewestIn (s : Stored) (x : List ℕ) (t : ℕ) (v : Version) : Type 0 where
   pub at_most : v.ts ≤ t
@@ -49,12 +52,12 @@ pub record IsWrittenTo (s s' : Stored) (t : ℕ) (x : List ℕ) (a : After) : Ty
   pub version : (y : List ℕ) (i : ℕ) → version_in s' y i ≡ (if (t == i) && bytes_eq x y then Some a else version_in s y i)
   pub committed : (y : List ℕ) (i : ℕ) (b : After) → version_in s' y i ≡ Some b → is_committed_in s' y i ≡ (if (t == i) && bytes_eq x y then false else is_committed_in s y i)
 
--- the versions of t at these keys are committed
-pub record IsCommittedIn (s s' : Stored) (t : ℕ) (keys : List (List ℕ)) : Type 0 where
+-- the versions of t are committed
+pub record AreCommittedAt (s s' : Stored) (t : ℕ) : Type 0 where
   pub version : (y : List ℕ) (i : ℕ) → version_in s' y i ≡ version_in s y i
-  pub committed : (y : List ℕ) (i : ℕ) (b : After) → version_in s y i ≡ Some b → is_committed_in s' y i ≡ (((t == i) && has y keys) || is_committed_in s y i)
+  pub committed : (y : List ℕ) (i : ℕ) (b : After) → version_in s y i ≡ Some b → is_committed_in s' y i ≡ ((t == i) || is_committed_in s y i)
 
--- the versions of t at these keys are gone
-pub record IsAbortedIn (s s' : Stored) (t : ℕ) (keys : List (List ℕ)) : Type 0 where
-  pub version : (y : List ℕ) (i : ℕ) → version_in s' y i ≡ (if (t == i) && has y keys then None else version_in s y i)
+-- the versions of t are gone
+pub record AreDroppedAt (s s' : Stored) (t : ℕ) : Type 0 where
+  pub version : (y : List ℕ) (i : ℕ) → version_in s' y i ≡ (if t == i then None else version_in s y i)
   pub committed : (y : List ℕ) (i : ℕ) (b : After) → version_in s' y i ≡ Some b → is_committed_in s' y i ≡ is_committed_in s y i

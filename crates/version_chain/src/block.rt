@@ -47,7 +47,7 @@ pub(crate) fn number_from(blocks: &mut Vec<Block>, first: usize, start: usize)
     }
 }
 
-// Makes two blocks of one, from which on they are then to be numbered. Where that finds no memory the one stays.
+// Makes two blocks of one, from which on they are then to be numbered. Where that runs out of memory the one stays.
 fn halve(blocks: &mut Vec<Block>, k: usize) -> Result<(), AllocError>
     requires { k < length blocks.old.items }
     ensures versions { all_in blocks.new.items ≡ all_in blocks.old.items }

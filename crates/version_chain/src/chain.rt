@@ -1,9 +1,9 @@
 //! The versions of one key.
-ghost use Rattle.std.specs.Prelude.{◌≡◌, ℕ, ◌<◌, ◌≤◌, ◌+◌, ◌^◌, ◌==◌, ◌↔◌, [], ◌∷◌, suc, length, slice_index_or, if◌then◌else◌, MatchOption, MatchResult, Some, None, IsTrue, IfOk, OnOk, OnErr, is_some, is_none, option_map, not};
+ghost use Rattle.std.specs.Prelude.{◌≡◌, ℕ, ◌<◌, ◌≤◌, ◌+◌, ◌^◌, ◌==◌, ◌↔◌, [], ◌∷◌, suc, length, slice_index_or, if◌then◌else◌, MatchOption, MatchResult, Some, None, IsTrue, IfOk, OnOk, OnErr, is_none, option_map, not};
 ghost use Rattle.version_chain.specs.declared.chain.Version.{Version};
 ghost use Rattle.std.specs.List.{filter};
 ghost use Rattle.version_chain.specs.Dead.{is_dead_version, newest_of, is_dead_at};
-ghost use Rattle.version_chain.specs.Indexes.{IsTaken, IsUnlisted};
+ghost use Rattle.version_chain.specs.Indexes.{AreTakenAlike, IsUnlisted};
 ghost use Rattle.version_chain.specs.Layout.{versions_in};
 ghost use Rattle.version_chain.specs.Versions.{DoRise, version_of, as_committed, IsPlaceAbove, IsNoneUpTo, IsNewestOf, IsNoneAbove, IsLeastAbove, IsPlaceOf, IsFreePlace};
 
@@ -17,7 +17,7 @@ use timestamps::key::Key;
 use timestamps::ts::Ts;
 use timestamps::value::Value;
 
-/// What a transaction wrote.
+/// A transaction's version of a key.
 #[derive(Debug, Drop)]
 pub struct Version {
     pub ts: Ts,
@@ -231,17 +231,12 @@ impl Chain {
         }
     }
 
-    /// Takes out the version of `ts`, and says whether there was one.
-    pub(crate) fn remove(&mut self, ts: u64) -> bool
-        ensures was { result ≡ is_some (version_of self.old ts) }
-        ensures rest { (i : ℕ) → version_of self.new i ≡ (if ts == i then None else version_of self.old i) }
+    /// Takes out the version of `ts`, where there is one.
+    pub(crate) fn remove(&mut self, ts: u64)
+        ensures { (i : ℕ) → version_of self.new i ≡ (if ts == i then None else version_of self.old i) }
     {
-        match self.place_of(ts) {
-            Err(_) => false,
-            Ok(place) => {
-                self.versions.remove(place);
-                true
-            }
+        if let Ok(place) = self.place_of(ts) {
+            self.versions.remove(place);
         }
     }
 
@@ -268,7 +263,7 @@ impl Chain {
         ensures count { result ≡ length (filter (is_dead_version horizon (newest_of self.old horizon)) self.old) }
         ensures rising { DoRise self.old }
         ensures listed { IsUnlisted index.old index.new key.now (is_dead_at horizon (newest_of self.old horizon) self.old) }
-        ensures taken { (i : ℕ) → IsTaken index.old i → IsTaken index.new i }
+        ensures taken { AreTakenAlike index.old index.new }
     {
         let before = self.len();
         let place = self.place_above(horizon, &mut Steps::new());

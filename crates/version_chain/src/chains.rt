@@ -2,14 +2,14 @@
 ghost use Rattle.std.specs.Prelude.{◌≡◌, ℕ, List, [], Some, None, MatchOption, IfOk, OnOk, OnErr, is_some, is_none, option_map, true, false, bytes_eq, ◌&&◌, if◌then◌else◌, ◌<◌, ◌≤◌, ◌-◌, length, vec_len, vec_capacity};
 ghost use Rattle.version_chain.specs.declared.chain.Version.{Version};
 ghost use Rattle.version_chain.specs.Versions.{as_committed, IsNoneUpTo, IsNewestOf, IsNoneAbove, IsLeastAbove};
-ghost use Rattle.version_chain.specs.Chains.{found_in, chain_of, IsChangedAt};
+ghost use Rattle.version_chain.specs.Chains.{found_in, chain_of, AreChangedAt, IsChangedAt};
 ghost use Rattle.version_chain.specs.Stores.{is_committed_in, IsCountOf};
 ghost use Rattle.version_chain.specs.Walking.{IsCommittedAt, IsFirstAmong, IsNoneAmong, keys_ahead};
 ghost use Rattle.version_chain.specs.ByNumber.{AreKept, AreKeptBut, IsPutAt, chain_by};
 ghost use Rattle.key_table.specs.Numbers.{number_in, IsOwn};
 ghost use Rattle.version_chain.specs.InSpans.{AreFound};
 ghost use Rattle.version_chain.specs.Dead.{is_dead_in, IsThinnedAt};
-ghost use Rattle.version_chain.specs.Indexes.{is_listed, IsTaken};
+ghost use Rattle.version_chain.specs.Indexes.{is_listed, AreTakenAlike};
 ghost use Rattle.spans.proofs.Keyed.{RisingKeys};
 ghost use Rattle.spans.specs.KeyOrder.{key_lt};
 ghost use Rattle.std.specs.List.{filter};
@@ -78,7 +78,18 @@ impl Chains {
         }
     }
 
-    /// The same, and the version of the key with the least timestamp above `t`.
+    /// The version of the key with the least timestamp above `t`.
+    pub(crate) fn next_above(&self, key: &Key, t: u64) -> Option<&Version>
+        ensures { MatchOption result (IsNoneAbove (chain_of self.now key.now) t)
+            (λ v. IsLeastAbove (chain_of self.now key.now) t v.now) }
+    {
+        match self.chain(key) {
+            None => None,
+            Some(chain) => chain.next_above(t, &mut Steps::new()),
+        }
+    }
+
+    /// The version of the key with the greatest timestamp at or below `t`, and the one with the least above `t`.
     pub(crate) fn around(&self, key: &Key, t: u64) -> (Option<&Version>, Option<&Version>)
         ensures newest { MatchOption result.0 (IsNoneUpTo (chain_of self.now key.now) t)
             (λ v. IsNewestOf (chain_of self.now key.now) t v.now) }
@@ -168,17 +179,32 @@ impl Chains {
         }
     }
 
-    /// Takes a version out, and says whether there was one.
-    pub(crate) fn remove(&mut self, key: &Key, ts: u64) -> bool
-        ensures was { result ≡ is_some (found_in self.old key.now ts) }
-        ensures rest { IsChangedAt self.old self.new key.now ts (λ _. None) }
+    /// Marks the versions of these keys at `ts` as committed.
+    pub(crate) fn commit_all(&mut self, keys: Keys<'_>, ts: u64)
+        ensures { AreChangedAt self.old self.new keys.entry ts (option_map as_committed) }
     {
-        let Some(number) = self.keys.number_of(key) else {
-            return false;
-        };
-        let was = self.chains[number].remove(ts);
-        free_empty(&mut self.keys, &mut self.chains, key, number);
-        was
+        for key in keys {
+            self.commit(key, ts);
+        }
+    }
+
+    /// Takes a version out, where there is one.
+    pub(crate) fn remove(&mut self, key: &Key, ts: u64)
+        ensures { IsChangedAt self.old self.new key.now ts (λ _. None) }
+    {
+        if let Some(number) = self.keys.number_of(key) {
+            self.chains[number].remove(ts);
+            free_empty(&mut self.keys, &mut self.chains, key, number);
+        }
+    }
+
+    /// Takes the versions of these keys at `ts` out.
+    pub(crate) fn remove_all(&mut self, keys: Keys<'_>, ts: u64)
+        ensures { AreChangedAt self.old self.new keys.entry ts (λ _. None) }
+    {
+        for key in keys {
+            self.remove(key, ts);
+        }
     }
 
     /// Whether the key has a version at `ts`.
@@ -198,7 +224,7 @@ impl Chains {
         ensures counted { (n : ℕ) → IsCountOf self.old n → (result ≤ n) × IsCountOf self.new (n - result) }
         ensures listed { (y : List ℕ) (i : ℕ) → is_listed index.new y i
             ≡ (if bytes_eq key.now y && is_dead_in self.old horizon y i then false else is_listed index.old y i) }
-        ensures taken { (i : ℕ) → IsTaken index.old i → IsTaken index.new i }
+        ensures taken { AreTakenAlike index.old index.new }
     {
         let Some(number) = self.keys.number_of(key) else {
             return 0;

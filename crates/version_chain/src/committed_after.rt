@@ -23,11 +23,10 @@ use timestamps::ts_key::TsKey;
 #[derive(Drop)]
 pub struct CommittedAfter<'a> {
     pub(crate) chains: &'a Chains,
-    /// The place is that of `key` at `ts`; without a key it is behind all keys of `ts`. No step reads it, and contracts say
-    /// by it what is left.
+    /// Read by contracts alone: the place from which the walk goes on, that of `key` at `ts`, or behind all keys of `ts`.
     pub(crate) ts: u64,
     pub(crate) key: Option<&'a Key>,
-    /// It bounds `later`, and no step reads it either.
+    /// Read by contracts alone: the greatest timestamp of `later`.
     pub(crate) through: u64,
     /// The timestamp of the keys that are ahead.
     pub(crate) at: u64,

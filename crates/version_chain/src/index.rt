@@ -1,9 +1,9 @@
 //! Which keys have a version at each timestamp.
-ghost use Rattle.std.specs.Prelude.{◌≡◌, ℕ, List, false, OnOk, OnErr, MatchOption, OnSome, if◌then◌else◌, ◌==◌, ◌<◌, ◌≤◌, length, take};
+ghost use Rattle.std.specs.Prelude.{◌≡◌, ℕ, List, false, OnOk, OnErr, MatchOption, if◌then◌else◌, ◌==◌, ◌<◌, ◌≤◌, length, take};
 ghost use Rattle.std.specs.Option.{option_copied};
 ghost use Rattle.version_chain.specs.Dead.{is_dead_at};
 ghost use Rattle.version_chain.specs.Layout.{versions_in};
-ghost use Rattle.version_chain.specs.Indexes.{is_among, is_listed, listed_in, AreBetween, IsFirstBetween, IsListedAt, IsNoneBetween, IsTaken, IsUnlistedAt, IsUnlisted};
+ghost use Rattle.version_chain.specs.Indexes.{is_among, is_listed, listed_in, AreBetween, AreTakenAlike, IsFilled, IsFirstBetween, IsListedAt, IsNoneBetween, IsTakenAlone, IsUnlistedAt, IsUnlisted};
 ghost use Rattle.spans.proofs.WriteSets.{has};
 
 use crate::versions::Versions;
@@ -26,7 +26,8 @@ pub(crate) struct Index {
 impl Index {
     /// No key.
     pub(crate) fn new(alloc: Global) -> Index
-        ensures { (x : List ℕ) (t : ℕ) → is_listed result x t ≡ false }
+        ensures listed { (x : List ℕ) (t : ℕ) → is_listed result x t ≡ false }
+        ensures filled { IsFilled result }
     {
         Index {
             alloc,
@@ -38,6 +39,7 @@ impl Index {
     pub(crate) fn add(&mut self, ts: u64, key: &Key) -> Result<(), AllocError>
         ensures ok { OnOk result (IsListedAt self.old self.new ts key.now) }
         ensures err { OnErr result ((y : List ℕ) (i : ℕ) → is_listed self.new y i ≡ is_listed self.old y i) }
+        ensures filled { IsFilled self.old → IsFilled self.new }
     {
         match self.keys.entry(TsKey(ts))? {
             Entry::Occupied(entry) => {
@@ -55,7 +57,7 @@ impl Index {
     /// stays, so that they can be put back.
     pub(crate) fn remove(&mut self, ts: u64, key: &Key)
         ensures listed { IsUnlistedAt self.old self.new ts key.now }
-        ensures taken { (i : ℕ) → IsTaken self.old i → IsTaken self.new i }
+        ensures taken { AreTakenAlike self.old self.new }
     {
         let Some(keys) = self.keys.get_mut(&TsKey(ts)) else {
             return;
@@ -76,7 +78,7 @@ impl Index {
     )
         requires { place ≤ length (versions_in versions.now) }
         ensures listed { IsUnlisted self.old self.new key.now (is_dead_at horizon top (take place (versions_in versions.now))) }
-        ensures taken { (i : ℕ) → IsTaken self.old i → IsTaken self.new i }
+        ensures taken { AreTakenAlike self.old self.new }
     {
         for i in 0..place {
             let version = versions.at(i);
@@ -88,9 +90,10 @@ impl Index {
 
     /// Takes the keys of `ts`, where there are some, and leaves their entry in place.
     pub(crate) fn take(&mut self, ts: u64) -> Option<KeySet>
+        requires { IsFilled self.old }
         ensures keys { (y : List ℕ) → is_among result y ≡ is_listed self.old y ts }
         ensures others { (y : List ℕ) (i : ℕ) → is_listed self.new y i ≡ (if ts == i then false else is_listed self.old y i) }
-        ensures taken { OnSome result (IsTaken self.new ts) }
+        ensures taken { MatchOption result (IsFilled self.new) (λ _. IsTakenAlone self.new ts) }
     {
         let keys = self.keys.get_mut(&TsKey(ts))?;
         Some(mem::replace(keys, KeySet::new(self.alloc)))
@@ -98,14 +101,24 @@ impl Index {
 
     /// Puts keys back in the place of those that were taken. It takes no memory.
     pub(crate) fn put_back(&mut self, ts: u64, keys: KeySet)
-        requires { IsTaken self.old ts }
-        ensures { (y : List ℕ) (i : ℕ) → is_listed self.new y i ≡ (if ts == i then has y keys else is_listed self.old y i) }
+        requires { IsTakenAlone self.old ts }
+        ensures listed { (y : List ℕ) (i : ℕ) → is_listed self.new y i ≡ (if ts == i then has y keys else is_listed self.old y i) }
+        ensures filled { IsFilled self.new }
     {
         if keys.is_empty() {
             self.keys.remove(&TsKey(ts));
         } else if let Some(place) = self.keys.get_mut(&TsKey(ts)) {
             *place = keys;
         }
+    }
+
+    /// Takes the keys of `ts`, where there are some, out with their entry. It takes no memory.
+    pub(crate) fn remove_all(&mut self, ts: u64) -> Option<KeySet>
+        ensures keys { (y : List ℕ) → is_among result y ≡ is_listed self.old y ts }
+        ensures others { (y : List ℕ) (i : ℕ) → is_listed self.new y i ≡ (if ts == i then false else is_listed self.old y i) }
+        ensures filled { IsFilled self.old → IsFilled self.new }
+    {
+        self.keys.remove(&TsKey(ts))
     }
 
     /// The keys of `ts`, where there are some.

@@ -3,11 +3,12 @@
 //!
 //! A [`Store`] is a table that numbers keys, a list with the chain of each number, and beside them an index from
 //! timestamps to keys. A [`Chain`](chain::Chain) is a list of versions, and a long one is a list of blocks. A
-//! transaction's version is undecided until it commits. `committed_after` begins a [`CommittedAfter`], which goes from
-//! one committed version to the next.
+//! transaction's version is undecided until it commits. The keys of a timestamp in the index are what its transaction
+//! wrote, so no other set of them is kept. `committed_after` begins a [`CommittedAfter`], which goes from one committed
+//! version to the next.
 //!
 //! 1. A key has a number exactly where it has a version, and the timestamps of its chain rise.
-//! 2. The index lists a key at a timestamp exactly where the key has a version there.
+//! 2. The index lists a key at a timestamp exactly where the key has a version there, and keeps no empty entry.
 //! 3. Nothing is dead by the horizon that the store keeps: the horizon of the last collection, or a lower one where a
 //!    version has been committed below that since.
 //!
@@ -15,8 +16,8 @@
 //! * is committed             "apple"     "pear"     index                        versions
 //! write apple, pear at 30    30          30         30 apple pear                2
 //! write apple at 10          10  30      30         10 apple, 30 apple pear      3
-//! commit apple at 10         10* 30      30         10 apple, 30 apple pear      3    newest_at apple, 29 is 10*
-//! commit both at 30          10* 30*     30*        10 apple, 30 apple pear      3    next_above apple, 10 is 30
+//! commit 10                  10* 30      30         10 apple, 30 apple pear      3    newest_at apple, 29 is 10*
+//! commit 30                  10* 30*     30*        10 apple, 30 apple pear      3    next_above apple, 10 is 30
 //!                                                                                     after 30 apple comes 30 pear
 //! drop what is dead by 30    30*         30*        30 apple pear                2    in_span - p is apple
 //! ```
@@ -27,9 +28,9 @@
 //! - `newest_at`, `next_above`, `around`: O(log v log b), and at most as many timestamps as v has binary digits
 //! - `write`: the same, O(log k) for a key that had no version, and O(log n) in the index. It looks at the end of the chain
 //!   first. The versions above its own in its block move, and the starts of the blocks behind it rise
-//! - `commit`: O(log v log b) for each key
-//! - `abort`, `remove`: the same, O(log n) in the index, and O(log k) where the last version goes, for each key; and what a
-//!   write moves
+//! - `commit`: O(log n) in the index, and O(log v log b) for each key written at its timestamp
+//! - `abort`: the same, O(log k) where the last version of a key goes, and what a write moves
+//! - `written_at`: O(log n)
 //! - `committed_after`: O(log n), and then a search for each version that is listed from there on, as it is asked for
 //! - `in_span`: O(log k), and then each key as it is asked for
 //! - `drop_dead`: O(log n) for each version that was written since the horizon that the store keeps, up to its own, and
@@ -37,7 +38,7 @@
 //! - `versions`: O(1)
 //!
 //! A chain lies in one list until it has more than 256 versions, and in blocks from then on. A block has at most 256,
-//! unless a halving found no memory. Blocks are never joined, so b is at most one, and one more for each 128 versions
+//! unless a halving ran out of memory. Blocks are never joined, so b is at most one, and one more for each 128 versions
 //! that were written.
 //!
 //! A collection goes from timestamp to timestamp. At each it looks at the versions at or below the horizon of the keys

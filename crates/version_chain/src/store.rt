@@ -1,5 +1,5 @@
 //! The versions of all keys, by key.
-ghost use Rattle.std.specs.Prelude.{◌≡◌, ℕ, List, [], ◌∷◌, length, ◌<◌, ◌^◌, ◌≤◌, None, Some, MatchOption, IfOk, OnOk, OnErr, is_some, true, false};
+ghost use Rattle.std.specs.Prelude.{◌≡◌, ℕ, List, ◌≤◌, None, Some, MatchOption, IfOk, OnOk, OnErr, is_some, true, false};
 ghost use Rattle.std.specs.Option.{option_copied};
 ghost use Rattle.std.specs.List.{filter};
 ghost use Rattle.std.specs.Map.{keys_of};
@@ -9,7 +9,7 @@ ghost use Rattle.kept.specs.Finding.{IsNextAbove};
 ghost use Rattle.version_chain.specs.Walking.{IsBeside, keys_ahead};
 ghost use Rattle.version_chain.specs.Chains.{Entry, AreFilled, found_in};
 ghost use Rattle.version_chain.specs.Dead.{is_dead_in, ArePartlyThinned, IsCollectedIn};
-ghost use Rattle.version_chain.specs.Stores.{version_in, IsCountOf, IsNewestIn, IsAsBefore, IsWrittenTo, IsCommittedIn, IsAbortedIn};
+ghost use Rattle.version_chain.specs.Stores.{version_in, IsCountAt, IsCountOf, IsNewestIn, IsAsBefore, IsWrittenTo, AreCommittedAt, AreDroppedAt};
 
 use crate::chain::Version;
 use crate::chains::Chains;
@@ -77,7 +77,8 @@ impl Store {
     pub fn next_above(&self, key: &Key, t: u64) -> Option<u64>
         ensures { IsNextAbove (version_in self.now key.now) t result }
     {
-        self.around(key, t).1
+        let version = self.chains.next_above(key, t)?;
+        Some(version.ts.get())
     }
 
     /// The version of the key with the greatest timestamp at or below `t`, and the least timestamp above
@@ -139,7 +140,7 @@ impl Store {
     }
 
     /// Puts an undecided version in, in whose place one of the same transaction may stand. A new one is
-    /// listed in the index; where that finds no memory the version goes again.
+    /// listed in the index; where that runs out of memory the version goes again.
     pub fn write(&mut self, key: &Key, ts: Ts, after: Option<&Value>) -> Result<(), AllocError>
         ensures ok { OnOk result (IsWrittenTo self.old self.new ts key.now (option_copied after.entry)) }
         ensures err { OnErr result (IsAsBefore self.old self.new) }
@@ -165,54 +166,47 @@ impl Store {
         Ok(())
     }
 
-    /// Marks the versions of `ts` at these keys as committed, and says how many keys there are. It takes
-    /// no memory.
-    pub fn commit(&mut self, ts: Ts, keys: Keys<'_>) -> u64
-        requires fits { length keys < 2 ^ 64 }
-        ensures committed { IsCommittedIn self.old self.new ts keys.entry }
-        ensures count { result ≡ length keys.entry }
+    /// How many keys have a version at `ts`.
+    pub fn written_at(&self, ts: u64) -> u64
+        ensures { IsCountAt self.now ts result }
     {
-        let mut count = 0u64;
-        for key in keys {
-            self.commit_at(key, ts);
-            count += 1;
+        match self.index.keys_at(ts) {
+            None => 0,
+            Some(keys) => keys.len() as u64,
         }
-        count
     }
 
-    /// Marks a version, where there is one, as committed.
-    fn commit_at(&mut self, key: &Key, ts: Ts)
-        ensures { IsCommittedIn self.old self.new ts (key.now ∷ []) }
+    /// Marks the versions of `ts` as committed, and says how many there are. It takes no memory.
+    pub fn commit(&mut self, ts: Ts) -> u64
+        ensures committed { AreCommittedAt self.old self.new ts }
+        ensures count { IsCountAt self.old ts result }
     {
+        let ts = ts.get();
         // a version that commits below it may be dead by it, or make others so
-        self.dropped_through = self.dropped_through.min(ts.get() - 1);
-        self.chains.commit(key, ts.get());
+        self.dropped_through = self.dropped_through.min(ts - 1);
+        let Some(keys) = self.index.keys_at(ts) else {
+            return 0;
+        };
+        self.chains.commit_all(keys.iter(), ts);
+        keys.len() as u64
     }
 
-    /// Drops the versions of `ts` at these keys. It takes no memory.
-    pub fn abort(&mut self, ts: Ts, keys: Keys<'_>)
-        ensures { IsAbortedIn self.old self.new ts keys.entry }
+    /// Drops the versions of `ts`. It takes no memory.
+    pub fn abort(&mut self, ts: Ts)
+        ensures { AreDroppedAt self.old self.new ts }
     {
-        for key in keys {
-            self.remove(key, ts);
-        }
-    }
-
-    /// Drops the version of `ts` at a key, where there is one. It takes no memory.
-    pub fn remove(&mut self, key: &Key, ts: Ts)
-        ensures { IsAbortedIn self.old self.new ts (key.now ∷ []) }
-    {
-        if self.chains.remove(key, ts.get()) {
-            self.index.remove(ts.get(), key);
-            self.count -= 1;
-        }
+        let ts = ts.get();
+        let Some(keys) = self.index.remove_all(ts) else {
+            return;
+        };
+        self.chains.remove_all(keys.iter(), ts);
+        self.count -= keys.len() as u64;
     }
 
     /// Drops the versions that are dead by the horizon, and says how many: a committed one at or below
     /// it is dead where it is a delete or where a newer one of its key is committed at or below it. It
-    /// looks at the keys that were written above the horizon of the last collection, or from what has
-    /// been committed below that since, and at what their chains have at or below its own, or in one
-    /// list or block with that. It takes no memory.
+    /// visits each key written above the last collection's horizon, or committed below that since, and
+    /// scans that key's versions up to `horizon`, rounded up to a whole block. It takes no memory.
     pub fn drop_dead(&mut self, horizon: u64) -> u64
         ensures { IsCollectedIn self.old self.new horizon result }
     {

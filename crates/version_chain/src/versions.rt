@@ -18,7 +18,7 @@ pub(crate) enum Versions {
     Long(Blocks),
 }
 
-// a call of its own, so that where versions are dropped no proof has a case for each variant
+// for the proof, which has no case for each variant where versions are dropped
 impl Drop for Versions {
     fn drop(self) {
         match self {

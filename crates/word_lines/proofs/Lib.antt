@@ -2,6 +2,7 @@ pub use Rattle.json_lines.proofs.NumberWords
 pub use Rattle.spelled_words.proofs.Spellings
 pub use Rattle.spelled_words.proofs.Splitting
 pub use Rattle.spelled_words.proofs.SpelledWords
+pub use Rattle.spelled_words.proofs.LongWords
 pub mod Writing
 pub mod ReadCommands
 pub mod ReadWords
@@ -10,3 +11,4 @@ pub mod JoinedParts
 pub mod WrittenWords
 pub mod CommandsAgain
 pub mod Counting
+pub mod LongArguments

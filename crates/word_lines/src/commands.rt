@@ -2,7 +2,9 @@
 
 ghost use Rattle.std.specs.Prelude.{◌≡◌, ◌++◌, ◌∷◌, [], ◌<◌, decimal, true, IfOk, IfErr, OnOk, OnErr};
 ghost use Rattle.word_lines.specs.Reading.{Gives, Takes, TakesFree, TakesForm, session_at, row_at, arguments_at, counted_at, taken_of, command_at};
-ghost use Rattle.word_lines.specs.Memory.{WantsMemory, has_bytes, verb_of, verb_at};
+ghost use Rattle.std.specs.List.{list_any};
+ghost use Rattle.spelled_words.specs.Memory.{is_long};
+ghost use Rattle.word_lines.specs.Memory.{WantsMemory, has_bytes, byte_words, byte_words_of, byte_words_at};
 ghost use Rattle.spelled_words.specs.declared.fault.ReadError.TheVariants.{NoMemory};
 ghost use Rattle.word_lines.specs.Table.{table};
 ghost use Rattle.word_lines.specs.Words.{words};
@@ -31,10 +33,9 @@ use timestamps::key::Key;
 /// Reads a command's line of a format, with its newline: the session, below `seats`, and the command. It
 /// allocates for the command's keys, values and bounds alone.
 ///
-/// A line that is read has only printable bytes, no empty word and as many words as its command
-/// takes, since every command's text has: so they are looked at and counted only where there is a
-/// fault, before which they may count.
-#[tactic(auto, using(crate::proofs::Counting::counted_right, crate::proofs::Counting::counted_fault), unfolding(crate::specs::Reading::command_at, crate::specs::Memory::verb_at))]
+/// A line that parses passes the tests of bytes and of the count of words by itself. They run only after a parse has
+/// failed, to tell the fault that comes first.
+#[tactic(auto, using(crate::proofs::Counting::counted_right, crate::proofs::Counting::counted_fault), unfolding(crate::specs::Reading::command_at, crate::specs::Memory::byte_words_at))]
 #[inline(always)]
 pub fn read_command(
     alloc: Global,
@@ -46,8 +47,8 @@ pub fn read_command(
     ensures found { IfOk result (λ x. (line.now ≡ command_line x.0 x.1) × (x.0 < seats) × IsCommand format x.1) }
     // Which fault it is: the first from the left.
     ensures exact { Gives (λ x. x) result (command_at format table seats line.now) }
-    // Memory is wanted only for the name of a command with a key, a value or a span.
-    ensures memory { IfErr result (λ e. e ≡ NoMemory → WantsMemory (verb_at format table seats line.now)) }
+    // Memory is wanted only for a key, a value or a bound that is a word of more than 24 bytes.
+    ensures memory { IfErr result (λ e. e ≡ NoMemory → WantsMemory (byte_words_at format table seats line.now)) }
 {
     let text = text_of(line, format)?;
     match take_command(alloc, text, seats, format) {
@@ -62,7 +63,7 @@ pub fn read_command(
 }
 
 /// Reads a command from the words of a text, which aren't counted before the last was read.
-#[tactic(auto, unfolding(crate::specs::Reading::taken_of, crate::specs::Memory::verb_of))]
+#[tactic(auto, unfolding(crate::specs::Reading::taken_of, crate::specs::Memory::byte_words_of))]
 #[inline(always)]
 fn take_command(
     alloc: Global,
@@ -71,7 +72,7 @@ fn take_command(
     format: Format,
 ) -> Result<(u8, Cmd), ReadError>
     ensures exact { Gives (λ x. x) result (taken_of format table seats (words text.now)) }
-    ensures memory { IfErr result (λ e. e ≡ NoMemory → WantsMemory (verb_of table seats (words text.now))) }
+    ensures memory { IfErr result (λ e. e ≡ NoMemory → WantsMemory (byte_words_of table seats (words text.now))) }
 {
     let mut words = words_in(text);
     let seat = take_seat(&mut words, seats)?;
@@ -133,7 +134,7 @@ pub fn take_arguments(
     format: Format,
 ) -> Result<Cmd, ReadError>
     ensures exact { Takes result words.new (arguments_at format verb words.old) }
-    ensures memory { IfErr result (λ e. e ≡ NoMemory → has_bytes verb ≡ true) }
+    ensures memory { IfErr result (λ e. e ≡ NoMemory → list_any is_long (byte_words verb words.old) ≡ true) }
 {
     match verb {
         Verb::Begin => Ok(Cmd::Begin {
@@ -182,7 +183,8 @@ fn take_bytes(
     format: Format,
 ) -> Result<Cmd, ReadError>
     requires { has_bytes verb ≡ true }
-    ensures { Takes result words.new (arguments_at format verb words.old) }
+    ensures exact { Takes result words.new (arguments_at format verb words.old) }
+    ensures memory { IfErr result (λ e. e ≡ NoMemory → list_any is_long (byte_words verb words.old) ≡ true) }
 {
     match verb {
         Verb::Get => {

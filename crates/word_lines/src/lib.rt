@@ -21,7 +21,7 @@
 //! - `write_command`, `write_reply`, `write_event`, `write_echo`, `write_fault`, `write_spent`: O(b), for the lines that
 //!   they write
 //!
-//! A reader takes the words of a line that it is lent, and takes memory for keys, values and bounds alone. A writer
+//! A reader takes the words of a line that it is lent, and takes memory for long keys, values and bounds alone. A writer
 //! pushes into the caller's buffer, takes memory where that has to grow, and where it finds none leaves that as it was.
 //!
 //! Facts that no clause states are tested in `unit_tests`, by the tables of the format.

@@ -2,7 +2,7 @@
 ghost use Rattle.std.specs.Prelude.{◌≡◌, map, option_map};
 ghost use Rattle.word_lines.specs.Table.{row_of, row_view, table};
 
-/// Which command.
+/// A command's name, as a value.
 #[derive(Clone, Copy, Debug, PartialEq, Eq)]
 pub enum Verb {
     Begin,

@@ -6,7 +6,7 @@ use std::alloc::Global;
 use std::io::Cursor;
 use text_format::Format;
 
-/// What the feed tells. One row has a key and a value that are too long to be held in place.
+/// The feed's messages. One row has a key and a value that are too long to be held in place.
 const MESSAGES: &[u8] = b"{\"after\":\"MQ==\",\"key\":\"YQ==\",\"updated\":\"10\"}
 {\"after\":\"YmJiYmJiYmJiYmJiYmJiYmJiYmJiYmJiYmJiYmJiYmI=\",\"key\":\"YWFhYWFhYWFhYWFhYWFhYWFhYWFhYWFhYWFhYWFhYWE=\",\"updated\":\"10\"}
 {\"resolved\":\"10\"}
@@ -14,7 +14,7 @@ const MESSAGES: &[u8] = b"{\"after\":\"MQ==\",\"key\":\"YQ==\",\"updated\":\"10\
 {\"resolved\":\"20\"}
 ";
 
-/// What is told of it, with the rows.
+/// The follower's report, with the rows.
 const REPORT: &[u8] = b"complete 9 0
 resolved 10 2
 row a 1

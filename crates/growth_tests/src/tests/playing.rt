@@ -33,14 +33,14 @@ fn play(alloc: Global, engine: &mut Engine, events: &[Event]) -> Option<u64> {
     Some(wanting)
 }
 
-/// Makes a call, and makes it again where memory is wanting. How often it was.
-fn make(alloc: Global, engine: &mut Engine, event: &Event) -> Option<u64> {
+/// Makes a call, and makes it again where it is out of memory. How often it was.
+pub(super) fn make(alloc: Global, engine: &mut Engine, event: &Event) -> Option<u64> {
     let wanted = text_of(alloc, &event.reply);
     let reply = step(engine, event)?;
     if text_of(alloc, &reply).as_slice() == wanted.as_slice() {
         return Some(0);
     }
-    if !matches!(&reply, Reply::Refused(Refusal::NoMemory)) || !may_lack_memory(event) {
+    if !is_wanting(event, &reply) {
         return None;
     }
     let again = step(engine, event)?;
@@ -51,20 +51,31 @@ fn make(alloc: Global, engine: &mut Engine, event: &Event) -> Option<u64> {
     }
 }
 
-fn step(engine: &mut Engine, event: &Event) -> Option<Reply> {
+/// Makes the call of an event.
+pub(super) fn step(engine: &mut Engine, event: &Event) -> Option<Reply> {
+    made(engine, event.seat, &event.cmd)
+}
+
+/// Makes a call.
+pub(super) fn made(engine: &mut Engine, seat: u8, cmd: &Cmd) -> Option<Reply> {
     if engine.steps() == u64::MAX {
         return None;
     }
-    Some(engine.step(event.seat, &event.cmd))
+    Some(engine.step(seat, cmd))
 }
 
 /// A reply as it is written. Where the growth that is refused is one of writing it, it is written again.
-fn text_of(alloc: Global, reply: &Reply) -> Vec<u8> {
+pub(super) fn text_of(alloc: Global, reply: &Reply) -> Vec<u8> {
     let mut out = Vec::new(alloc);
     if write_reply(&mut out, reply).is_err() {
         let _ = write_reply(&mut out, reply);
     }
     out
+}
+
+/// Whether the reply says that it is out of memory, where that may be.
+pub(super) fn is_wanting(event: &Event, reply: &Reply) -> bool {
+    matches!(reply, Reply::Refused(Refusal::NoMemory)) && may_lack_memory(event)
 }
 
 /// Whether the command may lack memory, and would have been accepted.
@@ -76,6 +87,7 @@ fn may_lack_memory(event: &Event) -> bool {
             | Cmd::Close { .. }
             | Cmd::CloseHard { .. }
             | Cmd::Release { .. }
+            | Cmd::Collect { .. }
             | Cmd::Cancel { .. }
             | Cmd::Stats
     );

@@ -252,8 +252,8 @@ fault 2 7 nonewline
 = ring
 ";
 
-/// What checks say: of no event, of events that begin anywhere, of faults, of a value that was never written, of an
-/// event that is not there, and of want of memory where it may be and where it may not.
+/// Checks with their verdicts: of no event, of events that begin anywhere, of faults, of a value that was never
+/// written, of an event that is not there, and of running out of memory where it may be and where it may not.
 pub(super) const VERDICTS: &str = "@ check
 = done
 yes

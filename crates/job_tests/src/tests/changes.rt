@@ -276,7 +276,7 @@ fn texts_without_a_seed(rt: HostRuntime) {
     assert!(rt; unseeded(rt.alloc(), b"0 0 scanat 5 - - => rows 0\n").is_none());
 }
 
-/// What a view tells where changes tell this: of each timestamp all rows.
+/// The rows that a view tells where changes tell this: of each timestamp all of them.
 fn built(alloc: Global, changes: &str) -> Result<Vec<u8>, AllocError> {
     let mut rows: BTreeMap<&str, &str> = BTreeMap::new(alloc);
     let mut told = Vec::new(alloc);
@@ -312,7 +312,7 @@ fn put_all(
     Ok(())
 }
 
-/// What is told of a feed of a transcript.
+/// The report of a feed of a transcript.
 fn told_of(
     alloc: Global,
     transcript: &str,

@@ -48,7 +48,11 @@ mvfeed,race => refused
 mvfeed,race,2,3 => refused
 mvfeed,race,2,--ring,0 => refused
 mvfeed,race,2,--first,1 => refused
-mvfeed,check => check
+mvfeed,check => check None
+mvfeed,check,--events,12 => check Some(12)
+mvfeed,check,--events,18446744073709551615 => check Some(18446744073709551615)
+mvfeed,check,--events => refused
+mvfeed,check,--events,-1 => refused
 mvfeed,check,--ring,1 => refused
 mvfeed,state => state Whole
 mvfeed,state,--live => state Live
@@ -118,7 +122,7 @@ fn is_asked(alloc: Global, line: &str) -> Option<bool> {
                 format!(in alloc; "race {sessions} {ring} {format:?}"),
             )
         }
-        Some(Job::Check) => Some(wanted == "check"),
+        Some(Job::Check(events)) => is_text(wanted, format!(in alloc; "check {events:?}")),
         Some(Job::State(detail)) => is_text(wanted, format!(in alloc; "state {detail:?}")),
         Some(Job::Dump(at)) => {
             let at = at.map(|at| at.get());
@@ -165,8 +169,9 @@ fn is_followed(alloc: Global, options: &FollowOptions, wanted: &str) -> Option<b
 }
 
 /// Each end of a job but those of faulty lines, with its status and its sentence.
-const ENDS: [(End, u8, &str); 10] = [
+const ENDS: [(End, u8, &str); 11] = [
     (End::Done, 0, ""),
+    (End::Right { events: 7 }, 0, "events checked: 7"),
     (
         End::No { position: 7 },
         3,
@@ -200,7 +205,7 @@ const FOLLOW_ENDS: [(FollowEnd, u8, &str); 6] = [
 const LINE_FAULTS: [(LineFault, &str); 11] = [
     (
         LineFault::WordCount,
-        "line 2 is empty, or has an empty word, or the wrong number of words",
+        "line 2 has too few words, too many, or an empty one",
     ),
     (
         LineFault::UnknownCommand,

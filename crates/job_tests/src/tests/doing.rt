@@ -2,7 +2,7 @@
 
 use super::command_lines::{job_of_words, words_in};
 use super::devices::{Sink, Source};
-use command_line::{command, done, hint_of, job_in};
+use command_line::{Input, command, done, hint_of, job_in};
 use sessions::{Reading, Writing};
 use std::alloc::Global;
 use std::process::ExitCode;
@@ -121,7 +121,7 @@ fn is_done<R: Threads + Wait + Sync + Eprint>(
     let mut text = Vec::new(alloc);
     text.extend_from_slice(seed.as_bytes()).ok()?;
     let mut sink = Sink::new(alloc);
-    let mut source = Reading::new(Source::new(input.as_bytes()));
+    let mut source = Input::new(alloc, Reading::new(Source::new(input.as_bytes())));
     let left = done(
         rt,
         alloc,
@@ -134,10 +134,15 @@ fn is_done<R: Threads + Wait + Sync + Eprint>(
 }
 
 /// Refused command lines, each with its hint, which is none where it is empty.
-const HINTS: [(&str, &str); 10] = [
+const HINTS: [(&str, &str); 15] = [
     ("mvfeed,run,first.script", "mvfeed run < FILE"),
     ("mvfeed,run,--seats,2,it", "mvfeed run < FILE"),
+    ("mvfeed,run,-", "mvfeed run < FILE"),
     ("mvfeed,race,2,it", "mvfeed race N < FILE"),
+    ("mvfeed,race,first.script", "mvfeed race N < FILE"),
+    ("mvfeed,race,65", ""),
+    ("mvfeed,race,0", ""),
+    ("mvfeed,race,-", "mvfeed race N < FILE"),
     ("mvfeed,check,it", "mvfeed check < FILE"),
     ("mvfeed,state,--live,it", "mvfeed state < FILE"),
     ("mvfeed,dump,it", "mvfeed dump < FILE"),
@@ -170,7 +175,7 @@ fn is_hinted(alloc: Global, words: &str, hint: &str) -> Option<bool> {
 const USAGES: [(&str, &str); 6] = [
     ("run", "\nUsage: mvfeed run [OPTIONS] < SCRIPT\n"),
     ("race", "\nUsage: mvfeed race [OPTIONS] <N> < SCRIPT\n"),
-    ("check", "\nUsage: mvfeed check < TRANSCRIPT\n"),
+    ("check", "\nUsage: mvfeed check [OPTIONS] < TRANSCRIPT\n"),
     ("state", "\nUsage: mvfeed state [OPTIONS] < TRANSCRIPT\n"),
     ("dump", "\nUsage: mvfeed dump [OPTIONS] < TRANSCRIPT\n"),
     (

@@ -15,6 +15,35 @@ pub(super) const TRANSCRIPTS: &str = "@ the order of commits is not that of the 
 {'after':'MQ==','key':'Yg==','updated':'10'}
 {'after':'Mg==','key':'YQ==','updated':'20'}
 {'resolved':'30'}
+@ a closing over many timestamps, of which some were committed before the feed was opened
+0 1 begin 20 => started
+1 1 put 20 b 1 => written
+2 1 put 20 a 2 => written
+3 1 commit 20 => committed 2
+4 0 open - - 0 => opened 1
+5 1 begin 30 => started
+6 1 put 30 c 3 => written
+7 1 commit 30 => committed 1
+8 2 begin 10 => started
+9 2 put 10 z 4 => written
+10 2 commit 10 => committed 1
+11 2 begin 25 => started
+12 2 put 25 a 5 => written
+13 2 abort 25 => aborted
+14 2 begin 40 => started
+15 2 put 40 a 6 => written
+16 0 close 50 => closed 39 0
+17 0 poll 1 9 => messages 5
+{'after':'NA==','key':'eg==','updated':'10'}
+{'after':'Mg==','key':'YQ==','updated':'20'}
+{'after':'MQ==','key':'Yg==','updated':'20'}
+{'after':'Mw==','key':'Yw==','updated':'30'}
+{'resolved':'39'}
+18 2 commit 40 => committed 1
+19 0 close 50 => closed 50 0
+20 0 poll 1 9 => messages 2
+{'after':'Ng==','key':'YQ==','updated':'40'}
+{'resolved':'50'}
 @ a transaction split over polls, with a closing between
 0 0 open - - 0 => opened 1
 1 1 begin 10 => started

@@ -132,7 +132,7 @@ fn put_scans(
     Ok(())
 }
 
-/// What scans answered, as it is to be told of a feed.
+/// The answers of scans, as they are to be told of a feed.
 fn told_by(alloc: Global, answers: &str) -> Result<Vec<u8>, AllocError> {
     let mut told = Vec::new(alloc);
     for line in answers.lines() {

@@ -10,7 +10,7 @@ use std::sync::atomic::{AtomicBool, AtomicU64};
 use std::test::Fail;
 use text_format::Format;
 
-/// What one read gives, and what has to be written before the next read. A line may come in two pieces.
+/// The bytes of one read, and what has to be written before the next read. A line may come in two pieces.
 type Turn = (&'static str, &'static str);
 
 const RUN: &[Turn] = &[

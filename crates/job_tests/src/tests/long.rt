@@ -74,7 +74,7 @@ pub(super) fn followed(
     (end, sink.taken)
 }
 
-/// Scripts of a shape, run with rings of 1 to 8 rows. Whether every reply is right, and none wants memory.
+/// Scripts of a shape, run with rings of 1 to 8 rows. Whether every reply is right, and none is out of memory.
 pub(super) fn are_right<R: Wait>(rt: &R, alloc: Global, first: u64, stride: u64) -> Option<bool> {
     for turn in 0u64..25 {
         let shape = Shape {
@@ -92,7 +92,7 @@ pub(super) fn are_right<R: Wait>(rt: &R, alloc: Global, first: u64, stride: u64)
     Some(true)
 }
 
-/// What a check says of the transcript of the first cache, and of it where a message was altered on the way.
+/// Verdicts on the transcript of the first cache, and on it where a message was altered on the way.
 pub(super) fn altered<R: Wait>(rt: &R, alloc: Global) -> Option<Vec<u8>> {
     let output = ran(rt, alloc, 1024, CACHE.as_bytes())?;
     let text = std::str::from_utf8(&output).ok()?;

@@ -103,7 +103,7 @@ fn word_of(ended: Ended) -> &'static str {
 
 fn word_of_job(end: End) -> &'static str {
     match end {
-        End::Done => "done",
+        End::Done | End::Right { .. } => "done",
         End::Faulty { .. } => "faulty",
         End::No { .. } => "no",
         End::Input => "input",
@@ -224,7 +224,7 @@ fn follow_options_of(alloc: Global, words: &mut Words<'_>) -> Option<FollowOptio
     })
 }
 
-/// What is told of the rows, by a word.
+/// How much is told of the rows, by a word.
 pub(super) fn shown_of(word: &str) -> Shown {
     match word.as_bytes() {
         b"yes" => Shown::Rows,
@@ -293,7 +293,7 @@ pub(super) fn follow(
     follow_io(alloc, options, &mut input, &mut output)
 }
 
-/// What a run writes, if it reads its whole script.
+/// The output of a run that reads its whole script.
 pub(super) fn ran<R: Wait>(rt: &R, alloc: Global, ring: u32, script: &[u8]) -> Option<Vec<u8>> {
     let mut sink = Sink::new(alloc);
     let config = Config { ring, ..DEFAULTS };
@@ -316,7 +316,7 @@ pub(super) fn ran<R: Wait>(rt: &R, alloc: Global, ring: u32, script: &[u8]) -> O
 pub(super) fn is_yes(alloc: Global, transcript: &[u8]) -> bool {
     let mut sink = Sink::new(alloc);
     let end = check(alloc, Source::new(transcript), &mut sink);
-    end == End::Done && sink.taken.as_slice() == b"yes\n".as_slice()
+    matches!(end, End::Right { .. }) && sink.taken.as_slice() == b"yes\n".as_slice()
 }
 
 /// Whether a transcript, behind its first line, is what its calls get with rings of any size, and right.

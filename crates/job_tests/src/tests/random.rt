@@ -64,12 +64,12 @@ fn put_word(out: &mut Vec<u8>, words: &[&str], place: u8) -> Result<(), AllocErr
     out.extend_from_slice(word.as_bytes())
 }
 
-/// What the timestamps of a script look like.
+/// The shape of a script's timestamps.
 #[derive(Clone, Copy)]
 pub(crate) struct Shape {
-    /// What is drawn from; not 0.
+    /// The dice's seed, which isn't 0.
     pub(crate) seed: u64,
-    /// What all timestamps lie above.
+    /// The number that all timestamps lie above.
     pub(crate) first: u64,
     /// How far two timestamps that follow one another lie apart.
     pub(crate) stride: u64,

@@ -10,7 +10,7 @@ use version_chain::Store;
 
 /// A committed version, openings at a cursor, least floors, and polls. Each `open` and `tell` ends with what is closed.
 pub(super) const SCRIPT: &str = "write 10 a=
-commit 10 a=
+commit 10=1
 open 9223372036854775808 0=1
 floor=9223372036854775807
 tell 1 18446744073709551615=
@@ -46,7 +46,7 @@ impl Asked for Served {
             Some(b'o') => open(alloc, &mut self.feeds, &mut words, out),
             Some(b't') => tell(alloc, self, &mut words, out),
             Some(b'f') => put_number(alloc, out, self.feeds.least_floor()?),
-            Some(letter) => change(alloc, &mut self.store, *letter, &mut words),
+            Some(letter) => change(alloc, &mut self.store, *letter, &mut words, out),
             None => None,
         }
     }

@@ -8,9 +8,9 @@ use timestamps::key::Key;
 use timestamps::value::Value;
 
 /// Scripts, each of rules whose transactions are of seat 0. `marks` counts the spans that have readers, and `readers` has
-/// those of a key. `transactions` are those that are not forgotten. `forget` closes and `hard` closes hard, each with where
-/// closed then stands and how many it aborted. `look` and `over` read at a closed timestamp, `keep` protects one, `end` ends
-/// a protection, and `jump` raises the horizon. `newest` tells a key's version at a timestamp, `waits` the oldest undecided
+/// those of a key. `transactions` are those that are undecided, each with how many keys it wrote. `forget` closes and `hard`
+/// closes hard, each with where closed then stands and how many it aborted. `look` and `over` read at a closed timestamp,
+/// `keep` protects one, `end` ends a protection, and `jump` collects. `newest` tells a key's version at a timestamp, `waits` the oldest undecided
 /// transaction, and `young` the greatest timestamp that began or was closed.
 pub(super) const SCRIPTS: [&str; 10] = [
     // an own read leaves no mark
@@ -121,13 +121,14 @@ readers a= 60
 readers h= 20 40 60
 readers z= 60
 ",
-    // a closing forgets the readers and the transactions through its timestamp, and no version. All above it stand
+    // a closing forgets the readers through its timestamp, and no version. All above it stand
     "begin 10=started
 begin 15=started
 begin 20=started
 begin 30=started
 begin 40=started
 put 20 a 1=written
+transactions= 10 0 15 0 20 1 30 0 40 0
 commit 20=committed 1
 get 15 a=none
 get 30 a=found 1
@@ -137,18 +138,18 @@ commit 15=committed 0
 commit 30=committed 0
 readers a= 15 30
 readers b= 40
-transactions= 10 15 20 30 40
+transactions= 40 0
 forget 20=closed 20 0
 readers a= 30
 readers b= 40
-transactions= 30 40
+transactions= 40 0
 forget 15=closed 20 0
 readers a= 30
-transactions= 30 40
+transactions= 40 0
 forget 30=closed 30 0
 readers a=
 readers b= 40
-transactions= 40
+transactions= 40 0
 undecided=1
 versions=1
 put 15 a 2=ended
@@ -184,7 +185,8 @@ marks=0
 keep 26=protected 2
 end 1=released
 end 1=noprotection
-jump 14=
+jump 9223372036854775808=range
+jump 14=collected 14 0
 look 13 a=belowhorizon 14
 look 14 a=found 1
 over 13 - -=belowhorizon 14
@@ -241,8 +243,10 @@ begin 30=started
 put 10 a 1=written
 put 10 b 2=written
 put 10 b 3=written
+transactions= 10 2 20 0 30 0
 commit 10=committed 2
 del 20 a=written
+transactions= 20 1 30 0
 commit 20=committed 1
 get 30 a=none
 scan 30 - -=rows b3
@@ -263,11 +267,6 @@ impl Asked for Rules {
             }
             Some(b'w') => put_or_none(alloc, out, self.oldest_undecided()),
             Some(b'y') => put_number(alloc, out, self.reached()),
-            Some(b'j') => {
-                let versions = self.take_versions();
-                self.put_back(versions, words.number());
-                Some(())
-            }
             Some(letter) => {
                 let reply = reply_to(alloc, self, *letter, &mut words)?;
                 put_reply(alloc, out, &reply)
@@ -277,7 +276,12 @@ impl Asked for Rules {
     }
 }
 
-fn reply_to(alloc: Global, rules: &mut Rules, letter: u8, words: &mut Words<'_>) -> Option<Reply> {
+pub(super) fn reply_to(
+    alloc: Global,
+    rules: &mut Rules,
+    letter: u8,
+    words: &mut Words<'_>,
+) -> Option<Reply> {
     let ts = words.number();
     match letter {
         b'b' => Some(rules.begin(0, ts)),
@@ -311,18 +315,17 @@ fn closed_reply_to(
         b'l' => Some(rules.read_at(t, &words.key(alloc)?)),
         b'o' => Some(rules.scan_at(t, &words.span(alloc)?)),
         b'e' => Some(rules.release(t)),
+        b'j' => Some(rules.collect(t, None)),
         b'k' if rules.closing().made() < u64::MAX => Some(rules.protect(t)),
         _ => None,
     }
 }
 
-/// Writes the timestamps of the transactions, of those from 1 to 100.
+/// Writes the timestamps of the undecided transactions, each with how many keys it wrote.
 fn put_transactions(alloc: Global, rules: &Rules, out: &mut Vec<u8>) -> Option<()> {
-    for ts in 1..101 {
-        if rules.write_set(ts).is_some() {
-            out.push(b' ').ok()?;
-            put_number(alloc, out, ts)?;
-        }
+    for transaction in rules.undecided_report().ok()?.as_slice() {
+        put_named(alloc, out, b" ", transaction.timestamp)?;
+        put_named(alloc, out, b" ", transaction.keys)?;
     }
     Some(())
 }
@@ -335,7 +338,7 @@ fn put_or_none(alloc: Global, out: &mut Vec<u8>, number: Option<u64>) -> Option<
     }
 }
 
-fn put_reply(alloc: Global, out: &mut Vec<u8>, reply: &Reply) -> Option<()> {
+pub(super) fn put_reply(alloc: Global, out: &mut Vec<u8>, reply: &Reply) -> Option<()> {
     match reply {
         Reply::Started => out.extend_from_slice(b"started").ok(),
         Reply::Written => out.extend_from_slice(b"written").ok(),
@@ -351,6 +354,10 @@ fn put_reply(alloc: Global, out: &mut Vec<u8>, reply: &Reply) -> Option<()> {
         Reply::Closed { at, aborted } => {
             put_named(alloc, out, b"closed ", *at)?;
             put_named(alloc, out, b" ", *aborted)
+        }
+        Reply::Collected { horizon, removed } => {
+            put_named(alloc, out, b"collected ", *horizon)?;
+            put_named(alloc, out, b" ", *removed)
         }
         Reply::Rows(rows) => put_rows(out, rows.as_slice()),
         Reply::Refused(refusal) => put_refusal(alloc, out, refusal),

@@ -1,14 +1,13 @@
 //! Versions of keys: what a write, a commit, an abort and a collection leave, and what a search finds.
 use super::script::{Asked, Words, put_number};
-use key_set::KeySet;
 use std::alloc::Global;
 use timestamps::key::Key;
 use timestamps::ts::Ts;
 use timestamps::value::Value;
 use version_chain::Store;
 
-/// Scripts, each of a store. A `write` is of a delete. `many` makes so many changes, from a timestamp on and so far
-/// apart. `newest` has the newest version of a key up to a timestamp,
+/// Scripts, each of a store. A `write` is of a delete. `commit` and `abort` are of all versions at a
+/// timestamp. `commit` says how many these are, and so does `holds`. `many` makes so many changes, from a timestamp on and so far apart. `newest` has the newest version of a key up to a timestamp,
 /// `least` the least timestamp of a version above, `in` the last bytes of a span's keys, and `follows` the committed
 /// versions after a place, up to a timestamp. A `drop` says how many versions it dropped as dead.
 pub(super) const SCRIPTS: [&str; 10] = [
@@ -28,23 +27,33 @@ least 29 apple=30
 least 30 apple=none
 least 0 pear=none
 ",
-    // a commit marks, an abort drops, and so does a removal
+    // a commit marks what was written at its timestamp, and an abort drops it
     "write 10 apple=
 write 10 pear=
 write 20 apple=
-commit 10 apple=
+holds 10=2
+holds 15=0
+commit 15=0
+commit 10=2
 newest 15 apple=10 committed
-newest 15 pear=10
+newest 15 pear=10 committed
 newest 25 apple=20
-abort 20 apple=
-abort 10 pear=
-abort 30 plum=
-write 30 pear=
-remove 30 pear=
-remove 30 plum=
+abort 25=
+abort 20=
+holds 20=0
 newest 25 apple=10 committed
-newest 35 pear=none
-versions=1
+write 20 plum=
+write 30 plum=
+write 30 pear=
+write 30 fig=
+versions=6
+abort 30=
+newest 35 plum=20
+newest 35 pear=10 committed
+newest 35 fig=none
+holds 10=2
+holds 30=0
+versions=3
 ",
     // a later write of a transaction takes the place of an earlier
     "write 10 apple=
@@ -60,12 +69,12 @@ put 20 apple 7=
 put 30 apple 7=
 put 40 apple 7=
 put 60 apple 7=
-write 30 pear=
-commit 10 apple=
-commit 20 apple=
-commit 40 apple=
-commit 60 apple=
-commit 30 pear=
+write 35 pear=
+commit 10=1
+commit 20=1
+commit 40=1
+commit 60=1
+commit 35=1
 drop 5=0
 drop 15=0
 drop 50=3
@@ -77,7 +86,7 @@ newest 99 apple=60 is 7 committed
 newest 99 pear=none
 drop 50=0
 drop 10=0
-commit 30 apple=
+commit 30=1
 drop 50=1
 drop 60=1
 versions=1
@@ -89,12 +98,12 @@ put 30 apple 7=
 put 40 apple 7=
 put 50 apple 7=
 put 60 apple 7=
-commit 10 apple=
-commit 20 apple=
-commit 30 apple=
-commit 40 apple=
-commit 50 apple=
-commit 60 apple=
+commit 10=1
+commit 20=1
+commit 30=1
+commit 40=1
+commit 50=1
+commit 60=1
 drop 10=0
 least 0 apple=10
 drop 30=2
@@ -114,12 +123,12 @@ put 30 apple 7=
 put 40 apple 7=
 put 50 apple 7=
 put 60 apple 7=
-commit 10 apple=
-commit 20 apple=
-commit 30 apple=
-commit 40 apple=
-commit 50 apple=
-commit 60 apple=
+commit 10=1
+commit 20=1
+commit 30=1
+commit 40=1
+commit 50=1
+commit 60=1
 drop 30=2
 write 17 apple=
 least 0 apple=17
@@ -130,7 +139,7 @@ newest 29 apple=17
 write 15 apple=
 least 0 apple=15
 newest 29 apple=17
-abort 15 apple=
+abort 15=
 least 0 apple=16
 newest 99 apple=60 is 7 committed
 versions=6
@@ -150,10 +159,10 @@ versions=1400
 newest 998 apple=998
 newest 999 apple=999
 least 999 apple=1000
-many 400 3 4 abort apple=
+many 400 3 4 abort=
 versions=1000
 newest 999 apple=998
-many 1000 2 2 commit apple=
+many 1000 2 2 commit=1000
 newest 513 apple=512 committed
 put 513 apple 7=
 newest 513 apple=513 is 7
@@ -166,9 +175,9 @@ versions=252
 least 0 apple=513
 least 513 apple=1001
 least 1001 apple=1502
-abort 513 apple=
-abort 1001 apple=
-many 250 1502 2 remove apple=
+abort 513=
+abort 1001=
+many 250 1502 2 abort=
 versions=0
 newest 9999 apple=none
 write 5 apple=
@@ -198,20 +207,19 @@ in f kkkkkkkk=
 in m -=m
 in n -=
 ",
-    // what is committed follows by timestamp and then by key; the greater key is committed first
-    "write 10 a=
-write 10 b=
-write 10 c=
+    // what is committed follows by timestamp and then by key; the greater timestamp is committed first
+    "write 10 b=
+write 10 a=
+write 12 c=
 write 20 a=
 write 20 c=
-write 30 b=
 write 30 d=
-abort 10 c=
-commit 30 d=
+abort 12=
+commit 30=1
 follows 0 - 99= 30 d
-commit 10 b=
-commit 10 a=
+commit 10=2
 follows 9 b 30= 10 a 10 b 30 d
+follows 10 a 30= 10 b 30 d
 follows 10 b 99= 30 d
 follows 10 - 29=
 follows 0 - 10= 10 a 10 b
@@ -220,7 +228,7 @@ follows 10 b 9=
     // the greatest timestamp follows; the key of a place needs no version
     "follows 0 - 18446744073709551615=
 write 9223372036854775807 b=
-commit 9223372036854775807 b=
+commit 9223372036854775807=1
 follows 9223372036854775807 a 18446744073709551615= 9223372036854775807 b
 follows 9223372036854775807 - 18446744073709551615=
 follows 18446744073709551615 a 18446744073709551615=
@@ -232,69 +240,74 @@ impl Asked for Store {
         match words.word().first() {
             Some(b'v') => put_number(alloc, out, self.versions()),
             Some(b'd') => put_number(alloc, out, self.drop_dead(words.number())),
+            Some(b'h') => put_number(alloc, out, self.written_at(words.number())),
             Some(b'n') => newest(alloc, self, &mut words, out),
             Some(b'l') => least(alloc, self, &mut words, out),
             Some(b'i') => keys_in(alloc, self, &mut words, out),
             Some(b'f') => follows(alloc, self, &mut words, out),
-            Some(b'm') => many(alloc, self, &mut words),
-            Some(letter) => change(alloc, self, *letter, &mut words),
+            Some(b'm') => many(alloc, self, &mut words, out),
+            Some(word) => change(alloc, self, *word, &mut words, out),
             None => None,
         }
     }
 }
 
-/// Writes, commits, aborts or removes a version of a key.
+/// Writes a version of a key, or ends those of a timestamp.
 pub(super) fn change(
     alloc: Global,
     store: &mut Store,
     letter: u8,
     words: &mut Words<'_>,
+    out: &mut Vec<u8>,
 ) -> Option<()> {
     let ts = words.ts()?;
-    change_at(alloc, store, letter, ts, words)
+    let committed = change_at(alloc, store, letter, ts, words)?;
+    put_committed(alloc, letter, committed, out)
 }
 
 /// Makes one change at each of so many timestamps.
-fn many(alloc: Global, store: &mut Store, words: &mut Words<'_>) -> Option<()> {
+fn many(alloc: Global, store: &mut Store, words: &mut Words<'_>, out: &mut Vec<u8>) -> Option<()> {
     let count = words.number();
     let mut ts = words.number();
     let step = words.number();
     let letter = *words.word().first()?;
+    let mut committed = 0u64;
     for _ in 0..count {
-        change_at(alloc, store, letter, Ts::new(ts)?, &mut words.again())?;
+        let more = change_at(alloc, store, letter, Ts::new(ts)?, &mut words.again())?;
+        committed = committed.saturating_add(more);
         ts = ts.saturating_add(step);
     }
-    Some(())
+    put_committed(alloc, letter, committed, out)
 }
 
+/// Makes a change, and answers how many versions it committed.
 fn change_at(
     alloc: Global,
     store: &mut Store,
     letter: u8,
     ts: Ts,
     words: &mut Words<'_>,
-) -> Option<()> {
-    let key = words.key(alloc)?;
+) -> Option<u64> {
     match letter {
-        b'w' => store.write(&key, ts, None).ok()?,
+        b'w' => store.write(&words.key(alloc)?, ts, None).ok()?,
         b'p' => {
+            let key = words.key(alloc)?;
             let value = Value::new(alloc, words.word()).ok()?;
             store.write(&key, ts, Some(&value)).ok()?;
         }
-        b'c' => {
-            let keys = KeySet::of(alloc, key);
-            if store.commit(ts, keys.iter()) != 1 {
-                return None;
-            }
-        }
-        b'a' => {
-            let keys = KeySet::of(alloc, key);
-            store.abort(ts, keys.iter());
-        }
-        b'r' => store.remove(&key, ts),
+        b'c' => return Some(store.commit(ts)),
+        b'a' => store.abort(ts),
         _ => return None,
     }
-    Some(())
+    Some(0)
+}
+
+/// Writes how many versions a change committed, where it is a commit.
+fn put_committed(alloc: Global, letter: u8, committed: u64, out: &mut Vec<u8>) -> Option<()> {
+    if letter != b'c' {
+        return Some(());
+    }
+    put_number(alloc, out, committed)
 }
 
 fn newest(alloc: Global, store: &Store, words: &mut Words<'_>, out: &mut Vec<u8>) -> Option<()> {

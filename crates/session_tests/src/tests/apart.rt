@@ -66,7 +66,7 @@ fn floor_of(db: &Db, mut seat: Seat) -> u64
     db.floor(&mut seat)
 }
 
-/// What another thread finds closed, without a turn.
+/// Closed, as another thread finds it without a turn.
 fn floor_elsewhere<R: Threads + Sync>(rt: &R, db: &Db, seat: Seat) -> u64
     requires own { IsOf db.now seat }
 {

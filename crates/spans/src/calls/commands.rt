@@ -56,7 +56,7 @@ pub enum Cmd {
     Stats,
 }
 
-// a call of its own, so that where a command is dropped no proof has a case for each kind of it
+// for the proof, which has no case for each kind of it where a command is dropped
 impl Drop for Cmd {
     fn drop(self) {
         match self {

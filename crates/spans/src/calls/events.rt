@@ -15,7 +15,7 @@ pub struct Event {
     pub reply: Reply,
 }
 
-// a call of its own, so that where an event is dropped no proof has a case for each part of it
+// for the proof, which has no case for each part of it where an event is dropped
 impl Drop for Event {
     fn drop(self) {
         let Event {

@@ -45,7 +45,7 @@ pub enum Reply {
     Refused(Refusal),
 }
 
-// a call of its own, so that where a reply is dropped no proof has a case for each kind of it
+// for the proof, which has no case for each kind of it where a reply is dropped
 impl Drop for Reply {
     fn drop(self) {
         match self {

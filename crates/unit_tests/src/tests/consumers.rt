@@ -41,7 +41,7 @@ fn consumers_begin_with_rows(rt: HostRuntime) {
     }
 }
 
-/// What is told of a line and rows. A consumer that begins with rows shows them.
+/// The outcome of a line and rows. A consumer that begins with rows shows them.
 fn told(alloc: Global, line: &str, rows: &str) -> u8 {
     match Consumer::begin(alloc, line.as_bytes(), rows.as_bytes()) {
         Ok(consumer) => shown(&consumer, rows.as_bytes()),

@@ -1,7 +1,6 @@
 use Rattle.std.specs.Prelude.{refl}
-use Rattle.spans.specs.Effects.{effects_of}
 use Rattle.spans.specs.declared.calls.commands.Cmd.TheVariants.{Abort, Begin, Cancel, Close, CloseHard, Collect, Commit, Del, Get, Open, OpenEvery, OpenInitial, OpenInitialEvery, Poll, Protect, Put, ReadAt, Release, Scan, ScanAt, Stats}
-use Rattle.kept.proofs.Answering.{collect_accepted, reply_is_answer}
+use Rattle.kept.proofs.Answering.{reply_is_answer}
 use Rattle.kept.proofs.answers.kept_answers.Goals as goal
 
 pub returns-clause-begin : goal.returns-clause-begin
@@ -20,7 +19,7 @@ pub returns-clause-del : goal.returns-clause-del
 returns-clause-del c = λ k seat t x r is h stands. reply_is_answer k h seat (Del t x) r stands is
 
 pub returns-clause-commit : goal.returns-clause-commit
-returns-clause-commit c = λ k seat t h stands. reply_is_answer k h seat (Commit t) _ stands refl
+returns-clause-commit c = λ k seat t r is h stands. reply_is_answer k h seat (Commit t) r stands is
 
 pub returns-clause-abort : goal.returns-clause-abort
 returns-clause-abort c = λ k seat t h stands. reply_is_answer k h seat (Abort t) _ stands refl
@@ -45,9 +44,6 @@ returns-clause-release c = λ k seat id h stands. reply_is_answer k h seat (Rele
 
 pub returns-clause-collect : goal.returns-clause-collect
 returns-clause-collect c = λ k seat to r is h stands. reply_is_answer k h seat (Collect to) r stands is
-
-pub returns-clause-collect_accepted : goal.returns-clause-collect_accepted
-returns-clause-collect_accepted c = λ h seat to low. collect_accepted (effects_of h) seat to low
 
 pub returns-clause-open : goal.returns-clause-open
 returns-clause-open c = λ k seat c span h stands. reply_is_answer k h seat (Open span c) _ stands refl

@@ -1,9 +1,7 @@
 use Rattle.std.proofs.Common.{[], ap, arith, inl, length, refl, subst, sym, ◌≡◌, ◌≤◌, ◌∙◌}
 use Rattle.std.specs.Prelude.{IfSome}
 use Rattle.timestamps.specs.declared.ts.TheConstants.{MAX}
-use Rattle.kept.specs.Table.{keys_of}
-use Rattle.txn_table.specs.TransactionIn.{transaction_in}
-use Rattle.version_chain.specs.Stores.{IsAbortedIn}
+use Rattle.version_chain.specs.Stores.{AreDroppedAt}
 use Rattle.mvto_rules.proofs.Closing.{IsTakingBack, taken_in_range, taking_begins, taking_ends, taking_goes_on}
 use Rattle.mvto_rules.proofs.forgetting.take_back_through.Goals as goal
 
@@ -26,9 +24,9 @@ pub loop-ts-preserved : goal.loop-ts-preserved
 loop-ts-preserved c =
     let taking = subst (IsTakingBack c.args.store.now c.loop-ts.store c.args.txns.now c.args.to) c.in-Some.ensures.steps c.loop-ts.invariant.taking in
     let named : c.unwrap-ts.result ≡ c.in-Some.ts.now = subst (λ o. IfSome o (λ t. t ≡ c.ts.inside.0)) c.unwrap-ts.ensures c.new.ensures.number ∙ c.ts.view_is in
-    let aborted = subst (λ n. IsAbortedIn c.loop-ts.store c.abort_written.new.store n (keys_of (transaction_in c.args.txns.now n))) named c.abort_written.ensures in
+    let aborted = subst (AreDroppedAt c.loop-ts.store c.abort.new.self) named c.abort.ensures in
     record {
-      taking = taking_goes_on c.args.store.now c.loop-ts.store c.abort_written.new.store c.args.txns.now c.args.to c.in-Some.ts.now c.next.new.self taking aborted;
+      taking = taking_goes_on c.args.store.now c.loop-ts.store c.abort.new.self c.args.txns.now c.args.to c.in-Some.ts.now c.next.new.self taking aborted;
       counted = omega (arith, c.loop-ts.invariant.counted, ap length c.in-Some.ensures.steps);
     }
 

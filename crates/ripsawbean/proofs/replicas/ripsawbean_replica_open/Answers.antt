@@ -1,18 +1,15 @@
 use Rattle.std.proofs.Common.{◌≡◌, ℕ, false, List, Option, Some, None, refl, sym, ap, ◌∙◌}
 use Rattle.std.specs.Prelude.{is_some}
-use Rattle.text_format.specs.declared.Format.TheVariants.{Two}
-use Rattle.word_lines.specs.Memory.{WantsMemory, verb_at}
-use Rattle.word_lines.specs.Table.{table}
 use Rattle.embedded_replica.specs.declared.consumer.Consumer.{Consumer}
 use Rattle.embedded_replica.specs.declared.consumer.BeginError.TheVariants.{NoMemory}
-use Rattle.embedded_replica.specs.Consumers.{replica_of}
+use Rattle.embedded_replica.specs.Consumers.{replica_of, IsUnopened}
 use Rattle.embedded_replica.proofs.Opening.{begins_wants}
 use Rattle.ripsawbean.specs.ReplicaExports.{Opened}
 use Rattle.ripsawbean.specs.declared.replica_handle.ReplicaHandle.{ReplicaHandle}
 use Rattle.ripsawbean.proofs.replicas.ripsawbean_replica_open.Goals as goal
 
 -- a closed handle stays closed where there is no memory
-stays_closed : (line : List ℕ) (old new : Option Consumer) → is_some old ≡ false → new ≡ old → WantsMemory (verb_at Two table 64 line) → Opened line old 12 new
+stays_closed : (line : List ℕ) (old new : Option Consumer) → is_some old ≡ false → new ≡ old → IsUnopened line NoMemory → Opened line old 12 new
 stays_closed line None new closed same wants = (same, NoMemory, wants, refl)
 stays_closed line (Some d) new closed same wants = absurd cc
 

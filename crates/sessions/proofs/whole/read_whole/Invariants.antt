@@ -7,5 +7,6 @@ invariant-loop-turn g l =
     let r' = g.S.Source.reads l.source in
     (0 < vec_len l.block)
     × (r'.given ≡ r.given ++ l.whole.items)
+    × (r'.ends ≡ r.ends)
     × (r'.failures ≡ r.failures)
     × (l._turn ≤ vec_len l.whole)

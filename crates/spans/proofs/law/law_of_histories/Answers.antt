@@ -2,6 +2,7 @@ use Rattle.std.specs.Prelude.{◌∷◌}
 use Rattle.spans.specs.Effects.{effects_of}
 use Rattle.spans.proofs.Marks.{late_across, across_late}
 use Rattle.spans.proofs.Lawful.{lawful}
+use Rattle.spans.proofs.Promises.{maps_stand}
 use Rattle.spans.proofs.law.law_of_histories.Goals as goal
 
 pub returns-clause-one_copy : goal.returns-clause-one_copy
@@ -27,6 +28,9 @@ returns-clause-own c = λ h legal. (lawful h legal).own
 
 pub returns-clause-rises : goal.returns-clause-rises
 returns-clause-rises c = λ e h legal. (lawful (e ∷ h) legal).rises.0
+
+pub returns-clause-for_ever : goal.returns-clause-for_ever
+returns-clause-for_ever c = maps_stand
 
 pub returns-clause-horizon : goal.returns-clause-horizon
 returns-clause-horizon c = λ h legal. (lawful h legal).horizon

@@ -199,8 +199,8 @@ script
 0 poll 1 1
 0 poll 1 1
 @ A row was committed before a feed was open
-1 1 ---rrsrrrrr nothing was held for it: the closing that passes it sends the feed to the store, where it finds the row
-1024 1 ---rrsrrrrr
+1 1 ---rrrrrrrr the closing that passes it finds it in the store, and puts it into the ring
+1024 1 ---rrrrrrrr
 script
 1 begin 20
 1 put 20 a 2
@@ -214,8 +214,8 @@ script
 1 commit 40
 0 close 50
 @ Rows far apart were committed before a feed was open
-1 1 ------rrrrsrrs only a closing that passes one of them sends the feed to the store
-1024 1 ------rrrrsrrs
+1 1 ------rrrrrrrs each closing puts the rows that it passes into the ring, which is full at the last
+2 1 ------rrrrrrrr
 script
 1 begin 5
 1 put 5 a 1

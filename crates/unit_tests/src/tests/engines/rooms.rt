@@ -43,7 +43,7 @@ pub(super) const SCANS: (&str, &str) = (
 ",
 );
 
-/// What is told of it once it is closed: messages of 23, 18, 28, 19 and 17 bytes.
+/// Its calls once it is closed: the messages have 23, 18, 28, 19 and 17 bytes.
 pub(super) const CLOSED: &str = "2 open - - 0
 0 begin 10
 0 put 10 a 12345
@@ -140,7 +140,7 @@ pub(super) const LONG: (&str, &str) = (
 ",
 );
 
-/// What is asked of a command.
+/// A question about a command.
 #[derive(Clone, Copy)]
 pub(super) enum Asked {
     /// How far it finds room.

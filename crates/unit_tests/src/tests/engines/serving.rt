@@ -19,7 +19,7 @@ pub(super) fn is_served(alloc: Global, row: &str, script: &str) -> Option<bool> 
     Some(served.as_slice() == expected.as_bytes())
 }
 
-/// Where a feed is served from, after each line.
+/// The place that a feed is served from, after each line.
 fn served(alloc: Global, ring: u32, feed: u64, script: &str) -> Option<Vec<u8>> {
     if ring == 0 || ring > MAX_RING {
         return None;

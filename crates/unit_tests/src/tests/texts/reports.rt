@@ -20,7 +20,7 @@ pub(super) const REPORTS: &str =
 {'kind':'database','closed':'9','horizon':'7','limit':'7','holder':'feed','holder_number':'1','oldest':null,'oldest_seat':null,'versions':'5','removable':'0'}|\
 {'kind':'feed','number':'1','seat':'1','initial':true,'gap':null,'lo':null,'hi':null,'cursor':'7','updated':'7','key':'Yg==','resolved':null,'complete':null,'floor':'7','behind':'2','untold':'3'}|";
 
-/// What is written of them.
+/// Their lines, as they are written.
 pub(super) fn reports(alloc: Global) -> Result<Vec<u8>, Fail> {
     let mut out = Vec::new(alloc);
     write_report(&undecided(alloc)?, &mut out)?;

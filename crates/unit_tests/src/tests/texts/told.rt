@@ -30,7 +30,7 @@ pub(super) fn is_right(wanted: Told, told: Told) -> bool {
     wanted.0 == told.0 && wanted.1 == told.1
 }
 
-/// What a row says of its text, and what is told of it.
+/// The outcome that a row wants of its text, and the one that it has.
 fn row_told(alloc: Global, row: &str) -> Option<(Told, Told)> {
     let (kind, rest) = row.split_once(' ')?;
     let (seats, rest) = rest.split_once(' ')?;
@@ -53,7 +53,7 @@ fn row_told(alloc: Global, row: &str) -> Option<(Told, Told)> {
     Some((wanted, told))
 }
 
-/// What is told of a text that was read, and then written so.
+/// The outcome of a text that was read, and then written so.
 fn told_back(written: &[u8], text: &[u8]) -> Told {
     if written == text { (0, 0) } else { (0, 101) }
 }

@@ -23,7 +23,7 @@ returns-in-Some-clause-step c =
     inl (open_refused k k c.args.seat c.args.span.now c.args.cursor c.args.kind c.in-Some.refusal (sym c.opening_refusal.ensures ∙ c.in-Some.is) (alike_self k))
 
 pub returns-in-Some-clause-served : goal.returns-in-Some-clause-served
-returns-in-Some-clause-served c = open_unserved c.args.self.now c.args.self.now c.args.seat c.args.span.now c.args.cursor c.args.kind c.in-Some.refusal (refl, refl)
+returns-in-Some-clause-served c = open_unserved c.args.self.now c.args.self.now c.args.seat c.args.span.now c.args.cursor c.args.kind c.in-Some.refusal refl
 
 -- what nothing refuses is in range, so the feed opens at its own cursor
 put_at : (kind : Kind) (k : Kept) (cursor closed seat f : ℕ) (span : Span) (s s' : Standing) → first_refusal (kept_opening_tests kind k cursor) ≡ None
@@ -51,7 +51,6 @@ returns-in-Ok-clause-served c =
       opened = opened_ahead e.feeds s' f c.args.seat c.args.kind c.args.span.now c.args.cursor (closed_in (closing_of e.rules)) put;
       others = others_same e.feeds s' f _ put;
       others_stay = others_stay e.feeds s' f _ put;
-      held = refl;
     })
 
 pub returns-in-Err-clause-step : goal.returns-in-Err-clause-step
@@ -61,4 +60,4 @@ returns-in-Err-clause-step c =
     inr (refl, open_wanting k (kept_of (record e { feeds = c.open.new.self })) c.args.seat c.args.span.now c.args.cursor c.args.kind none (subst (λ s. IsAlike k (kept_of (record e { feeds = s }))) (sym c.in-Err.ensures.err) (alike_self k)))
 
 pub returns-in-Err-clause-served : goal.returns-in-Err-clause-served
-returns-in-Err-clause-served c = open_unserved c.args.self.now (record c.args.self.now { feeds = c.open.new.self }) c.args.seat c.args.span.now c.args.cursor c.args.kind _ (c.in-Err.ensures.err, refl)
+returns-in-Err-clause-served c = open_unserved c.args.self.now (record c.args.self.now { feeds = c.open.new.self }) c.args.seat c.args.span.now c.args.cursor c.args.kind _ c.in-Err.ensures.err

@@ -45,7 +45,6 @@ polled e s' seat f max ms is =
       told = λ isnt. here.1 ∙ is.rest (sym here.0 ∙ isnt);
       others = others_same e.feeds s' f (Some after) is.put;
       others_stay = others_stay e.feeds s' f (Some after) is.put;
-      held = refl;
     }
 
 pub returns-in-Ok-clause-step : goal.returns-in-Ok-clause-step

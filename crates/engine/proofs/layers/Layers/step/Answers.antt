@@ -1,4 +1,5 @@
-use Rattle.engine.proofs.Replies.{rules_answer}
+use Rattle.engine.specs.Layers.{feeds_of}
+use Rattle.engine.proofs.Replies.{alone, rules_answer}
 use Rattle.engine.proofs.layers.Layers.step.Goals as goal
 
 pub returns-in-Begin-clause-step : goal.returns-in-Begin-clause-step
@@ -16,6 +17,9 @@ returns-in-Put-clause-step c = rules_answer c.args.self.now c.write.new.self c.a
 pub returns-in-Del-clause-step : goal.returns-in-Del-clause-step
 returns-in-Del-clause-step c = rules_answer c.args.self.now c.write-in-Del.new.self c.args.seat c.args.cmd.now _ c.write-in-Del.result c.in-Del.is c.write-in-Del.ensures.step
 
+pub returns-in-Commit-clause-step : goal.returns-in-Commit-clause-step
+returns-in-Commit-clause-step c = rules_answer c.args.self.now c.commit.new.self c.args.seat c.args.cmd.now _ c.commit.result c.in-Commit.is c.commit.ensures.step
+
 pub returns-in-Abort-clause-step : goal.returns-in-Abort-clause-step
 returns-in-Abort-clause-step c = rules_answer c.args.self.now c.abort.new.self c.args.seat c.args.cmd.now _ c.abort.result c.in-Abort.is c.abort.ensures.step
 
@@ -30,3 +34,7 @@ returns-in-Protect-clause-step c = rules_answer c.args.self.now c.protect.new.se
 
 pub returns-in-Release-clause-step : goal.returns-in-Release-clause-step
 returns-in-Release-clause-step c = rules_answer c.args.self.now c.release.new.self c.args.seat c.args.cmd.now _ c.release.result c.in-Release.is (c.release.ensures.step c.args.seat)
+
+pub returns-in-Collect-clause-step : goal.returns-in-Collect-clause-step
+returns-in-Collect-clause-step c = let e = c.args.self.now in
+    alone e c.collect.new.self c.args.seat c.args.cmd.now _ c.collect.result c.in-Collect.is (c.collect.ensures.step c.args.seat (feeds_of e.feeds) c.least_floor.ensures)

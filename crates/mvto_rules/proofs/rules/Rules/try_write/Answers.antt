@@ -1,11 +1,12 @@
-use Rattle.std.proofs.Common.{ap, false, subst, true}
+use Rattle.std.proofs.Common.{ap, false, refl, subst, true}
 use Rattle.std.specs.Option.{option_copied}
 use Rattle.spans.specs.Legal.{is_accepted}
 use Rattle.spans.specs.declared.calls.replies.Reply.TheVariants.{Written}
 use Rattle.spans.proofs.Results.{any_err}
-use Rattle.kept.specs.Changes.{IsAbortedBy, IsWritten}
+use Rattle.kept.specs.Changes.{IsAbortedBy}
 use Rattle.kept.specs.Marks.{IsLate}
 use Rattle.kept.specs.Replies.{unless_refused}
+use Rattle.version_chain.specs.Stores.{IsWrittenTo}
 use Rattle.mvto_rules.specs.Holding.{holding}
 use Rattle.mvto_rules.proofs.Replies.{write_refused, write_tested}
 use Rattle.mvto_rules.proofs.rules.Rules.try_write.Goals as goal
@@ -27,10 +28,12 @@ pub returns-then-is_too_late-clause-too_late : goal.returns-then-is_too_late-cla
 returns-then-is_too_late-clause-too_late c = λ k e. subst (λ t. IsAbortedBy (holding k c.args.self.now) (holding k c.take_back.new.self) t) c.in-Ok.ensures.ok (c.take_back.ensures k)
 
 pub returns-clause-written : goal.returns-clause-written
-returns-clause-written c = λ k e. subst (λ t. IsWritten (holding k c.args.self.now) (holding k c.store_version.new.self) t c.args.key.now (option_copied c.args.after)) c.in-Ok.ensures.ok (c.in_ok-store_version.ensures.ok k)
+returns-clause-written c = λ k e.
+    let now = subst (λ t. IsWrittenTo c.args.self.now.store c.write.new.self t c.args.key.now (option_copied c.args.after)) c.in-Ok.ensures.ok c.in_ok-write.ensures.ok in
+    record { version = now.version; committed = now.committed; rest = refl }
 
-pub returns-in_err-store_version-clause-accepted : goal.returns-in_err-store_version-clause-accepted
-returns-in_err-store_version-clause-accepted c = any_err c.from_residual.result (λ k. (
+pub returns-in_err-write-clause-accepted : goal.returns-in_err-write-clause-accepted
+returns-in_err-write-clause-accepted c = any_err c.from_residual.result (λ k. (
   false,
   (λ free. subst (IsLate (holding k c.args.self.now) c.args.key.now c.args.ts) c.if-is_too_late.false (subst (λ t. IsLate (holding k c.args.self.now) c.args.key.now t c.is_too_late.result) c.in-Ok.ensures.ok (c.is_too_late.ensures k))),
   ap (λ o. is_accepted (unless_refused o Written)) (c.in-Ok.ensures.none k),

@@ -1,5 +1,5 @@
 use Rattle.std.proofs.Common.{◌≡◌, ◌∙◌, sym, ap, take, subst, List, ℕ, refl, Err, vec_len}
-use Rattle.word_lines.specs.Memory.{WantsMemory, verb_at}
+use Rattle.word_lines.specs.Memory.{WantsMemory, byte_words_at}
 use Rattle.word_lines.specs.Reading.{command_at}
 use Rattle.word_lines.specs.Table.{table}
 use Rattle.sessions.specs.Waiting.{waiting}
@@ -10,8 +10,8 @@ pub returns-in-Err-NoMemory-clause-err : goal.returns-in-Err-NoMemory-clause-err
 returns-in-Err-NoMemory-clause-err c = λ r r' w w' events numbered h.
     let run = c.args.self.now in
     let read = rw c.in-Err-NoMemory.field-0-is at c.in-Err-NoMemory.ensures.memory in
-    let wants : WantsMemory (verb_at run.terms.format table (vec_len run.callers.seats) (take c.args.count (waiting run.lines))) =
-    subst (λ (k : ℕ). WantsMemory (verb_at run.terms.format table k (take c.args.count (waiting run.lines)))) c.count.ensures (subst (λ (xs : List ℕ). WantsMemory (verb_at run.terms.format table c.count.result xs)) c.line.ensures (read refl)) in
+    let wants : WantsMemory (byte_words_at run.terms.format table (vec_len run.callers.seats) (take c.args.count (waiting run.lines))) =
+    subst (λ (k : ℕ). WantsMemory (byte_words_at run.terms.format table k (take c.args.count (waiting run.lines)))) c.count.ensures (subst (λ (xs : List ℕ). WantsMemory (byte_words_at run.terms.format table c.count.result xs)) c.line.ensures (read refl)) in
     stop_memory r r' w w' run events c.args.count wants h
 
 pub returns-in-Err-Fault-clause-err : goal.returns-in-Err-Fault-clause-err

@@ -4,7 +4,7 @@ use Rattle.std.specs.Map.{lookup}
 use Rattle.std.specs.BTreeMap.{is_at}
 use Rattle.std.specs.Ordering.{nat_cmp}
 use Rattle.version_chain.specs.Indexes.{is_among, is_listed}
-use Rattle.version_chain.proofs.Indexes.{ArePutAt, emptied, listed_where}
+use Rattle.version_chain.proofs.Indexes.{ArePutAt, listed_where, taken_alone}
 use Rattle.version_chain.proofs.index.Index.take.Goals as goal
 
 placed : (c : goal.After-self-2-1) → ArePutAt c.args.self.now.keys.entries (c.get_mut.follows.lender c.replace.new.dest).entries c.args.ts (Some c.replace.new.dest)
@@ -23,4 +23,4 @@ returns-clause-others c = λ y i. listed_where c.args.self.now.keys.entries (c.g
     ∙ ap (λ b. cond (c.args.ts == i) b (is_listed c.args.self.now y i)) (ap (λ keys. is_among (Some keys) y) (none c))
 
 pub returns-clause-taken : goal.returns-clause-taken
-returns-clause-taken c = emptied c.args.self.now.keys.entries (c.get_mut.follows.lender c.replace.new.dest).entries c.args.ts c.replace.new.dest (placed c) (none c)
+returns-clause-taken c = taken_alone c.args.self.now.keys.entries (c.get_mut.follows.lender c.replace.new.dest).entries c.args.ts c.replace.new.dest (placed c) (none c) c.requires

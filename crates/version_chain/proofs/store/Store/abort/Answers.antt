@@ -1,10 +1,18 @@
-use Rattle.std.proofs.Common.{subst, sym}
-use Rattle.version_chain.specs.Stores.{IsAbortedIn}
-use Rattle.version_chain.proofs.Turns.{aborts_more, aborts_none}
+use Rattle.std.proofs.Common.{None, arith, subst, sym, ◌-◌}
+use Rattle.version_chain.specs.Chains.{AreChangedAt}
+use Rattle.version_chain.specs.Indexes.{IsSound}
+use Rattle.version_chain.proofs.Soundness.{sound_drop}
 use Rattle.version_chain.proofs.store.Store.abort.Goals as goal
 
-pub loop-key-preserved : goal.loop-key-preserved
-loop-key-preserved c = λ s' more. c.loop-key.invariant s' (subst (IsAbortedIn c.loop-key.self s' c.args.ts) (sym c.in-Some.ensures.steps) (aborts_more c.loop-key.self c.remove.new.self s' c.args.ts c.in-Some.key.now c.next.new.self c.remove.ensures more))
+pub overflow_sub-self : goal.overflow_sub-self
+overflow_sub-self c = omega (
+  arith,
+  c.len.ensures.count,
+  (sound_drop c.self.inside.chains c.remove_all-2.new.self c.self.inside.index c.remove_all.new.self c.in-Some.keys c.get-ts.result c.self.inside.count c.self.inside.dropped_through
+      (subst (λ keys. AreChangedAt c.self.inside.chains c.remove_all-2.new.self keys c.get-ts.result (λ _. None)) c.iter.ensures.keys c.remove_all-2.ensures) c.len.ensures.rising c.in-Some.ensures.keys c.in-Some.ensures.others c.in-Some.ensures.filled c.self.invariant).0,
+)
 
-pub returns : goal.returns
-returns c = c.loop-key.invariant c.loop-key.self (subst (IsAbortedIn c.loop-key.self c.loop-key.self c.args.ts) (sym c.in-None.ensures.steps.0) (aborts_none c.loop-key.self c.args.ts))
+pub invariant_of-self-2 : goal.invariant_of-self-2
+invariant_of-self-2 c = subst (λ n. IsSound c.remove_all-2.new.self c.remove_all.new.self (c.self.inside.count - n) c.self.inside.dropped_through) (sym c.len.ensures.count)
+    (sound_drop c.self.inside.chains c.remove_all-2.new.self c.self.inside.index c.remove_all.new.self c.in-Some.keys c.get-ts.result c.self.inside.count c.self.inside.dropped_through
+    (subst (λ keys. AreChangedAt c.self.inside.chains c.remove_all-2.new.self keys c.get-ts.result (λ _. None)) c.iter.ensures.keys c.remove_all-2.ensures) c.len.ensures.rising c.in-Some.ensures.keys c.in-Some.ensures.others c.in-Some.ensures.filled c.self.invariant).1

@@ -29,6 +29,7 @@ pub invariant_of-self : goal.invariant_of-self
 invariant_of-self c = record {
   counted = c.self-2.invariant.counted;
   indexed = c.self-2.invariant.indexed;
+  filled = c.self-2.invariant.filled;
   settled = subst (AreSettled c.self-2.inside.chains) (sym c.max-self-inside.ensures) (settled_max c.self-2.inside.chains c.self-2.inside.dropped_through c.args.horizon c.self-2.invariant.settled (none c));
 }
 

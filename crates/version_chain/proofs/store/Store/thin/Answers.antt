@@ -16,12 +16,15 @@ pub loop-key-preserved : goal.loop-key-preserved
 loop-key-preserved c = thinning_next c.args.self.now c.loop-key.self-inside.chains c.drop_dead.new.self c.loop-key.self-inside.index c.drop_dead.new.index c.args.ts c.args.horizon c.loop-key.self-inside.count c.loop-key.self-inside.dropped_through c.drop_dead.result c.in-Some-key.key.now
     c.loop-key.key-iterator c.next.new.self c.in-Some-key.ensures.steps c.drop_dead.ensures.thinned c.drop_dead.ensures.counted c.drop_dead.ensures.listed c.drop_dead.ensures.taken c.loop-key.invariant
 
+pub take-requires : goal.take-requires
+take-requires c = c.self.invariant.filled
+
 pub put_back-requires : goal.put_back-requires
 put_back-requires c = c.loop-key.invariant.taken
 
 pub invariant_of-self-2 : goal.invariant_of-self-2
 invariant_of-self-2 c = thinning_sound c.args.self.now c.loop-key.self-inside.chains c.self.inside.index c.loop-key.self-inside.index c.put_back.new.self c.args.ts c.args.horizon c.loop-key.self-inside.count c.loop-key.self-inside.dropped_through c.in-Some.keys c.retain.new.self
-    c.loop-key.key-iterator (subst (λ es. IsIndexOf es c.self.inside.index) c.self.view_is c.self.invariant.indexed) c.in-Some.ensures.keys (filter_same _ _ _ (λ x b f' k. search rules) _ _ c.retain.ensures) c.put_back.ensures c.loop-key.invariant
+    c.loop-key.key-iterator (subst (λ es. IsIndexOf es c.self.inside.index) c.self.view_is c.self.invariant.indexed) c.in-Some.ensures.keys (filter_same _ _ _ (λ x b f' k. search rules) _ _ c.retain.ensures) c.put_back.ensures.listed c.put_back.ensures.filled c.loop-key.invariant
 
 pub returns-clause-thinned : goal.returns-clause-thinned
 returns-clause-thinned c = c.loop-key.invariant.partly

@@ -1,0 +1,16 @@
+use Rattle.std.proofs.Common.{ap, map, refl, reverse, sym, ◌∙◌}
+use Rattle.spans.specs.Report.{protection_report}
+use Rattle.closing.specs.Standing.{Standing, protections_in}
+use Rattle.engine.specs.Layers.{feeds_of}
+use Rattle.engine.proofs.layers.Layers.report.Goals as goal
+
+pub returns : goal.returns
+returns c = record {
+  closed = c.closed.ensures.closed;
+  horizon = c.horizon.ensures;
+  versions = (c.version_count.ensures.versions, c.version_count.ensures.all, sym c.version_count.ensures.count);
+  removable = refl;
+  transactions = c.in_ok-undecided_report.ensures (feeds_of c.args.self.now.feeds);
+  protections = c.in_ok-protections.ensures ∙ ap (λ (s : Standing). map protection_report (reverse (protections_in s))) c.closing.ensures;
+  feeds = c.in_ok-report.ensures;
+}

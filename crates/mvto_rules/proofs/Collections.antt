@@ -1,0 +1,42 @@
+-- The reply to a collection, and what it changes.
+use Rattle.std.proofs.Common.{List, None, Option, ap, arith, inl, length, refl, subst, sym, true, ℕ, ◌<◌, ◌≤◌, ◌≡◌, ◌∙◌, []}
+use Rattle.std.specs.Prelude.{Some, map, min, nat_lt}
+use Rattle.std.proofs.lemmas.Bool.Decides.{nat_tests}
+use Rattle.timestamps.specs.declared.ts.TheConstants.{MAX}
+use Rattle.spans.specs.Collection.{Protection, VersionName}
+use Rattle.spans.specs.Kept.{Kept}
+use Rattle.spans.specs.Transactions.{least_of}
+use Rattle.spans.specs.declared.calls.commands.Cmd.TheVariants.{Collect}
+use Rattle.spans.specs.declared.calls.replies.Refusal.TheVariants.{TsRange}
+use Rattle.spans.specs.declared.calls.replies.Reply.TheVariants.{Collected, Refused}
+use Rattle.kept.specs.Answered.{IsStep}
+use Rattle.kept.specs.Changes.{IsCollectedTo}
+use Rattle.kept.specs.Collecting.{reached}
+use Rattle.kept.specs.Finding.{is_dropped}
+use Rattle.kept.specs.Lists.{AreThose}
+use Rattle.kept.specs.Places.{IsLeastFloor, or_min}
+use Rattle.kept.proofs.Refusals.{within}
+use Rattle.kept.proofs.Staying.{alike_self}
+
+pub collect_outside : (k : Kept) (seat to : ℕ) → MAX < to → IsStep k k seat (Collect to) (Refused TsRange)
+collect_outside k seat to high = let on : nat_lt MAX to ≡ true = grind (arith, nat_tests) in inl (record { right = (None, None, [], (λ low. absurd (omega arith)), rw on refl); change = alike_self k })
+
+-- to reach to, but no further than the limit, is to be held back by each alone
+pub held_back : (protection floor : Option ℕ) (to closed : ℕ) → min to (or_min protection (or_min floor closed)) ≡ or_min protection (or_min floor (min to closed))
+held_back None None to closed = refl
+held_back None (Some f) to closed = omega arith
+held_back (Some p) None to closed = omega arith
+held_back (Some p) (Some f) to closed = omega arith
+
+pub collect_done : (k k' : Kept) (seat to horizon count : ℕ) (protection floor : Option ℕ) (dropped : List VersionName) → to ≤ MAX → horizon ≡ reached k to protection floor
+    → ((n : ℕ) → or_min protection n ≡ least_of n (map (λ (n : Protection). n.at) k.protections)) → IsLeastFloor k.feed floor → AreThose (is_dropped k horizon) dropped → length dropped ≡ count → IsCollectedTo k k' horizon → IsStep k k' seat (Collect to) (Collected horizon count)
+collect_done k k' seat to horizon count protection floor dropped low is least lowest those counted change = inl (record {
+  right = (
+    protection,
+    floor,
+    dropped,
+    (λ l. record { least_protection = least; lowest_floor = lowest; drops = subst (λ n. AreThose (is_dropped k n) dropped) is those }),
+    ap (λ n. Collected n count) is ∙ ap (Collected (reached k to protection floor)) (sym counted) ∙ sym (within to _ low),
+  );
+  change = change;
+})
