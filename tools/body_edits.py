@@ -14,6 +14,8 @@ MOST_IN_A_BATCH = 12
 HEAD = re.compile(r'( *)(?:pub(?:\([a-z ]+\))? |const |unsafe |extern "C" )*fn (\w+)')
 # What the check could not read, or could not use, so that no contract was tried.
 UNREAD = re.compile(r"(?:\./)?(?:src|specs)/\S+:\d+:\d+: error|.*\berror\[[\w-]+\]|.*Run the lower steps again")
+# The last word of a check: of all, or of some functions alone.
+ENDED = re.compile(r"logic=(?:not-)?proved|only=\d+ proved=\d+")
 # A line that says only that a name is gone, or that a limit was met.
 SHOWS_NOTHING = re.compile(
     r"has no field|is not in scope|has no `|was not admitted|is no name|operand is missing|expected the end"
@@ -127,34 +129,55 @@ def is_apart(one, other):
     return (one.path, one.function) != (other.path, other.function)
 
 
-def apply(edits, folder):
-    """Writes all the edits of a batch into the crate's folder. No two overlap, and the last in a file comes first."""
+def applied(text, edits):
+    """The text with these edits of it, of which no two overlap. The last comes first."""
     for edit in sorted(edits, key=lambda it: -it.begin):
-        path = os.path.join(folder, edit.path)
-        text = text_of(path)
+        text = text[: edit.begin] + edit.new + text[edit.end :]
+    return text
+
+
+def apply(edits, folder):
+    """Writes all the edits of a batch into the crate's folder."""
+    for name in {it.path for it in edits}:
+        path = os.path.join(folder, name)
+        text = applied(text_of(path), [it for it in edits if it.path == name])
         with open(path, "w", encoding="utf-8") as it:
-            it.write(text[: edit.begin] + edit.new + text[edit.end :])
+            it.write(text)
+
+
+def modules(edit):
+    """Where the edit's function stands, as a pattern: in the folder of proofs, and in the names that a check tells."""
+    module = edit.path[len("src/") : -len(".rt")].removesuffix("lib").removesuffix("/")
+    steps = [re.escape(it) for it in module.split("/") if it]
+    if edit.is_lone:
+        return r"proofs(?:/[a-z][^/\s]*)*", r"%s(?:::[a-z][^:\s]*)*" % edit.crate
+    return "/".join(["proofs", *steps]), "::".join([edit.crate, *steps])
+
+
+def verdict(edit, lines):
+    """What a check says of the edit's own function: `proved`, or why not; nothing where it doesn't name it."""
+    told = re.compile(r"fn %s::(?:[A-Z][^:\s]*::)?%s: (.*)" % (modules(edit)[1], edit.function))
+    found = [it[1] for it in map(told.match, lines) if it]
+    return next((it for it in found if not it.startswith("proved")), "proved" if found else "")
 
 
 def refusal(edit, lines):
     """The line of a check that shows that it refuses the edit's own function, or none."""
-    module = edit.path[len("src/") : -len(".rt")].removesuffix("lib").removesuffix("/")
-    steps = [re.escape(it) for it in module.split("/") if it]
-    in_proofs, in_names = "/".join(["proofs", *steps]), "::".join([edit.crate, *steps])
-    if edit.is_lone:
-        in_proofs, in_names = r"proofs(?:/[a-z][^/\s]*)*", r"%s(?:::[a-z][^:\s]*)*" % edit.crate
-    proofs = r"(?:\./)?%s/(?:[A-Z][^/\s]*/)?\+?%s/\w+\.antt" % (in_proofs, edit.function)
-    verdict = r"fn %s::(?:[A-Z][^:\s]*::)?%s: (?!proved)" % (in_names, edit.function)
+    proofs = r"(?:\./)?%s/(?:[A-Z][^/\s]*/)?\+?%s/\w+\.antt" % (modules(edit)[0], edit.function)
     shows = re.compile(r"%s:\d+:\d+: error: |note: `[^`]+` of %s must prove: " % (proofs, proofs))
-    if not any(re.match(verdict, it) for it in lines):
+    if verdict(edit, lines) in ("", "proved"):
         return ""
     return next((it for it in lines if shows.match(it) and not SHOWS_NOTHING.search(it)), "")
+
+
+def is_read(status, lines):
+    """Whether a check has come to the contracts and ended with a verdict."""
+    return status in (0, 1) and any(map(ENDED.match, lines)) and not any(map(UNREAD.match, lines))
 
 
 def refusals(edits, status, told):
     """The edits that a check refused, each with the line that shows it."""
     lines = told.splitlines()
-    ended = any(it.startswith("logic=not-proved") for it in lines)
-    if status != 1 or not ended or any(UNREAD.match(it) for it in lines):
+    if status != 1 or not is_read(status, lines):
         return {}
     return {edit: line for edit in edits for line in [refusal(edit, lines)] if line}

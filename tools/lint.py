@@ -13,6 +13,8 @@ import sys
 from collections import defaultdict
 
 sys.dont_write_bytecode = True
+sys.path.insert(0, os.path.dirname(os.path.abspath(__file__)))
+import body_page  # noqa: E402
 
 TOP = os.path.dirname(os.path.dirname(os.path.abspath(__file__)))
 LONGEST_CLAUSE = 160
@@ -20,8 +22,10 @@ MOST_LINES = 600
 LONGEST_LINE = 120
 MOST_WORDS = 26000
 MOST_WORDS_OF_README = 1300
-# The page that the rules of words and figures leave alone, because a script writes it.
-WRITTEN = "docs/LAST-RUN.md"
+# Comments that begin with a clause in the place of their subject. The number may only fall.
+MOST_CLAUSES = 5
+# The pages that the rules of words and figures leave alone, because scripts write them.
+WRITTEN = ("docs/LAST-RUN.md", body_page.PAGE)
 UNITS = """zero one two three four five six seven eight nine ten eleven twelve thirteen fourteen fifteen sixteen
 seventeen eighteen nineteen""".split()
 TENS = {"twenty": 20, "thirty": 30, "forty": 40, "fifty": 50, "sixty": 60}
@@ -115,12 +119,16 @@ def clause_length(house):
                     yield path, line_at(text, found.start()), "a clause of %d characters" % len(clause)
 
 
+# The name of a type, but for those that an `impl` has to give.
+TYPE = re.compile(r"^ *(?:(?:pub(?:\([a-z]+\))? )?(?:struct|enum|trait)|pub type) (\w+)", re.M)
+
+
 @rule
 def names_once(house):
-    """The name of a public type stands in one crate, but for those of tools/names-twice."""
+    """The name of a type stands in one crate, tests aside, but for those of tools/names-twice."""
     standing = defaultdict(dict)
-    for path in house.ending(".rt", under="crates/"):
-        for found in re.finditer(r"^ *pub (?:struct|enum|trait|type) (\w+)", house.text(path), re.M):
+    for path in [it for it in house.ending(".rt", under="crates/") if "_tests/" not in it]:
+        for found in TYPE.finditer(house.text(path)):
             standing[found[1]].setdefault(path.split("/")[1], (path, line_at(house.text(path), found.start())))
     twice = {name: places for name, places in standing.items() if len(places) > 1}
     listed = house.text("tools/names-twice") if "tools/names-twice" in house.paths else ""
@@ -136,6 +144,24 @@ def names_once(house):
     for name, (number, crates) in sorted(known.items()):
         if set(twice.get(name, ())) != crates:
             yield "tools/names-twice", number, "%s no longer stands in all of these crates: mend this line" % name
+
+
+@rule
+def subjects(house):
+    """A comment of an item begins with the thing that it is about, and not with a clause (`What is left where ..`).
+    `Whether` is what a yes means, `How many` what a number counts, and `Why` what an error tells."""
+    found = []
+    for path in house.ending(".rt", under="crates/"):
+        before = ""
+        for number, line in house.lines(path):
+            if re.match(r" */// (?:What|Where|Which|That)\b", line) and not before.lstrip().startswith("///"):
+                found.append((path, number))
+            before = line
+    if len(found) > MOST_CLAUSES:
+        for path, number in found:
+            yield path, number, "its comment begins with a clause"
+    elif len(found) < MOST_CLAUSES:
+        yield "tools/lint.py", 1, "MOST_CLAUSES is %d, and %d are left" % (MOST_CLAUSES, len(found))
 
 
 @rule
@@ -162,6 +188,18 @@ def edits_apply(house):
         else:
             if not changed:
                 yield path, 1, "it changes nothing"
+
+
+@rule
+def wrong_bodies(house):
+    """A wrong body begins with a line `what:` and a sentence, and docs/WRONG-BODIES.md lists them all."""
+    paths = [it for it in house.ending(".edit", under="crates/") if it.split("/")[2] in body_page.FOLDERS]
+    edits = {it: house.text(it) for it in paths}
+    for path, text in edits.items():
+        if path.split("/")[2] == "wrong-bodies" and not body_page.what_of(text):
+            yield path, 1, "it doesn't begin with `what: ` and a sentence"
+    if body_page.PAGE in house.paths and house.text(body_page.PAGE) != body_page.page(house.crates(), edits):
+        yield body_page.PAGE, 1, "it isn't what the edits say: tools/wrong-bodies --list writes it"
 
 
 def number_of(word):
@@ -205,7 +243,7 @@ def figures(house):
         "commands": len(re.findall(r"^    [A-Z]\w*(?: \{|,)", commands[1], re.M)) if commands else 0,
     }
     for path in house.pages():
-        if path == WRITTEN:
+        if path in WRITTEN:
             continue
         for kind, count in counts.items():
             for found in re.finditer(r"(?<![\d,.])\b([\w-]+)\s+%s\b" % kind, house.text(path)):
@@ -417,7 +455,7 @@ def pictures(house):
 @rule
 def words(house):
     """README has at most 1,300 words, and the pages have 26,000 together; a word has a letter or a digit."""
-    counts = {it: len(re.findall(r"\S*\w\S*", house.text(it))) for it in house.pages() if it != WRITTEN}
+    counts = {it: len(re.findall(r"\S*\w\S*", house.text(it))) for it in house.pages() if it not in WRITTEN}
     if counts["README.md"] > MOST_WORDS_OF_README:
         yield "README.md", 1, "it has %d words" % counts["README.md"]
     if sum(counts.values()) > MOST_WORDS:

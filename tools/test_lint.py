@@ -13,7 +13,10 @@ from unittest import mock
 
 sys.dont_write_bytecode = True
 sys.path.insert(0, os.path.dirname(os.path.abspath(__file__)))
+import body_page  # noqa: E402
 import lint  # noqa: E402
+
+lint.MOST_CLAUSES = 0
 
 KIT = "rattle-kit-1a logic 00ff"
 SOUND = {
@@ -40,6 +43,7 @@ SOUND = {
     "packaging/debian/libripsawbean3.symbols": "libripsawbean.so.3 libripsawbean3 #MINVER#\n"
     " ripsawbean_name@RIPSAWBEAN_3 0.1.0\n ripsawbean_open@RIPSAWBEAN_3 0.1.0\n",
     "tools/run": "#!/bin/sh\n# Runs it.\n",
+    "tools/wrong-bodies": "#!/bin/sh\n# Tries them.\n",
     "crates/kept/src/lib.rt": "//! Kept.\n\npub fn one() {}\npub fn two() {}\nfn three() {}\n",
     "web/README.md": "# Web\n\nA tour of two\nsteps.\n\n- **`module/make`**, 2 lines\n",
     "web/playground/tour.mjs": '// The tour: two steps.\n    title: "One",\n    title: "Two",\n',
@@ -48,6 +52,8 @@ SOUND = {
 SOUND.update(
     {"crates/low/must-fail/e%d.edit" % n: "file: src/lib.rt\nold:     1\nnew:     %d\n" % (n + 2) for n in range(12)}
 )
+SOUND["crates/low/wrong-bodies/two.edit"] = "what: One is two.\nfile: src/lib.rt\nold:     1\nnew:     2\n"
+SOUND[body_page.PAGE] = body_page.page(["low"], {it: text for it, text in SOUND.items() if it.endswith(".edit")})
 
 
 @contextlib.contextmanager
@@ -85,7 +91,12 @@ PLANTED = {
     ],
     "names_once": [
         ("crates/c1/src/lib.rt", "", "//! Another.\n\npub enum Low { One }\n"),
+        ("crates/c1/src/lib.rt", "", "//! Another.\n\npub(crate) trait Low {}\n"),
         ("tools/names-twice", "", "Low: low c1\n"),
+    ],
+    "subjects": [
+        (LIB, "pub struct", "/// What is low.\npub struct"),
+        (LIB, "pub fn one", "    /// Where one is,\n/// if it is.\npub fn one"),
     ],
     "edits_apply": [
         ("crates/low/must-fail/e3.edit", "    1", "    one"),
@@ -102,6 +113,11 @@ PLANTED = {
         ("web/README.md", "2 lines", "3 lines"),
         ("web/playground/tour.mjs", '    title: "Two",\n', ""),
         ("web/playground/tour.mjs", "two", "ten"),
+    ],
+    "wrong_bodies": [
+        ("crates/low/wrong-bodies/two.edit", "One is two.", "One is 2."),
+        ("crates/low/wrong-bodies/two.edit", "what: One is two.\n", ""),
+        (body_page.PAGE, "| One is two. |", "| One is one. |"),
     ],
     "links": [
         ("README.md", "docs/GUIDE.md", "docs/GUIDES.md"),

@@ -7,6 +7,7 @@ import shutil
 import subprocess
 import sys
 import tempfile
+import time
 import unittest
 from types import SimpleNamespace
 
@@ -46,7 +47,8 @@ if verb in ("lib", "check"):
         notes.write(" ".join([crate, *turned]) + "\n")
     if "open" in open("src/lib.rt").read():
         status = 1
-    print("logic=not-proved" if status else "logic=proved")
+    asked = names.count("--only")
+    print("only=%d proved=%d" % (asked, asked - status) if asked else "logic=not-proved" if status else "logic=proved")
 for name in names if verb == "must-fail" else ():
     for path in sorted(glob.glob("crates/%s/must-fail/*.edit" % name)):
         edit, is_fine = "%s/%s" % (name, os.path.basename(path)), "fine" in open(path).read()
@@ -81,7 +83,7 @@ FILES = {
     "crates/low/src/lib.rt": LOW,
     "crates/low/src/far.rt": "fn one() {\n    far is well\n}\n",
     "crates/low/must-fail/gate.edit": "of the gate\n",
-    "crates/low/wrong-bodies/one.edit": edit("one is well", "one is wrong"),
+    "crates/low/wrong-bodies/one.edit": "what: One is wrong.\n" + edit("one is well", "one is wrong"),
     "crates/low/wrong-bodies/two.edit": edit("two is well", "two is wrong"),
     "crates/middle/src/lib.rt": "middle\n",
     "crates/top/src/lib.rt": "fn three() {\n    three is well\n}\n",
@@ -115,12 +117,13 @@ class Runs(unittest.TestCase):
         self.room = tempfile.TemporaryDirectory()
         self.top = os.path.join(self.room.name, "house")
         self.notes = os.path.join(self.room.name, "notes")
+        self.cache = os.path.join(self.room.name, "cache")
         for path, text in FILES.items():
             self.write(path, text)
         self.write("../bin/rt", PLAYER)
         os.chmod(os.path.join(self.room.name, "bin/rt"), 0o755)
         os.mkdir(os.path.join(self.top, "tools"))
-        scripts = ("wrong_bodies", "body_edits", "side_by_side", "origin")
+        scripts = ("wrong_bodies", "body_edits", "body_page", "side_by_side", "origin", "still_proved", "library")
         for path in ("tools/wrong-bodies", *("tools/%s.py" % it for it in scripts)):
             shutil.copy2(os.path.join(os.path.dirname(HERE), path), os.path.join(self.top, path))
         self.git("init", "-q")
@@ -146,12 +149,12 @@ class Runs(unittest.TestCase):
         """The status, what was told, and what was tried: batches of a crate by their functions, and single edits."""
         open(self.notes, "w").close()
         if forgets:
-            shutil.rmtree(os.path.join(self.top, ".git/wrong-bodies"), ignore_errors=True)
+            shutil.rmtree(self.cache, ignore_errors=True)
         path = os.path.join(self.room.name, "bin") + os.pathsep + os.environ["PATH"]
         ran = subprocess.run(
             ["tools/wrong-bodies", *given],
             cwd=self.top,
-            env={**os.environ, "PATH": path, "NOTES": self.notes},
+            env={**os.environ, "PATH": path, "NOTES": self.notes, "XDG_CACHE_HOME": self.cache},
             capture_output=True,
             text=True,
         )
@@ -169,6 +172,44 @@ class Runs(unittest.TestCase):
             self.write("crates/low/wrong-bodies/%s.edit" % name, text)
         self.commit()
         return self.ran("low")
+
+    def leave_library(self, crate):
+        """Leaves a library as the gate does, later than any source."""
+        made = os.path.join(self.top, "crates", crate, "out/rlib", crate + ".rlib")
+        os.makedirs(made, exist_ok=True)
+        os.utime(made, (time.time() + 9, time.time() + 9))
+
+    def test_a_library_of_the_gate_shows_that_its_crate_is_proved(self):
+        """A source that this `rt` wouldn't prove shows whether the crate is proved again."""
+        self.write(".gitignore", "out/\n")
+        self.write("crates/low/src/lib.rt", LOW + "// open\n")
+        self.commit()
+        self.assertEqual(self.ran("low")[2], [])
+        self.leave_library("low")
+        self.assertEqual(self.ran("low")[2], ["low one two"])
+        self.write("crates/low/specs/Words.antt", "words\n")
+        self.assertEqual(self.ran("low")[2], [], "what the gate saw isn't committed")
+        self.commit()
+        self.leave_library("low")
+        self.assertEqual(self.ran("low")[2], ["low one two"])
+        newer = os.path.join(self.top, "crates/low/src/far.rt")
+        os.utime(newer, (time.time() + 99, time.time() + 99))
+        self.assertEqual(self.ran("low")[2], [], "a source is newer")
+
+    def test_a_library_over_one_that_is_missing_shows_nothing(self):
+        self.write(".gitignore", "out/\n")
+        self.write("crates/middle/src/lib.rt", "middle // open\n")
+        self.commit()
+        self.leave_library("middle")
+        self.leave_library("top")
+        self.assertEqual(self.tried("top")[2], [])
+
+    def test_the_page_is_written(self):
+        os.mkdir(os.path.join(self.top, "docs"))
+        self.assertEqual(self.ran("--list")[0], 0)
+        with open(os.path.join(self.top, "docs/WRONG-BODIES.md"), encoding="utf-8") as it:
+            rows = [line for line in it if line.startswith(("#", "| `", "- "))]
+        self.assertEqual(rows[:5], ["# Wrong bodies\n", "## low\n", "| `one` | One is wrong. |\n", "| `two` |  |\n", "- `gate`\n"])
 
     def test_a_library_that_was_taken_without_its_work_is_checked_once(self):
         for crate in ("low", "middle"):
@@ -250,6 +291,12 @@ class Runs(unittest.TestCase):
         last = "wrong bodies: 2 tried in 2 crates, 0 crates left; each was refused"
         self.assertEqual(self.ran("top", "other", forgets=False)[1:], ([told[0].replace("1", "2"), last], []))
 
+    def test_a_comment_more_has_nothing_tried_again(self):
+        self.ran("low")
+        self.write("crates/low/src/lib.rt", "// Why.\n" + LOW)
+        self.commit()
+        self.assertEqual(self.ran("low", forgets=False)[2], [])
+
     def test_crates_of_a_commit_go_with_no_crate(self):
         """A crate that was named would not be tried, so nothing is, and the run fails."""
         status, told, tried = self.ran("--since", "HEAD", "low")
@@ -308,6 +355,7 @@ class Reading(unittest.TestCase):
         goal = "note: `returns` of proofs/far/places/Places/step/Answers.antt must prove: a ≡ b"
         self.assertTrue(self.refused(own, error))
         self.assertTrue(self.refused(own, goal))
+        self.assertTrue(self.refused(own, error, last="only=3 proved=2"))
         self.assertTrue(self.refused("fn low::step: not proved", error.replace("far/places/", ""), path="src/lib.rt"))
         self.assertFalse(self.refused(own))
         self.assertFalse(self.refused(error))

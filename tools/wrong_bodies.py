@@ -12,8 +12,10 @@ that is now wrong, or a goal that has none. Lines that only miss a name which an
 check that ended in another way. What is left of a batch is tried again in halves, and at last singly by `rt must-fail`,
 which has the last word. An edit of more than one body, or of a clause, a constant or a type, is tried singly at once.
 
-A batch is checked in a room of its own, over what the crate's own proof kept. What was refused is noted in the folder
-of git, by the sum of all that it read, so the same edit over the same sources is not tried again there.
+A batch is checked in a room of its own, and there the functions that it changes alone. A crate whose library the gate
+has left in the checkout since its sources changed is proved, and so are those below it. Any other is proved first, and
+its batches are checked over what that kept. What was refused is noted in a folder of the user's, by the sum of all that
+it read, so the same edit over the same sources is not tried again on the machine.
 """
 
 import argparse
@@ -30,6 +32,8 @@ from concurrent.futures import FIRST_COMPLETED, ThreadPoolExecutor, wait
 from contextlib import suppress
 
 sys.dont_write_bytecode = True
+import body_page  # noqa: E402
+import origin  # noqa: E402
 import side_by_side  # noqa: E402
 from body_edits import apply, in_batches, read_edit, refusals, text_of  # noqa: E402
 from side_by_side import link_or_copy  # noqa: E402
@@ -37,6 +41,8 @@ from side_by_side import link_or_copy  # noqa: E402
 # A wrong body that the kit refused. A refusal only for a lost name, or only by a limit, shows nothing, and says so.
 REFUSED = re.compile(r"(?m)^rt: must-fail (\S+)\.edit: refused, as it must be(?! \(only )")
 KEPT = os.path.join("out", "incremental")
+# An `rt` that takes a library for built where it stands, as the gate leaves it.
+OVER_GATE = [sys.executable, os.path.join(os.path.dirname(os.path.abspath(__file__)), "still_proved.py")]
 # A check over kept work takes so much of the memory of a whole proof.
 OVER_KEPT = 0.7
 
@@ -49,7 +55,7 @@ def kept_copy(one, other):
 class Trial:
     """One run: the crates that are still to be proved, the batches that wait, and what is left to be tried singly."""
 
-    def __init__(self, room, edits, notes, given):
+    def __init__(self, checkout, room, edits, notes, given):
         self.top, self.rooms = os.path.join(room, "top"), os.path.join(room, "rooms")
         self.edits, self.notes, self.given = edits, notes, given
         self.jobs = given.jobs or len(os.sched_getaffinity(0))
@@ -58,10 +64,30 @@ class Trial:
         self.deps = {it.name: it.deps for it in self.crates.values()}
         self.waiting, self.made = side_by_side.below({**self.deps, "": [*self.deps]}, ""), set()
         self.behind = side_by_side.behind([self.crates[it] for it in self.waiting])
+        self.of_gate = self.laid_in(checkout)
         self.batches, self.singles, self.begun, self.refused = [], [], [], set()
         self.failed, self.count = [], 0
         self.memory = side_by_side.free_memory()
         self.children, self.is_ending = [], False
+
+    def laid_in(self, checkout):
+        """Lays the libraries into the copy that are no older than their sources and have all below them. The answer is
+        their crates. Where sources aren't committed, the copy is of others, and there are none."""
+        found = set()
+        if origin.committed(checkout, side_by_side.SOURCES) is None:
+            return found
+        for name in self.waiting:
+            lower = side_by_side.below(self.deps, name)
+            made = os.path.join(checkout, "crates", name, "out", "rlib")
+            rlib = os.path.join(made, name + ".rlib")
+            if not os.path.exists(rlib) or not found.issuperset(lower):
+                continue
+            read = [self.crates[it] for it in [*lower, name]]
+            if os.stat(rlib).st_mtime > side_by_side.newest_source(checkout, read):
+                to = os.path.join(self.top, "crates", name, "out", "rlib")
+                shutil.copytree(made, to, copy_function=link_or_copy)
+                found.add(name)
+        return found
 
     def is_over(self):
         return self.ends is not None and time.monotonic() >= self.ends
@@ -72,7 +98,8 @@ class Trial:
             return 130, ""
         how = {"stdin": subprocess.DEVNULL, "stdout": subprocess.PIPE, "stderr": subprocess.STDOUT, "errors": "replace"}
         env = {**os.environ, "RT_JOBS": str(self.given.jobs)} if self.given.jobs else None
-        ran = subprocess.Popen(["rt", *words], cwd=folder, env=env, start_new_session=True, **how)
+        rt = OVER_GATE if self.of_gate else ["rt"]
+        ran = subprocess.Popen([*rt, *words], cwd=folder, env=env, start_new_session=True, **how)
         self.children.append(ran)
         told = ran.communicate()[0]
         return ran.returncode, told
@@ -92,6 +119,8 @@ class Trial:
     def prove(self, name):
         """Proves a crate, and keeps its work for its batches and its library for the crates above. A library that the
         kit took from another checkout may have no such work."""
+        if name in self.of_gate:
+            return 0, ""
         room = os.path.join(self.rooms, name)
         folder = self.furnished(name, room)
         is_below = any(name in deps for deps in self.deps.values())
@@ -103,14 +132,19 @@ class Trial:
         return status, told
 
     def check(self, name, batch):
-        """Checks a crate with a batch of edits. The answer is those that it refused, and its seconds."""
+        """Checks the functions of a crate that a batch of edits changes. The answer is the status, what was told, and
+        the seconds."""
         began, room = time.monotonic(), tempfile.mkdtemp(dir=self.rooms)
         kept = os.path.join("crates", name, KEPT)
         try:
-            shutil.copytree(os.path.join(self.top, kept), os.path.join(room, kept), copy_function=kept_copy)
+            if os.path.isdir(os.path.join(self.top, kept)):
+                shutil.copytree(os.path.join(self.top, kept), os.path.join(room, kept), copy_function=kept_copy)
+            # what the copy has of the crate stays there
+            os.makedirs(os.path.join(room, "crates", name, "out"), exist_ok=True)
             folder = self.furnished(name, room)
             apply(batch, folder)
-            return refusals(batch, *self.run_rt(["check", "--jobs", "1"], folder)), time.monotonic() - began
+            only = [it for function in sorted({it.function for it in batch}) for it in ("--only", function)]
+            return *self.run_rt(["check", "--jobs", "1", *only], folder), time.monotonic() - began
         finally:
             shutil.rmtree(room, ignore_errors=True)
 
@@ -173,8 +207,9 @@ class Trial:
             self.singles += [it for it in self.edits[name] if not it.function]
             self.batches += [(name, it) for it in in_batches([it for it in self.edits[name] if it.function])]
 
-    def take(self, name, batch, refused, seconds):
+    def take(self, name, batch, status, told, seconds):
         """A batch was checked: what it did not refuse is tried again."""
+        refused = refusals(batch, status, told)
         rest = [it for it in batch if it not in refused]
         self.keep(refused)
         how = "singly" if len(rest) < 3 else "again"
@@ -243,14 +278,14 @@ class Notes:
         self.kit = subprocess.run(["rt", "version"], stdout=subprocess.PIPE, check=True).stdout
 
     def sum_of(self, name):
-        """The sum of the sources of a crate and of all below it."""
+        """The sum of the sources of a crate and of all below it, without their comments."""
         if name not in self.sums:
             deps = side_by_side.listed(text_of(os.path.join(self.top, "crates.txt")))
             found = hashlib.sha256(self.kit)
             for crate in [*side_by_side.below(deps, name), name]:
                 found.update(("%s: %s\n" % (crate, deps[crate])).encode())
                 for path in sources(os.path.join(self.top, "crates", crate)):
-                    found.update(("%s %s\n" % (os.path.relpath(path, self.top), text_of(path))).encode())
+                    found.update(("%s %s\n" % (os.path.relpath(path, self.top), uncommented(path))).encode())
             self.sums[name] = found.digest()
         return self.sums[name]
 
@@ -264,6 +299,19 @@ class Notes:
     def keep(self, refused):
         for it in refused:
             open(self.note_of(it), "w").close()
+
+
+def uncommented(path):
+    """The lines of a source that are more than a comment."""
+    mark = "//" if path.endswith(".rt") else "--"
+    lines = text_of(path).splitlines()
+    return "\n".join(it for it in lines if it.strip() and not it.lstrip().startswith(mark))
+
+
+def notes_folder():
+    """Where it is noted what was refused: in the user's cache, which all checkouts share."""
+    cache = os.environ.get("XDG_CACHE_HOME") or os.path.join(os.path.expanduser("~"), ".cache")
+    return os.path.join(cache, "ripsawbean", "wrong-bodies")
 
 
 def sources(folder):
@@ -317,6 +365,7 @@ def given_words(words):
     parser.add_argument("--since")
     parser.add_argument("--jobs", type=int)
     parser.add_argument("--singly", action="store_true")
+    parser.add_argument("--list", action="store_true")
     parser.add_argument("crates", nargs="*")
     given = parser.parse_args(words)
     if given.since and given.crates:
@@ -349,13 +398,15 @@ def asked_for(checkout, top, given):
 def main(words):
     given = given_words(words)
     checkout = subprocess.check_output(["git", "rev-parse", "--show-toplevel"], text=True).strip()
+    if given.list:
+        return write_page(checkout)
     with tempfile.TemporaryDirectory(prefix="wrong-bodies-") as room:
         top = copied(checkout, room)
-        notes = Notes(os.path.join(git_folder(checkout), "wrong-bodies"), top)
+        notes = Notes(notes_folder(), top)
         asked = named_edits(top, asked_for(checkout, top, given))
         before = sum(notes.has(it) for edits in asked.values() for it in edits)
         new = {name: [it for it in edits if not notes.has(it)] for name, edits in asked.items()}
-        trial = Trial(room, {name: edits for name, edits in new.items() if edits}, notes, given)
+        trial = Trial(checkout, room, {name: edits for name, edits in new.items() if edits}, notes, given)
         if before:
             print("%d were refused before, over the same sources" % before, flush=True)
         signal.signal(signal.SIGTERM, trial.end)
@@ -371,9 +422,12 @@ def main(words):
     return 1 if missed else 0
 
 
-def git_folder(checkout):
-    told = subprocess.check_output(["git", "-C", checkout, "rev-parse", "--absolute-git-dir"], text=True)
-    return told.strip()
+def write_page(checkout):
+    """Writes the page that lists all wrong bodies."""
+    crates = list(side_by_side.listed(text_of(os.path.join(checkout, "crates.txt"))))
+    with open(os.path.join(checkout, body_page.PAGE), "w", encoding="utf-8") as it:
+        it.write(body_page.page(crates, body_page.edits_of(checkout)))
+    return 0
 
 
 if __name__ == "__main__":
