@@ -31,7 +31,7 @@
 // be called from a signal handler, nor in the child of a fork of a process with threads.
 //
 // MEMORY comes from the program's malloc, realloc and free, which are of one allocator, and align a block to each power
-// of two up to 16 that divides its size. Want of memory is a status or an answer, never an end of the program: see
+// of two up to 16 that divides its size. Running out of memory is a status or an answer, never an end of the program: see
 // RIPSAWBEAN_NOMEMORY. ripsawbean_close gives all of it back.
 //
 // THE PROCESSOR is one of x86-64-v2, with SSE4.2 and POPCNT, as those since 2009 are. On another one no handle opens: see
@@ -93,11 +93,11 @@ enum {
 
     // There was no memory for the line, a look, or a database to open: no call was made, and the same one may be made
     // again. ripsawbean_calls says it of the next line alone: go on behind the first taken->bytes. Where the line
-    // was read and memory is wanting in the call itself, its answer is "nomemory": an event that changed nothing else.
+    // was read and memory runs out in the call itself, its answer is "nomemory": an event that changed nothing else.
     // Its text may want memory as well, as any text: see RIPSAWBEAN_UNWRITTEN.
     RIPSAWBEAN_NOMEMORY = 12,
     RIPSAWBEAN_SPENT = 13,     // no position is left after 18446744073709551615 calls: no call was made. A fault is told first
-    RIPSAWBEAN_UNWRITTEN = 14, // the call was made, or had been; its text, messages or rows found no memory. Ask again.
+    RIPSAWBEAN_UNWRITTEN = 14, // the call was made, or had been; its text, messages or rows ran out of memory. Ask again.
                                // Of ripsawbean_dump: the next lines have no room
     RIPSAWBEAN_RING = 15,      // the ring is not 1 to 65536
     RIPSAWBEAN_CLOSED = 16,    // the handle is closed
@@ -253,7 +253,7 @@ uint8_t ripsawbean_read_at(ripsawbean *db, uint8_t seat, uint64_t timestamp, con
 //
 //     RIPSAWBEAN_OK         the call was made. *length is the whole length of the messages; out as for a value. Messages that
 //                           found no room are not lost: ripsawbean_bytes shows them again. Do not poll again for them
-//     RIPSAWBEAN_UNWRITTEN  the call was made, and answer says so; its messages found no memory. *length is 0 and out is as
+//     RIPSAWBEAN_UNWRITTEN  the call was made, and answer says so; its messages ran out of memory. *length is 0 and out is as
 //                           it was. ripsawbean_bytes tries again
 //     RIPSAWBEAN_SESSION, RIPSAWBEAN_SPENT, RIPSAWBEAN_CLOSED
 //                           no call was made, and answer is all 0; *length is 0 and out is as it was
@@ -291,7 +291,7 @@ uint8_t ripsawbean_bytes(ripsawbean *db, uint8_t *out, size_t room, size_t *leng
 //
 //     RIPSAWBEAN_OK         the call was made, and answer says what came of it. *length is the whole length of the rows and
 //                           their end; out as for a value. ripsawbean_bytes shows them again
-//     RIPSAWBEAN_UNWRITTEN  the call was made, and answer says so; its rows found no memory. *length is 0 and out is as it was.
+//     RIPSAWBEAN_UNWRITTEN  the call was made, and answer says so; its rows ran out of memory. *length is 0 and out is as it was.
 //                           ripsawbean_bytes tries again
 //     RIPSAWBEAN_KEYLENGTH  a bound has more than 257 bytes, or the high one has none; the seat is tested before
 //     RIPSAWBEAN_NOMEMORY   there was no memory for a bound
@@ -400,7 +400,7 @@ static inline size_t ripsawbean_read_message(const uint8_t *bytes, size_t length
 
 // What became of one line.
 typedef struct {
-    size_t length;  // of its event's text; 0 where no call was made, or the text found no memory
+    size_t length;  // of its event's text; 0 where no call was made, or the text ran out of memory
     uint8_t status; // RIPSAWBEAN_OK, its fault, RIPSAWBEAN_UNWRITTEN where its call was made and its text isn't shown, or
                     // RIPSAWBEAN_ANSWERTOOLONG
 } ripsawbean_done;
@@ -455,7 +455,7 @@ uint8_t ripsawbean_places(ripsawbean *db, uint64_t feed, ripsawbean_standing *st
 //     RIPSAWBEAN_OK            *count is how many keys were told: all, or as many as there is room for
 //     RIPSAWBEAN_KEYLENGTH     the next key has no byte or more than 256, or the keys end within it; the *count keys before it
 //                              were told
-//     RIPSAWBEAN_NOMEMORY      the next key has more than 24 bytes and found no memory; the *count keys before it were told
+//     RIPSAWBEAN_NOMEMORY      the next key has more than 24 bytes and ran out of memory; the *count keys before it were told
 //     RIPSAWBEAN_BELOWHORIZON, RIPSAWBEAN_CLOSED
 //                              *count is 0
 //

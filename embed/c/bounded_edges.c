@@ -211,7 +211,7 @@ static void faults(void) {
     CHECK(faulty(64, 258, 0, 1) == RIPSAWBEAN_SESSION);
     CHECK(faulty(255, 0, 0, 0) == RIPSAWBEAN_SESSION);
     refuse_after(0);
-    CHECK(faulty(0, 257, 258, 1) == RIPSAWBEAN_KEYLENGTH); // a fault comes before want of memory
+    CHECK(faulty(0, 257, 258, 1) == RIPSAWBEAN_KEYLENGTH); // a fault is told before memory is asked for
     CHECK(faulty(0, 257, 0, 0) == RIPSAWBEAN_NOMEMORY);
     CHECK(refuse_none());
     // No call was made so far: positions say so below. These are right.

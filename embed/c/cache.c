@@ -10,7 +10,7 @@
 //     resolved T     T is at or below what was resolved last, or below the row      the cache is complete: its rows are those of
 //                    before it: resolvedback                                        the database at T, for good
 //
-// A refusal changes nothing, and neither does want of memory. The program writes each event's text as the database made
+// A refusal changes nothing, and neither does running out of memory. The program writes each event's text as the database made
 // it, and between them what the cache has, in lines that begin with "cache:". Without these lines it is a transcript
 // for `mvfeed check`, behind a first line "mvfeed 2".
 #include "ripsawbean.h"

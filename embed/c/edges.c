@@ -382,7 +382,7 @@ static void limits(void) {
     end(&db);
 }
 
-// ---- want of memory
+// ---- out of memory
 
 // Some of each command, and texts of some length.
 static const char *const script[] = {

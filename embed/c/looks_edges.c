@@ -162,7 +162,7 @@ static void versions_of_keys(void) {
     told_at(&db, 50, spelled, 2 + 255, 2, RIPSAWBEAN_KEYLENGTH, 0);
     spelled[0] = 1;
     told_at(&db, 50, spelled, 2 + 257, 2, RIPSAWBEAN_KEYLENGTH, 0);
-    // a key of more than 24 bytes that finds no memory, behind one that needs none
+    // a key of more than 24 bytes that runs out of memory, behind one that needs none
     spelled[0] = 1, spelled[1] = 0, spelled[2] = 'a', spelled[3] = 25, spelled[4] = 0;
     refuse_after(0);
     told = told_at(&db, 50, spelled, 5 + 25, 2, RIPSAWBEAN_NOMEMORY, 1);

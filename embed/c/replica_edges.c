@@ -198,7 +198,7 @@ static void refuse_each(ripsawbean_replica *replica, action *act, bool is_open, 
 }
 
 static void want_of_memory(void) {
-    doing = "want of memory";
+    doing = "out of memory";
     ripsawbean_replica replica = RIPSAWBEAN_REPLICA_INITIALIZER;
     refuse_each(&replica, begin_it, false, "");
     CHECK(complete(&replica, 5, 5) == RIPSAWBEAN_OK && rows(&replica, long_rows) == RIPSAWBEAN_OK);

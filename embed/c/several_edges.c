@@ -161,7 +161,7 @@ static void see_closed(void) {
     }
 }
 
-// ---- want of memory
+// ---- out of memory
 
 // Each line that makes a call makes it once, whichever growth is refused: its position is the next one. Some answers
 // are "nomemory", and so others may be of what is then missing.

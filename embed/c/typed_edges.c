@@ -326,7 +326,7 @@ static void last_events(void) {
     sees(&handle, RIPSAWBEAN_CLOSED, &none);
 }
 
-// ---- want of memory
+// ---- out of memory
 
 static bool is_long(const step *s) {
     return !is_named(s, "poll") && (strlen(s->key) > 24 || strlen(s->value) > 24);

@@ -1,4 +1,4 @@
-"""Tests of the wrapper where the library finds no memory: `embed/test` runs them over a library whose growths can be refused."""
+"""Tests of the wrapper where the library runs out of memory: `embed/test` runs them over a library whose growths can be refused."""
 
 import ctypes
 import unittest

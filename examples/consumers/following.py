@@ -12,6 +12,9 @@ the database at the place's timestamp, and a consumer that was replaced while it
 
 A place of another database leads nowhere: its rows may be all that is left of that one. So the consumer ends there, with
 status 4 and a sentence. With `--anew` it empties its target, and begins anew.
+
+Where another consumer has taken its name it ends with status 5 and a sentence. Whatever starts consumers again has to
+leave both be (systemd: `RestartPreventExitStatus=4 5`), or two of one name replace each other for ever.
 """
 
 import argparse
@@ -28,6 +31,7 @@ from ripsawbean_client import Error, Gone, OtherDatabase, Outrun, Place, connect
 PAUSE = 0.1  # seconds before a target that failed is opened again
 LATER = 1.0  # seconds after which the same failure is told once more
 OTHER = 4    # the status of a consumer that has found another database than the one of its place
+OUTRUN = 5   # the status of a consumer whose name another one has taken
 
 
 def command_line(about, *names):
@@ -59,7 +63,8 @@ def follow(given, make, failures=()):
                 with contextlib.closing(make()) as target:
                     database.consume(given.name, target.load, target.store, given.lo, given.hi, anew=given.anew)
             except Outrun:
-                raise
+                logging.error("another consumer has the name %s, so this one ends", given.name)
+                sys.exit(OUTRUN)
             except (OtherDatabase, Gone) as why:
                 logging.error("%s has another database: %s. --anew would empty this target and begin anew",
                               given.server, why)

@@ -23,7 +23,7 @@ TABLES = """
     CREATE TABLE IF NOT EXISTS told (value BLOB);
 """
 PAUSE = 0.1
-OUTRUN = 3  # the status of a consumer that has ended because another has its name
+OUTRUN = 5  # the status of a consumer that has ended because another has its name, as of those of examples/
 SILENCE = 60
 Row = tuple[int, bytes, bytes | None]
 

@@ -271,7 +271,7 @@ def test_consumer_that_was_replaced(room, server):
     settled(server, lambda: Ledger(file))
     older.child.send_signal(signal.SIGCONT)
     wait_for(older.has_ended, "the older consumer to end")
-    assert older.child.returncode != 0 and "Outrun" in older.words(), older.words()
+    assert older.child.returncode == 5 and "another consumer has the name two" in older.words(), older.words()
     put(server, 50)
     settled(server, lambda: Ledger(file))
     assert not newer.has_ended()

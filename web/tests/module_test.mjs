@@ -1,5 +1,5 @@
 // The WebAssembly module by its loader: what the guide shows, byte for byte; random scripts beside the native library;
-// the edges of each function; want of memory; a trap. web/test runs it, with NATIVE, the program that native.c is.
+// the edges of each function; out of memory; a trap. web/test runs it, with NATIVE, the program that native.c is.
 import assert from "node:assert/strict";
 import { execFileSync, spawnSync } from "node:child_process";
 import { readFileSync } from "node:fs";
@@ -233,7 +233,7 @@ test("a database is opened, closed and opened again", () => {
   db.close();
 });
 
-test("want of memory is an answer or a status, and what was written stays", async () => {
+test("out of memory is an answer or a status, and what was written stays", async () => {
   const small = await load(module);
   small.limit(2 ** 22);
   const db = small.open();

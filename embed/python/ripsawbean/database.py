@@ -194,7 +194,7 @@ class Database(Opened):
             self._at, lines, len(lines), self._out_at, self._room, notes, len(notes) // _DONE.size, most, self._taken
         )
         if status == Closed.status:
-            raise Closed("the library returned %d" % status)
+            raise error_of(status)
         count, taken, length = _TAKEN.unpack(self._taken)
         texts, at = str(memoryview(self._out)[:length], "ascii"), 0
         for length, fault in _DONE.iter_unpack(memoryview(notes)[: count * _DONE.size]):

@@ -184,4 +184,7 @@ ERRORS = {
 
 
 def error_of(status: int) -> Error:
-    return ERRORS.get(status, Error)("the library returned %d" % status)
+    """The error of a status, with the first line of its class's text as its words."""
+    kind = ERRORS.get(status, Error)
+    words = (kind.__doc__ or "").split("\n")[0] if status in ERRORS else ""
+    return kind(words or "the library returned %d" % status)

@@ -1,4 +1,4 @@
-//! The wrapper where the library finds no memory, over a library whose growths can be refused: `embed/test` runs this.
+//! The wrapper where the library runs out of memory, over a library whose growths can be refused: `embed/test` runs this.
 
 use ripsawbean::refusing::{refuse_after, refuse_none};
 use ripsawbean::{
