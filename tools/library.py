@@ -9,7 +9,8 @@ itself, and is made without any. Where the kit's code is other than this script 
 its own way.
 
 The gate leaves its libraries without the note by which `rt lib` would know what they are made of. So `--of-gate` is
-right only where the whole gate has just passed in this checkout, and nothing changed since.
+right only where the whole gate has just passed in this checkout, and nothing changed since. At its end the gate puts
+libraries back that stood there before it. These have the note, and are made anew where it says that they are older.
 """
 
 import importlib.machinery
@@ -48,9 +49,13 @@ def ask_for_statements(rt):
 
 
 def take_those_of_the_gate(rt):
-    """Has `rt lib` take each library below for the one that it would build."""
+    """Has `rt lib` take each library below that the gate made for the one that it would build."""
     of_kit = rt.rtlib.Crate.is_built
-    rt.rtlib.Crate.is_built = lambda self: of_kit(self) or os.path.isdir(self.rlib)
+
+    def is_of_gate(rlib):
+        return os.path.isdir(rlib) and not os.path.exists(os.path.join(os.path.dirname(rlib), "stamp"))
+
+    rt.rtlib.Crate.is_built = lambda self: of_kit(self) or is_of_gate(self.rlib)
 
 
 def main(words):

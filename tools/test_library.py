@@ -66,10 +66,16 @@ class Libraries(unittest.TestCase):
         self.assertEqual(self.made_by(KIT), (3, [told]))
 
     def test_libraries_that_the_gate_left_are_taken_and_no_others(self):
-        asked = "    print(Crate('.').is_built(), Crate('gone').is_built())\n"
-        kit = KIT.replace("    print(*words", asked + "    print(*words")
-        told = ["adopts", "True False", "lib --jobs 2 | a b | a b | True"]
-        self.assertEqual(self.made_by(kit, "--of-gate"), (3, told))
+        with tempfile.TemporaryDirectory() as room:
+            paths = [os.path.join(room, it, "one.rlib") for it in ("of_gate", "put_back", "gone")]
+            for it in paths[:2]:
+                os.makedirs(it)
+            with open(os.path.join(room, "put_back", "stamp"), "w", encoding="ascii") as it:
+                it.write("of an older one")
+            asked = "    print(*[Crate(it).is_built() for it in %r])\n" % paths
+            kit = KIT.replace("    print(*words", asked + "    print(*words")
+            told = ["adopts", "True False False", "lib --jobs 2 | a b | a b | True"]
+            self.assertEqual(self.made_by(kit, "--of-gate"), (3, told))
 
     def test_another_kit_makes_the_library_in_its_own_way(self):
         itself = (0, ["itself lib --jobs 2"])
