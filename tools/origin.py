@@ -22,7 +22,10 @@ Places = Dict[str, str]
 
 
 def _git(top: str, *words: str) -> Optional[str]:
-    asked = subprocess.run(["git", "-C", top, *words], capture_output=True, text=True)
+    try:
+        asked = subprocess.run(["git", "-C", top, *words], capture_output=True, text=True)
+    except FileNotFoundError:
+        return None
     return None if asked.returncode else asked.stdout.strip()
 
 

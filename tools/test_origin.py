@@ -6,6 +6,7 @@ import subprocess
 import sys
 import tempfile
 import unittest
+from unittest import mock
 
 HERE = os.path.dirname(os.path.abspath(__file__))
 sys.dont_write_bytecode = True
@@ -100,6 +101,8 @@ class Origins(unittest.TestCase):
     def test_without_git_nothing_is_noted(self):
         with tempfile.TemporaryDirectory() as elsewhere:
             self.assertIsNone(origin.committed(elsewhere, ["crates"]))
+            with mock.patch.dict(os.environ, {"PATH": elsewhere}):
+                self.assertIsNone(origin.committed(self.top, ["crates"]))
 
 
 if __name__ == "__main__":

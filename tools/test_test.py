@@ -1,7 +1,8 @@
 #!/usr/bin/env python3
-"""Tests of the script `test`: that its last line counts all that was run, and that nothing else is left out than what
-the machine lacks."""
+"""Tests of the script `test`: that its last line counts all that was run, that nothing else is left out than what the
+machine lacks, and that what it built of committed sources is noted."""
 
+import contextlib
 import os
 import shutil
 import subprocess
@@ -11,45 +12,64 @@ import unittest
 
 sys.dont_write_bytecode = True
 TOP = os.path.dirname(os.path.dirname(os.path.abspath(__file__)))
-# What a test says, and how it ends.
+sys.path.insert(0, os.path.join(TOP, "tools"))
+import origin  # noqa: E402
+
+# What a test says, how it ends, and what it makes.
 SOUND = {
-    "rt": ("proved\\n99 passed, 0 failed", 0),
-    "tools/library.py": ("logic=proved", 0),
+    "rt": ("proved\\n99 passed, 0 failed", 0, "mkdir -p crates/mvfeed/out; echo one >crates/mvfeed/out/mvfeed"),
+    "tools/library.py": ("logic=proved", 0, "mkdir -p out; echo one >out/libripsawbean.a"),
     "embed/test": ("edges: passed\\nembed: 25 passed, 0 failed", 0),
     "server/install": ("", 0),
     "server/unit": ("ok. 290 passed; 0 failed; finished", 0),
 }
 TOOLS = ("gcc", "objcopy", "ar", "ld", "nm", "cargo")
+PROGRAM, LIBRARY = "crates/mvfeed/out/mvfeed", "crates/ripsawbean/out/libripsawbean.a"
+COMMIT = "git -c user.name=a -c user.email=a@b commit -q -a -m sources"
 
 
-def script(told, status):
-    return "#!/bin/sh\nprintf '%%b' '%s\\n'\nexit %d\n" % (told, status)
+def script(told, status, making=""):
+    return "#!/bin/sh\n%s\nprintf '%%b' '%s\\n'\nexit %d\n" % (making, told, status)
+
+
+def put(house, path, text):
+    path = os.path.join(house, path)
+    os.makedirs(os.path.dirname(path), exist_ok=True)
+    with open(path, "w", encoding="utf-8") as it:
+        it.write(text)
+    os.chmod(path, 0o755)
+
+
+@contextlib.contextmanager
+def house_of(without=(), **changed):
+    """A repository in place of this one, whose parts say, end or make something else, and which lacks some commands."""
+    with tempfile.TemporaryDirectory() as house:
+        shutil.copy(os.path.join(TOP, "test"), house)
+        for name, it in {**SOUND, **{name.replace("_", "/"): it for name, it in changed.items()}}.items():
+            if name not in without:
+                put(house, "bin/rt" if name == "rt" else name, script(*it))
+        for name in TOOLS:
+            if name not in without:
+                put(house, "bin/" + name, script("", 0))
+        put(house, "crates/ripsawbean/lib.rt", "one\n")
+        os.makedirs(os.path.join(house, "bin"), exist_ok=True)
+        os.symlink(shutil.which("mkdir"), os.path.join(house, "bin", "mkdir"))
+        shutil.copy(os.path.join(TOP, "tools", "origin.py"), os.path.join(house, "tools"))
+        yield house
+
+
+def tested(house):
+    """The status, and the last two lines."""
+    environment = {"PATH": os.path.join(house, "bin"), "PYTHONDONTWRITEBYTECODE": "1"}
+    words = [sys.executable, os.path.join(house, "test")]
+    ran = subprocess.run(words, env=environment, capture_output=True, text=True)
+    return ran.returncode, ran.stdout.splitlines()[-2:]
 
 
 class Counts(unittest.TestCase):
     def last_lines(self, without=(), **changed):
-        """The status and the last two lines, where these parts say something else, and these commands are gone."""
-        with tempfile.TemporaryDirectory() as house:
-            shutil.copy(os.path.join(TOP, "test"), house)
-            os.makedirs(os.path.join(house, "crates", "ripsawbean"))
-            parts = {**SOUND, **{name.replace("_", "/"): it for name, it in changed.items()}}
-            for name, it in parts.items():
-                if name not in without:
-                    self.put(house, "bin/rt" if name == "rt" else name, script(*it))
-            for name in TOOLS:
-                if name not in without:
-                    self.put(house, "bin/" + name, script("", 0))
-            environment = {"PATH": os.path.join(house, "bin"), "PYTHONDONTWRITEBYTECODE": "1"}
-            words = [sys.executable, os.path.join(house, "test")]
-            ran = subprocess.run(words, env=environment, capture_output=True, text=True)
-            return ran.returncode, ran.stdout.splitlines()[-2:]
-
-    def put(self, house, path, text):
-        path = os.path.join(house, path)
-        os.makedirs(os.path.dirname(path), exist_ok=True)
-        with open(path, "w", encoding="utf-8") as it:
-            it.write(text)
-        os.chmod(path, 0o755)
+        with house_of(without, **changed) as house:
+            return tested(house)
 
     def test_all_that_is_run_is_counted(self):
         self.assertEqual(self.last_lines(), (0, [SOUND["server/unit"][0], "125 passed, 0 failed"]))
@@ -89,6 +109,43 @@ class Counts(unittest.TestCase):
     def test_nothing_is_made_over_a_gate_that_failed(self):
         status, lines = self.last_lines(rt=("98 passed, 1 failed", 1))
         self.assertEqual((status, lines[0]), (1, "server/unit isn't run: it needs what embed/test builds"))
+
+
+class Notes(unittest.TestCase):
+    def noted(self, before=":", meanwhile=":", **changed):
+        """The last line, and whether the program and the library are noted, where this is done before the test, and
+        while the gate runs."""
+        told, status, making = SOUND["rt"]
+        with house_of(**{"rt": (told, status, making + " && " + meanwhile), **changed}) as house:
+            os.symlink(shutil.which("git"), os.path.join(house, "bin", "git"))
+            put(house, "crates.txt", "ripsawbean:\n")
+            put(house, ".gitignore", "out/\n")
+            beginning = "git init -q && git add -A && %s && %s" % (COMMIT, before)
+            subprocess.run(["sh", "-c", beginning], cwd=house, check=True)
+            _, lines = tested(house)
+            notes = [origin.read(os.path.join(house, it)) for it in (PROGRAM, LIBRARY)]
+            now = origin.committed(house, ["crates", "crates.txt"])
+            self.assertTrue(all(it in (None, now) for it in notes), notes)
+            return lines[-1], [it is not None for it in notes]
+
+    def test_the_program_and_the_library_are_noted_with_what_is_committed(self):
+        for before in (":", "echo more >README.md"):
+            self.assertEqual(self.noted(before), ("125 passed, 0 failed", [True, True]))
+
+    def test_nothing_is_noted_of_a_gate_or_a_library_that_failed(self):
+        for name, last in {"rt": "99 passed, 1 failed", "tools_library.py": "100 passed, 1 failed"}.items():
+            told, _, making = SOUND[name.replace("_", "/")]
+            self.assertEqual(self.noted(**{name: (told, 1, making)}), (last, [False, False]))
+
+    def test_nothing_is_noted_of_sources_that_are_not_those_of_the_commit(self):
+        edit, back = "echo two >crates/ripsawbean/lib.rt", "git checkout -q crates"
+        for steps in ((edit, ":"), (":", edit), (":", edit + " && " + COMMIT), (edit, COMMIT), (edit, back)):
+            self.assertEqual(self.noted(*steps), ("125 passed, 0 failed", [False, False]), steps)
+
+    def test_a_note_that_cannot_be_made_is_a_failure(self):
+        for name in ("rt", "tools_library.py"):
+            told, status, _ = SOUND[name.replace("_", "/")]
+            self.assertEqual(self.noted(**{name: (told, status)})[0], "100 passed, 1 failed")
 
 
 class Packages(unittest.TestCase):
