@@ -203,22 +203,36 @@ class Checks(unittest.TestCase):
                 checks.build("the program", ["sh", "-c", script], 1)
             self.assertIn(why, str(told.exception))
 
-    def test_the_gate_s_row_is_the_last_count_of_its_log(self):
-        whole = "%d passed, 0 failed" % checks.of_the_gate()
+    def test_the_gate_s_row_is_the_first_count_of_its_log(self):
+        count = checks.of_the_gate()
+        whole, timed = "%d passed, 0 failed" % count, "\nreal\t2m3.4s\nuser\t7m1.0s\n"
+        of_test = "%s\nembed: 25 passed, 0 failed\ntest result: ok. 6 passed; 0 failed\n%d passed, %d failed\n"
         for text, told in {
             whole + "\n": ("passed", whole, ""),
-            whole + "\n\nreal\t2m3.4s\nuser\t7m1.0s\n": ("passed", whole, "123"),
-            whole + "\n9 passed, 1 failed\n": ("failed", "9 passed, 1 failed", ""),
+            whole + "\n" + timed: ("passed", whole, "123"),
             "3 passed, 0 failed\n": ("failed", "3 passed, 0 failed", ""),
+            "3 passed, 1 failed\n": ("failed", "3 passed, 1 failed", ""),
+            # Of `./test`, whose seconds aren't the gate's.
+            of_test % (whole, count + 26, 0) + timed: ("passed", whole, ""),
+            of_test % (whole, count + 25, 1): ("passed", whole, ""),
+            of_test % ("3 passed, 1 failed", 3, 1): ("failed", "3 passed, 1 failed", ""),
+            of_test % ("3 passed, 0 failed", count, 0): ("failed", "3 passed, 0 failed", ""),
+            "%s\nembed/test isn't run: there is no gcc\n%s\n" % (whole, whole) + timed: ("passed", whole, ""),
+            # Of more than one run, of a part, or of none.
+            whole + "\n9 passed, 1 failed\n": None,
+            "%s\n%d passed, 1 failed\n" % (whole, count - 1): None,
+            "%d passed, 1 failed\n%s\n" % (count - 1, whole): None,
             whole + "\n9 passed, 0 failed (a and the crates below alone: not the gate)\n": None,
+            "9 passed, 0 failed (a and the crates below alone: not the gate)\n" + whole + "\n": None,
+            "embed: 25 passed, 0 failed\n": None,
         }.items():
             with tempfile.NamedTemporaryFile("w") as log:
                 log.write("rt: low proved\n" + text)
                 log.flush()
                 if told:
-                    self.assertEqual(checks.from_log(log.name), told)
+                    self.assertEqual(checks.from_log(log.name), told, text)
                     continue
-                with self.assertRaises(SystemExit):
+                with self.assertRaises(SystemExit, msg=text):
                     checks.from_log(log.name)
 
     def test_a_gate_passes_with_all_that_it_has(self):
