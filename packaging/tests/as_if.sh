@@ -28,7 +28,7 @@ note() { "$clone/tools/origin.py" note "$@"; }
 # A row for each check, of the clone's commit, in the page $1.
 as_if_checked() {
     commit=$(git -C "$clone" rev-parse --short HEAD)
-    "$clone/checks" --list | while read -r name _; do
+    "$clone/tools/checks" --list | while read -r name _; do
         echo "| \`$name\` | passed | 1 test | 1 | \`$commit\` | 1 May 2026 | a machine |"
     done >"$1"
 }
