@@ -301,6 +301,58 @@ class Checks(unittest.TestCase):
             self.assertEqual(checks.marked("`0123456`", check), "`0123456`, changed since")
             self.assertEqual(checks.marked("", check), ", changed since")
 
+    def is_old(self, house, check, changes):
+        """Whether a check's row is old once a house has these changes, which are taken back."""
+        before = committed(house)
+        for path, text in changes.items():
+            put(house, path, text)
+        committed(house)
+        is_old = checks.marked("`%s`" % before, check).endswith(checks.CHANGED)
+        subprocess.run(["git", "-C", house, "reset", "-q", "--hard", before], check=True)
+        return is_old
+
+    def test_a_row_is_of_the_code_and_the_numbers_of_pages(self):
+        pages = ("docs/GUIDE.md", "server/API.md")
+        check = checks.Check("one", "a check", [], crates=(), places=("server",), pages=pages)
+        page = "# A guide\n\nIt has 3 words, as `begin 10`:\n\n```\n0 begin 10\n```\n\nThe end.\n"
+        with self.house() as house:
+            for path in ("docs/GUIDE.md", "docs/OTHER.md", "server/API.md", "server/README.md"):
+                put(house, path, page)
+            for old, new, is_old in [
+                ("The end.", "The last words.", False),
+                ("# A guide", "# The guide", False),
+                ("3 words", "4 words", True),
+                ("`begin 10`", "`begin TS`", True),
+                ("\n0 begin 10", "\n0 begin  10", True),
+                ("The end.", "```\nmore\n```", True),
+            ]:
+                changed = page.replace(old, new)
+                self.assertEqual(self.is_old(house, check, {"docs/GUIDE.md": changed}), is_old, new)
+            others = {"docs/OTHER.md": changed, "server/README.md": changed}
+            self.assertFalse(self.is_old(house, check, others))
+            self.assertTrue(self.is_old(house, check, {"server/API.md": changed}))
+            self.assertTrue(self.is_old(house, check, {"server/API.md": None}))
+
+    def test_a_row_is_old_where_a_file_has_another_name(self):
+        check = checks.Check("one", "a check", [], crates=("mvfeed",))
+        code = "fn one() {}\n" * 9
+        with self.house() as house:
+            put(house, "crates/low/src/one.rt", code)
+            moved = {"crates/low/src/one.rt": None, "crates/low/src/two.rt": code}
+            self.assertTrue(self.is_old(house, check, moved))
+
+    def test_a_check_of_the_text_is_of_each_byte_but_those_of_the_rows(self):
+        check = checks.Check("one", "a check", [], crates=(), places=(".",), is_of_text=True)
+        with self.house() as house:
+            files = {"crates/low/src/lib.rt": "fn low() {}\n", "README.md": "A house.\n", "docs/LAST-RUN.md": "rows\n"}
+            for path, text in files.items():
+                put(house, path, text)
+            self.assertFalse(self.is_old(house, check, {}))
+            self.assertFalse(self.is_old(house, check, {"docs/LAST-RUN.md": "other rows\n"}))
+            self.assertTrue(self.is_old(house, check, {"crates/low/src/lib.rt": "// Why.\nfn low() {}\n"}))
+            self.assertTrue(self.is_old(house, check, {"README.md": "A house!\n"}))
+            self.assertTrue(self.is_old(house, check, {"new": ""}))
+
     def test_what_is_checked_is_made_of_the_sources(self):
         others = {"MODULE": "one.wasm", "RIPSAWBEAN_LIBRARY": "one.so", "SERVER": "one"}
         given = {"PROGRAM": "program", "LIBRARY": "one.a", "PROVED": "one", "TESTS": "one"}
@@ -313,7 +365,7 @@ class Checks(unittest.TestCase):
         given = checks.argparse.Namespace(minutes=1, is_bounded=False, since=None)
         for check in checks.checks_of(given):
             self.assertTrue(check.places or check.crates, check.name)
-            for place in check.places:
+            for place in (*check.places, *check.pages):
                 self.assertTrue(os.path.exists(os.path.join(TOP, place)), (check.name, place))
             for part in check.parts if check.crates else ():
                 self.assertTrue(checks.having(part), (check.name, part))
