@@ -118,9 +118,10 @@ function hasFound(moment, event, ts) {
   const read = moment.reads.find((it) => it.ts === BigInt(ts) && it.key === keyOf(event));
   const found = read?.found.get(read.key);
   if (found === BigInt(ts)) return `Transaction ${ts} reads its own write.`;
-  const promise = "So that this stays true, no write of it";
+  const promise = `So that this stays true, no write of ${key}`;
   if (!found) return `${key} has no version at or below ${ts}. ${promise} below ${ts} is let in any more.`;
-  return `The newest version of ${key} at or below ${ts} is of ${found}. ${promise} between them is let in any more.`;
+  const between = `between ${found} and ${ts}`;
+  return `The newest version of ${key} at or below ${ts} is of ${found}. ${promise} ${between} is let in any more.`;
 }
 
 function hasFoundRows(_, event, ts) {
