@@ -36,7 +36,8 @@ function saysCount(words, command) {
   const { name, slots } = command;
   const given = words.length - 1;
   const wanted = slots.length === 0 ? "no word" : counted(slots.length, "word");
-  return `${name} takes ${wanted} behind it, and here ${given === 1 ? "is 1" : `are ${given || "none"}`}.`;
+  const space = given > slots.length && slots.some((it) => !isNumber(it)) ? " A space within a word is spelled %20." : "";
+  return `${name} takes ${wanted} behind it, and here ${given === 1 ? "is 1" : `are ${given || "none"}`}.${space}`;
 }
 
 function saysName([word], command) {

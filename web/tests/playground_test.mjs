@@ -47,6 +47,8 @@ test("a fault is told at its place", () => {
     ["stats 1", "wordcount", "stats takes no word behind it, and here is 1."],
     ["begin", "wordcount", "begin takes 1 word behind it, and here are none."],
     ["put 10 a", "wordcount", "put takes 3 words behind it, and here are 2."],
+    ["put 10 a 10 EUR", "wordcount", "put takes 3 words behind it, and here are 4. A space within a word is spelled %20."],
+    ["begin 1 2", "wordcount", "begin takes 1 word behind it, and here are 2."],
     ["insert 1", "unknowncommand", "No command has the name insert. All of them stand below, under Commands."],
     ["close 01", "number", "A number doesn't begin with a zero: write 1 for 01."],
     ["openevery a b 1 x", "number", "GAP is a number, and x is none."],
