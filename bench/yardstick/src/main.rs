@@ -1,5 +1,5 @@
 //! The yardstick: all commands of a run in plain Rust over std, written for speed. It writes the bytes of `mvfeed run`,
-//! and so says what the machine can do. It has no proof, no lock, and no answer for want of memory.
+//! and so says what the machine can do. It has no proof, no lock, and no answer when out of memory.
 //!
 //! Short keys and values stand in place, versions in lists of 256 with their greatest readers, and rows of feeds are
 //! written as they are walked.
