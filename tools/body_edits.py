@@ -16,6 +16,8 @@ HEAD = re.compile(r'( *)(?:pub(?:\([a-z ]+\))? |const |unsafe |extern "C" )*fn (
 UNREAD = re.compile(r"(?:\./)?(?:src|specs)/\S+:\d+:\d+: error|.*\berror\[[\w-]+\]|.*Run the lower steps again")
 # The last word of a check: of all, or of some functions alone.
 ENDED = re.compile(r"logic=(?:not-)?proved|only=\d+ proved=\d+")
+# What a check offers for a name that several functions have.
+SEVERAL = re.compile(r"several functions are named `(\w+)`: help: write one of (.*)")
 # A line that says only that a name is gone, or that a limit was met.
 SHOWS_NOTHING = re.compile(
     r"has no field|is not in scope|has no `|was not admitted|is no name|operand is missing|expected the end"
@@ -145,10 +147,29 @@ def apply(edits, folder):
             it.write(text)
 
 
+def steps_of(path):
+    """The steps to the module of a source of a crate."""
+    return [it for it in path[len("src/") : -len(".rt")].removesuffix("lib").split("/") if it]
+
+
+def check_alone(crate, places, run):
+    """What `run` told of a check of some functions alone, each a name with its source: its status, and its text. Of a
+    name that several functions have, those of its source are meant."""
+    wanted = {name: [name] for name, _ in places}
+    while True:
+        words = [it for name in sorted(wanted) for whole in wanted[name] for it in ("--only", whole)]
+        status, told = run(words)
+        name, offered = SEVERAL.search(told).groups() if SEVERAL.search(told) else ("", "")
+        heads = ["::".join([crate, *steps_of(path)]) for it, path in places if it == name]
+        whole = [it for it in re.findall(r"`([^`]+)`", offered) if re.sub(r"(::[A-Z][^:]*)?::[^:]+$", "", it) in heads]
+        if not whole or wanted[name] != [name]:
+            return status, told
+        wanted[name] = whole
+
+
 def modules(edit):
     """Where the edit's function stands, as a pattern: in the folder of proofs, and in the names that a check tells."""
-    module = edit.path[len("src/") : -len(".rt")].removesuffix("lib").removesuffix("/")
-    steps = [re.escape(it) for it in module.split("/") if it]
+    steps = [re.escape(it) for it in steps_of(edit.path)]
     if edit.is_lone:
         return r"proofs(?:/[a-z][^/\s]*)*", r"%s(?:::[a-z][^:\s]*)*" % edit.crate
     return "/".join(["proofs", *steps]), "::".join([edit.crate, *steps])

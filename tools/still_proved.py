@@ -17,7 +17,7 @@ import sys
 sys.path.insert(0, os.path.dirname(os.path.abspath(__file__)))
 sys.dont_write_bytecode = True
 import library  # noqa: E402
-from body_edits import SHOWS_NOTHING, UNREAD, bodies, text_of  # noqa: E402
+from body_edits import SHOWS_NOTHING, UNREAD, bodies, check_alone, text_of  # noqa: E402
 from side_by_side import below, link_or_copy, listed  # noqa: E402
 
 PROVED = re.compile(r"(?m)^logic=proved|\bonly=([1-9]\d*) proved=\1\b")
@@ -56,12 +56,17 @@ def functions_of(before):
 
 def check(top, room, crate, before):
     """What the prover says of a crate of the copy, in which a wrong body is planted: its status, and what it told."""
-    words = ["rt"]
-    if lay_in(top, room, crate):
-        words = [sys.executable, os.path.abspath(__file__)]
-    words += ["check", "--jobs", "1", *[it for name in functions_of(before) for it in ("--only", name)]]
+    rt = [sys.executable, os.path.abspath(__file__)] if lay_in(top, room, crate) else ["rt"]
+    folder = os.path.join(room, "crates", crate)
+    places = [(function_of(text, path), os.path.relpath(path, folder)) for path, text in before.items()]
+    places = places if functions_of(before) else []
+    return check_alone(crate, places, lambda only: told_by([*rt, "check", "--jobs", "1", *only], folder))
+
+
+def told_by(words, folder):
+    """The status of a command, and what it told. It ends with this script."""
     how = {"stdin": subprocess.DEVNULL, "stdout": subprocess.PIPE, "stderr": subprocess.STDOUT, "errors": "replace"}
-    ran = subprocess.Popen(words, cwd=os.path.join(room, "crates", crate), start_new_session=True, **how)
+    ran = subprocess.Popen(words, cwd=folder, start_new_session=True, **how)
     try:
         told = ran.communicate()[0]
         return ran.returncode, told

@@ -241,6 +241,24 @@ class Runs(unittest.TestCase):
     def test_two_edits_of_one_function_are_never_tried_together(self):
         self.assertEqual(self.with_edits(anew=edit("one is well", "one is wrong too"))[2], ["low one", "low one two"])
 
+    def test_of_a_name_that_several_functions_have_those_of_the_source_are_checked(self):
+        told = "rattle: error: several functions are named `new`: help: write one of %s"
+        offered = told % "`low::one::One::new`, `low::Low::new`, `low::one::new`, `low::one::two::new`"
+        for path, wanted in [
+            ("src/lib.rt", ["--only", "low::Low::new"]),
+            ("src/one.rt", ["--only", "low::one::One::new", "--only", "low::one::new"]),
+            ("src/one/two.rt", ["--only", "low::one::two::new"]),
+        ]:
+            asked = []
+
+            def run(words):
+                asked.append(words)
+                return (1, offered) if words == ["--only", "new"] else (0, "only=1 proved=1")
+
+            self.assertEqual(body_edits.check_alone("low", [("new", path)], run), (0, "only=1 proved=1"))
+            self.assertEqual(asked, [["--only", "new"], wanted])
+        self.assertEqual(body_edits.check_alone("low", [("new", "src/other.rt")], lambda _: (1, offered)), (1, offered))
+
     def test_functions_of_one_name_in_two_files_are_apart(self):
         told = self.with_edits(far=edit("far is well", "far is wrong", "src/far.rt"))[1]
         self.assertTrue(told[0].startswith("low: 3 refused in one check ("), told)

@@ -35,7 +35,7 @@ sys.dont_write_bytecode = True
 import body_page  # noqa: E402
 import origin  # noqa: E402
 import side_by_side  # noqa: E402
-from body_edits import apply, in_batches, read_edit, refusals, text_of  # noqa: E402
+from body_edits import apply, check_alone, in_batches, read_edit, refusals, text_of  # noqa: E402
 from side_by_side import link_or_copy  # noqa: E402
 
 # A wrong body that the kit refused. A refusal only for a lost name, or only by a limit, shows nothing, and says so.
@@ -143,8 +143,9 @@ class Trial:
             os.makedirs(os.path.join(room, "crates", name, "out"), exist_ok=True)
             folder = self.furnished(name, room)
             apply(batch, folder)
-            only = [it for function in sorted({it.function for it in batch}) for it in ("--only", function)]
-            return *self.run_rt(["check", "--jobs", "1", *only], folder), time.monotonic() - began
+            places = [(it.function, it.path) for it in batch]
+            ran = check_alone(name, places, lambda only: self.run_rt(["check", "--jobs", "1", *only], folder))
+            return *ran, time.monotonic() - began
         finally:
             shutil.rmtree(room, ignore_errors=True)
 
