@@ -1,12 +1,12 @@
 -- The values of a span at a timestamp, gathered key by key.
-use Rattle.std.proofs.Common.{append_assoc, Bool, Bor, List, None, Option, Some, [], ap, arith, false, inl, inr, length, refl, subst, sym, take, true, ℕ, ◌+◌, ◌<◌, ◌≤◌, ◌≡◌, ◌++◌, ◌∷◌, ◌∙◌}
+use Rattle.std.proofs.Common.{append_assoc, Bool, Bor, List, None, Option, Some, [], ap, arith, false, inl, inr, length, refl, subst, sym, true, ℕ, ◌+◌, ◌<◌, ◌≤◌, ◌≡◌, ◌++◌, ◌∷◌, ◌∙◌}
 use Rattle.std.specs.Prelude.{MatchOption, IfSome, filter, is_some}
 use Rattle.std.specs.Option.{option_copied}
 use Rattle.std.specs.Map.{keys_of}
 use Rattle.std.specs.Ordering.{is_lt}
 use Rattle.std.specs.declared.cmp.Ordering.TheVariants.{Less}
 use Rattle.std.proofs.lemmas.Bool.{and_from, both_ways, eq-eqb, or_right}
-use Rattle.std.proofs.lemmas.List.{append-nil, take_at, take_all as first_all, length-append}
+use Rattle.std.proofs.lemmas.List.{length-append}
 use Rattle.timestamps.specs.Bytes.{key_cmp}
 use Rattle.timestamps.specs.declared.row.Row.{Row}
 use Rattle.spans.specs.Effects.{After}
@@ -22,7 +22,7 @@ use Rattle.version_chain.specs.Chains.{Entry, chain_of}
 use Rattle.version_chain.specs.Stores.{Stored, after_of, version_in}
 use Rattle.version_chain.specs.Versions.{IsNewestOf, IsNoneUpTo, version_of}
 use Rattle.version_chain.proofs.InSpans.{chain_among, chain_nowhere, passes_among}
-use Rattle.catch_up.specs.Firsts.{AreFirstsIn, AreNextFirsts, IsFirstIn, is_past, one_at, one_in, value_in}
+use Rattle.catch_up.specs.Firsts.{AreFirstsIn, IsFirstIn, is_past, one_at, one_in, value_in}
 
 -- what the store has of a key
 abbrev pub found_at : Stored → ℕ → List ℕ → After
@@ -213,19 +213,3 @@ snap_goes_on s span key t m n x vs rest rows rows' o snap low same newest named 
           let one : length (one_in span t x (found_at s t x)) ≤ 1 = one_length span t x (found_at s t x) in
           omega arith;
     }
-
--- enough rows
-pub snap_full : (s : Stored) (span : Span) (key : Option (List ℕ)) (t n : ℕ) (entries : List Entry) (rows : List Row) → IsSnapping s span key t n entries rows → n ≤ length rows → AreNextFirsts s span key t n rows
-snap_full s span key t n entries rows snap enough = record {
-  all = snap.all;
-  firsts = snap.firsts;
-  first = let few : length rows ≤ n = snap.few in let is : length rows ≡ n = omega arith in sym (take_at rows (firsts_at s span t (keys_of entries)) n is) ∙ ap (take n) snap.told;
-}
-
--- no key is left
-pub snap_ends : (s : Stored) (span : Span) (key : Option (List ℕ)) (t n : ℕ) (rows : List Row) → IsSnapping s span key t n [] rows → AreNextFirsts s span key t n rows
-snap_ends s span key t n rows snap = record {
-  all = snap.all;
-  firsts = snap.firsts;
-  first = sym (first_all n rows snap.few) ∙ ap (take n) (sym (append-nil rows) ∙ snap.told);
-}

@@ -206,9 +206,6 @@ module _ (s : Stored) (span : Span) (t : ℕ) (x : List ℕ) (through : ℕ) whe
 
 -- ---- heads, and what is left
 
-row_at : Spot → Found → Row
-row_at k w = row_of k.1.now w.0.now
-
 -- a head is left
 head_left : (s : Stored) (span : Span) (t : ℕ) (x : List ℕ) (through : ℕ) (n : ℕ) (y : List ℕ) (v : Version) (vs : List Version) → IsHead s span t x through n y v vs → IsLeftIn s span t (Some x) through (row_of y v)
 head_left s span t x through n y v vs head =

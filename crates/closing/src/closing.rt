@@ -1,5 +1,5 @@
 //! The closed timestamp and the protections.
-ghost use Rattle.std.specs.Prelude.{◌≡◌, ◌==◌, ◌<◌, ◌≤◌, ◌∷◌, ℕ, List, [], IfOk, OnOk, OnErr, false, filter, map, max, not, reverse, suc};
+ghost use Rattle.std.specs.Prelude.{◌≡◌, ◌==◌, ◌<◌, ◌≤◌, ◌∷◌, ℕ, [], IfOk, OnOk, OnErr, false, filter, map, max, not, reverse, suc};
 ghost use Rattle.std.specs.List.{list_any};
 ghost use Rattle.spans.specs.Collection.{Protection};
 ghost use Rattle.spans.specs.Report.{protection_report};

@@ -1,6 +1,6 @@
 -- A piece of a dump, by its texts.
-use Rattle.std.proofs.Common.{◌≡◌, ℕ, ◌<◌, ◌≤◌, true, false, List, [], ◌++◌, Option, Some, refl, sym, ◌∙◌, ap, subst, arith, Bool}
-use Rattle.std.proofs.lemmas.Bool.{le-ltb, lt-ltb}
+use Rattle.std.proofs.Common.{◌≡◌, ℕ, ◌≤◌, true, false, List, ◌++◌, Option, Some, refl, sym, ◌∙◌, ap, subst, arith, Bool}
+use Rattle.std.proofs.lemmas.Bool.{le-ltb}
 use Rattle.std.proofs.lemmas.Bool.Decides.{nat_tests}
 use Rattle.std.specs.Prelude.{min, nat_lt}
 use Rattle.spans.specs.Effects.{Effect}
@@ -14,11 +14,6 @@ use Rattle.embedded.proofs.DumpRows.{rest_left}
 
 module _ (p : List Effect) (at through room : ℕ) (end : DumpEnd) (is : IsEnd p at through end) (place : DumpPlace) (piece : DumpPiece) where
   -- nothing is written where the place is above
-  pub none_below : end.through < place.ts → piece.text.items ≡ [] → piece.next ≡ Some place → IsPiece p at through place room piece
-  none_below low text next =
-      let test : nat_lt (min through (mark_of p at)) place.ts ≡ true = lt-ltb (min through (mark_of p at)) place.ts (subst (λ (n : ℕ). n < place.ts) is.goes low) in
-      rw test (ap (λ (l : List ℕ). (l, piece.next)) text ∙ ap (λ (o : Option DumpPlace). ([], o)) next)
-
   -- else the piece is its texts
   pub piece_of_texts : place.ts ≤ end.through → AreTexts p end room place piece.text.items piece.next → IsPiece p at through place room piece
   piece_of_texts high are =

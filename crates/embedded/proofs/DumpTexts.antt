@@ -1,9 +1,8 @@
 -- The texts of a piece of a dump, one after another.
-use Rattle.std.proofs.Common.{◌≡◌, ℕ, suc, ◌+◌, ◌-◌, ◌<◌, ◌≤◌, Bool, true, false, cond, List, [], ◌∷◌, ◌++◌, length, length-append, take, Option, Some, None, refl, sym, ◌∙◌, ap, subst, inl, inr, arith, append_assoc, decimal}
-use Rattle.std.proofs.lemmas.Bool.{le-ltb, lt-ltb}
+use Rattle.std.proofs.Common.{◌≡◌, ℕ, suc, ◌+◌, ◌-◌, ◌≤◌, Bool, true, false, cond, List, [], ◌∷◌, ◌++◌, length, length-append, take, Option, Some, sym, ◌∙◌, ap, subst, inl, inr, arith, append_assoc}
+use Rattle.std.proofs.lemmas.Bool.{le-ltb}
 use Rattle.std.proofs.lemmas.Bool.Decides.{nat_tests}
-use Rattle.std.proofs.lemmas.List.{append-nil, take_at}
-use Rattle.std.proofs.lemmas.List.Concat.{flat_map-append}
+use Rattle.std.proofs.lemmas.List.{append-nil}
 use Rattle.std.specs.List.{concat}
 use Rattle.std.specs.Prelude.{max, nat_le, nat_lt}
 use Rattle.timestamps.specs.declared.row.Row.{Row}
@@ -12,11 +11,9 @@ use Rattle.spans.specs.Transactions.{begun_of, closed_of}
 use Rattle.spans.proofs.Members.{among_has, has_begun}
 use Rattle.spans.proofs.Open.{begun_among}
 use Rattle.spans.proofs.Steps.{by_test}
-use Rattle.word_lines.specs.Commands.{command_line, joined, words_of}
 use Rattle.restarts.specs.Dump.{mark_of}
-use Rattle.restarts.specs.Rows.{started}
 use Rattle.restarts.proofs.InRange.{at_most, each_low, first_low}
-use Rattle.dump_lines.specs.Lines.{lines_of, row_command, row_text}
+use Rattle.dump_lines.specs.Lines.{row_text}
 use Rattle.engine.specs.Looking.{IsReached}
 use Rattle.embedded.specs.declared.dumping.DumpEnd.{DumpEnd}
 use Rattle.embedded.specs.declared.dumping.DumpPlace.{DumpPlace}
@@ -36,26 +33,10 @@ mark_is p at reached is =
     ] in
     omega (arith, top, first, last)
 
--- ---- no text of a row is empty
-
-pub row_text_some : (o : Option ℕ) (r : Row) → 0 < length (row_text o r)
-row_text_some o r =
-    subst (λ (l : List ℕ). 0 < length l) (sym (flat_map-append (command_line 0) (started o r.ts) (row_command r ∷ [])))
-    (behind (lines_of (started o r.ts)) (command_line 0 (row_command r) ++ []) (ends_line (joined (decimal 0 ∷ words_of (row_command r)))))
-  where
-    ends_line : (words : List ℕ) → 0 < length ((words ++ 10 ∷ []) ++ [])
-    ends_line words = omega (arith, length-append (words ++ 10 ∷ []) [], length-append words (10 ∷ []))
-
-    behind : (xs ys : List ℕ) → 0 < length ys → 0 < length (xs ++ ys)
-    behind xs ys some = omega (arith, some, length-append xs ys)
-
 -- ---- the texts behind a row
 
 texts_more : (p : List Effect) (m t : ℕ) (place : DumpPlace) (r : Row) → rows_behind p t place ≡ r ∷ rows_behind p t (place_of r) → texts_through p m t place ≡ row_text (open_at place) r ∷ texts_through p m t (place_of r)
 texts_more p m t place r is = ap (λ rows. row_texts (open_at place) rows ++ last_text p m t (open_after (open_at place) rows) ∷ []) is
-
-texts_last : (p : List Effect) (m t : ℕ) (place : DumpPlace) → rows_behind p t place ≡ [] → texts_through p m t place ≡ last_text p m t (open_at place) ∷ []
-texts_last p m t place is = ap (λ rows. row_texts (open_at place) rows ++ last_text p m t (open_after (open_at place) rows) ∷ []) is
 
 -- one text and n more
 first_more : (p : List Effect) (m t : ℕ) (place : DumpPlace) (r : Row) (n : ℕ) → rows_behind p t place ≡ r ∷ rows_behind p t (place_of r)
@@ -70,29 +51,11 @@ first_more p m t place r n is =
 none_taken : (p : List Effect) (m t : ℕ) (place : DumpPlace) → first_texts p m t place 0 ≡ ([], Some place)
 none_taken p m t place = let test : nat_le 0 (length (rows_behind p t place)) ≡ true = grind (arith, nat_tests) in ap (λ b. ([], cond b (Some place) (place_at_end m t))) test
 
-one_last : (p : List Effect) (m t : ℕ) (place : DumpPlace) → rows_behind p t place ≡ [] → first_texts p m t place 1 ≡ (last_text p m t (open_at place), place_at_end m t)
-one_last p m t place is =
-    ap (λ texts. (concat (take 1 texts), next_place m t place (rows_behind p t place) 1)) (texts_last p m t place is)
-    ∙ ap (λ l. (last_text p m t (open_at place) ++ [], next_place m t place l 1)) is
-    ∙ ap (λ l. (l, place_at_end m t)) (append-nil (last_text p m t (open_at place)))
-
 -- ---- as many as have room
 
 module _ (p : List Effect) (end : DumpEnd) (room : ℕ) where
   -- the next text has no room
-  pub filled_up : (text c : List ℕ) (cs : List (List ℕ)) (place : DumpPlace) → texts_through p end.to end.through place ≡ c ∷ cs → length text ≤ room → room < length (text ++ c) → filled p end room text place ≡ (text, Some place)
-  filled_up text c cs place are low high =
-      let test : nat_lt room (length text) ≡ false = le-ltb room (length text) low in
-      let none : nat_lt (room - length text) (length c) ≡ true = lt-ltb (room - length text) (length c) (omega (arith, length-append text c)) in
-      let count : fits (room - length text) (texts_through p end.to end.through place) ≡ 0 = ap (fits (room - length text)) are ∙ ap (λ b. cond b 0 (suc (fits (room - length text - length c) cs))) none in
-      rw test (ap (λ n. (text ++ (first_texts p end.to end.through place n).0, (first_texts p end.to end.through place n).1)) count
-      ∙ ap (λ (x : List ℕ × Option DumpPlace). (text ++ x.0, x.1)) (none_taken p end.to end.through place)
-      ∙ ap (λ l. (l, Some place)) (append-nil text))
-
   -- past the room nothing more is written
-  pub filled_over : (text : List ℕ) (place : DumpPlace) → room < length text → filled p end room text place ≡ (text, Some place)
-  filled_over text place high = let test : nat_lt room (length text) ≡ true = lt-ltb room (length text) high in rw test refl
-
   -- the next text has room
   pub filled_more : (text : List ℕ) (place : DumpPlace) (r : Row) → rows_behind p end.through place ≡ r ∷ rows_behind p end.through (place_of r) → length (text ++ row_text (open_at place) r) ≤ room
       → filled p end room text place ≡ filled p end room (text ++ row_text (open_at place) r) (place_of r)
@@ -113,18 +76,6 @@ module _ (p : List Effect) (end : DumpEnd) (room : ℕ) where
       ∙ ap (λ l. (l, after.1)) (sym (append_assoc text c after.0)))
 
   -- the last text has room
-  pub filled_last : (text : List ℕ) (place : DumpPlace) → rows_behind p end.through place ≡ [] → length (text ++ last_text p end.to end.through (open_at place)) ≤ room
-      → filled p end room text place ≡ (text ++ last_text p end.to end.through (open_at place), place_at_end end.to end.through)
-  filled_last text place is low =
-      let c : List ℕ = last_text p end.to end.through (open_at place) in
-      let longer : length (text ++ c) ≡ length text + length c = length-append text c in
-      let test : nat_lt room (length text) ≡ false = le-ltb room (length text) (omega (arith, longer, low)) in
-      let has : nat_lt (room - length text) (length c) ≡ false = le-ltb (room - length text) (length c) (omega (arith, longer, low)) in
-      let count : fits (room - length text) (texts_through p end.to end.through place) ≡ 1 =
-      ap (fits (room - length text)) (texts_last p end.to end.through place is) ∙ ap (λ b. cond b 0 1) has in
-      rw test (ap (λ k. (text ++ (first_texts p end.to end.through place k).0, (first_texts p end.to end.through place k).1)) count
-      ∙ ap (λ (x : List ℕ × Option DumpPlace). (text ++ x.0, x.1)) (one_last p end.to end.through place is))
-
   -- one text at least
   pub begun_by_row : (place : DumpPlace) (r : Row) (text : List ℕ) (next : Option DumpPlace) → rows_behind p end.through place ≡ r ∷ rows_behind p end.through (place_of r)
       → (text, next) ≡ filled p end room (row_text (open_at place) r) (place_of r) → AreTexts p end room place text next
@@ -144,31 +95,9 @@ module _ (p : List Effect) (end : DumpEnd) (room : ℕ) where
       ap (first_texts p end.to end.through place) (count false within ∙ one)
       ∙ first_more p end.to end.through place r (fits (room - length c) more) is)))
 
-  pub begun_by_last : (place : DumpPlace) → rows_behind p end.through place ≡ [] → AreTexts p end room place (last_text p end.to end.through (open_at place)) (place_at_end end.to end.through)
-  begun_by_last place is =
-      let c : List ℕ = last_text p end.to end.through (open_at place) in
-      let count : count_within room (texts_through p end.to end.through place) ≡ 1 =
-      ap (λ l. max 1 (fits room l)) (texts_last p end.to end.through place is) ∙ one (nat_lt room (length c)) in
-      sym (ap (first_texts p end.to end.through place) count ∙ one_last p end.to end.through place is)
-    where
-      one : (b : Bool) → max 1 (cond b 0 1) ≡ 1
-      one true = refl
-      one false = refl
-
   -- ---- by what was written
 
   -- a text that has no room is cut off again
-  pub cut_off : (text text' : List ℕ) (place : DumpPlace) (next : Option DumpPlace) → IsNextText p end place text text' next → length text ≤ room → room < length text' → (take (length text) text', Some place) ≡ filled p end room text place
-  cut_off text text' place None is low high =
-      let c : List ℕ = last_text p end.to end.through (open_at place) in
-      ap (λ l. (l, Some place)) (ap (take (length text)) is.1 ∙ take_at text c (length text) refl)
-      ∙ sym (filled_up text c [] place (texts_last p end.to end.through place is.0) low (subst (λ (l : List ℕ). room < length l) is.1 high))
-  cut_off text text' place (Some behind) is low high =
-      let c : List ℕ = row_text (open_at place) is.0 in
-      let rows : rows_behind p end.through place ≡ is.0 ∷ rows_behind p end.through (place_of is.0) = subst (λ q. rows_behind p end.through place ≡ is.0 ∷ rows_behind p end.through q) is.2 is.1 in
-      ap (λ l. (l, Some place)) (ap (take (length text)) is.3 ∙ take_at text c (length text) refl)
-      ∙ sym (filled_up text c (texts_through p end.to end.through (place_of is.0)) place (texts_more p end.to end.through place is.0 rows) low (subst (λ (l : List ℕ). room < length l) is.3 high))
-
   -- behind a row that has room it goes on
   pub goes_on : (text text' : List ℕ) (place behind : DumpPlace) → IsNextText p end place text text' (Some behind) → length text' ≤ room → filled p end room text place ≡ filled p end room text' behind
   goes_on text text' place behind is low =
@@ -178,15 +107,8 @@ module _ (p : List Effect) (end : DumpEnd) (room : ℕ) where
       ∙ ap (filled p end room text') (sym is.2)
 
   -- the last text has room
-  pub ends_there : (text text' : List ℕ) (place : DumpPlace) → IsNextText p end place text text' None → length text' ≤ room → (text', place_at_end end.to end.through) ≡ filled p end room text place
-  ends_there text text' place is low =
-      ap (λ l. (l, place_at_end end.to end.through)) is.1 ∙ sym (filled_last text place is.0 (subst (λ (l : List ℕ). length l ≤ room) is.1 low))
-
   -- the first text, and then as many as have room
   pub first_then : (text' text'' : List ℕ) (place behind : DumpPlace) (next : Option DumpPlace) → IsNextText p end place [] text' (Some behind) → (text'', next) ≡ filled p end room text' behind → AreTexts p end room place text'' next
   first_then text' text'' place behind next is rest =
       let rows : rows_behind p end.through place ≡ is.0 ∷ rows_behind p end.through (place_of is.0) = subst (λ q. rows_behind p end.through place ≡ is.0 ∷ rows_behind p end.through q) is.2 is.1 in
       begun_by_row place is.0 text'' next rows (rest ∙ ap (λ (l : List ℕ). filled p end room l behind) is.3 ∙ ap (filled p end room (row_text (open_at place) is.0)) is.2)
-
-  pub only_last : (text' : List ℕ) (place : DumpPlace) → IsNextText p end place [] text' None → AreTexts p end room place text' (place_at_end end.to end.through)
-  only_last text' place is = ap (λ (l : List ℕ). (l, place_at_end end.to end.through)) is.1 ∙ begun_by_last place is.0

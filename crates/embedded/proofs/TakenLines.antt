@@ -1,5 +1,5 @@
 -- A line whose call ended, as a step.
-use Rattle.std.proofs.Common.{◌≡◌, ℕ, true, false, ◌<◌, ◌≤◌, List, [], ◌∷◌, length, Ok, Err, inl, inr, arith, refl, sym, ap, ◌∙◌, subst}
+use Rattle.std.proofs.Common.{◌≡◌, ℕ, true, false, ◌≤◌, List, [], ◌∷◌, length, Ok, Err, inl, inr, arith, refl, sym, ap, ◌∙◌, subst}
 use Rattle.std.specs.Prelude.{Result}
 use Rattle.spans.specs.declared.calls.events.Event.{Event}
 use Rattle.spelled_words.specs.declared.fault.LineFault.{LineFault}
@@ -10,7 +10,7 @@ use Rattle.spans.specs.declared.calls.commands.Cmd.{Cmd}
 use Rattle.text_format.specs.declared.Format.TheVariants.{Two}
 use Rattle.word_lines.specs.Reading.{command_at}
 use Rattle.word_lines.specs.Table.{table}
-use Rattle.embedded.specs.Embedded.{StandsFor, Called, IsNoReadError, kept_text, last_of, text_of}
+use Rattle.embedded.specs.Embedded.{StandsFor, Called, kept_text, last_of, text_of}
 use Rattle.embedded.specs.Several.{IsNoted, IsShown, IsStep, IsTaken, IsTakenBy, Step, is_too_long}
 use Rattle.embedded.specs.declared.database.Database.{Database}
 use Rattle.embedded.specs.declared.database.CallError.{CallError}
@@ -35,19 +35,6 @@ shown_whole room d (Err (Fault f)) s noted shown = ap length noted.1 ∙ sym (ap
 shown_whole room d (Err Unwritten) s noted shown = absurd (shown (ap (λ (n : Done). n.status) noted.0))
 shown_whole room d (Err NoMemory) s noted shown = absurd noted
 shown_whole room d (Err Spent) s noted shown = absurd noted
-
-code_below : (f : LineFault) → code_of f < 14
-code_below fault.WordCount = omega arith
-code_below fault.UnknownCommand = omega arith
-code_below fault.Number = omega arith
-code_below fault.KeyLength = omega arith
-code_below fault.ValueLength = omega arith
-code_below fault.Session = omega arith
-code_below fault.NoNewline = omega arith
-code_below fault.LineTooLong = omega arith
-code_below fault.BadByte = omega arith
-code_below fault.Reply = omega arith
-code_below fault.Follow = omega arith
 
 -- of one that is missing nothing is shown
 pub none_shown : (room : ℕ) (d : Database) (r : Result (Unit {0}) CallError) (s : Step) → IsNoted room d r s → s.note.status ≡ 14 → length s.shown ≡ 0
@@ -90,12 +77,6 @@ taken_made h line old new out out' note called shown = made_step h line old new 
 pub taken_unwritten : (h : List Event) (line : List ℕ) (old new : Database) (out : List ℕ) → Called h line old (Err Unwritten) new → IsTakenBy h line old out out (Ok (record { length = 0; status = 14 })) new
 taken_unwritten h line old new out called =
     (record { line = line; note = record { length = 0; status = 14 }; shown = [] }, called.0.0 ∷ h, refl, refl, record { outcome = Err Unwritten; called = called; noted = (refl, refl); stands = called.0.1.holds; grown = (called.0.0, refl) }, refl)
-
-pub taken_not : (h : List Event) (line : List ℕ) (old new : Database) (out : List ℕ) (error : CallError) → ((f : LineFault) → error ≡ Fault f → ⊥) → (error ≡ Unwritten → ⊥) → Called h line old (Err error) new → IsNoReadError error → IsTakenBy h line old out out (Err error) new
-taken_not h line old new out (Fault f) fault missing called read = absurd read
-taken_not h line old new out NoMemory fault missing called read = absurd read
-taken_not h line old new out Unwritten fault missing called read = absurd (missing refl)
-taken_not h line old new out Spent fault missing called read = (refl, called.0, (refl, called.1, called.2))
 
 -- a faulty line makes no call
 pub taken_faulty : (most : ℕ) (h : List Event) (line : List ℕ) (old : Database) (out : List ℕ) (status : ℕ) (f : LineFault) → StandsFor old h → command_at Two table 64 line ≡ Err f → status ≡ code_of f → IsTaken most h line old out out (Ok (record { length = 0; status = status })) old

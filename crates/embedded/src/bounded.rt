@@ -8,9 +8,8 @@
 //! Poll { feed 1, 9 messages, 40 bytes }                  3 of 20 bytes left  poll 1 2
 //! ```
 
-ghost use Rattle.std.specs.Prelude.{◌≡◌, ◌<◌, List, false, IfOk, IfErr, OnOk, OnErr};
+ghost use Rattle.std.specs.Prelude.{◌≡◌, ◌<◌, List, IfOk, OnErr};
 ghost use Rattle.std.specs.Option.{option_copied};
-ghost use Rattle.spans.specs.Effects.{effects_of};
 ghost use Rattle.spans.specs.declared.calls.events.Event.{Event};
 ghost use Rattle.engine.specs.Room.{poll_count, up_to};
 ghost use Rattle.embedded.specs.Bounded.{MadeWithin, command_within, span_within};

@@ -1,6 +1,6 @@
 //! The database, with the last event that was made.
 
-ghost use Rattle.std.specs.Prelude.{◌≡◌, ◌<◌, ◌≤◌, List, ◌∷◌, [], Ok, Some, IfErr, IfOk, OnOk, OnErr};
+ghost use Rattle.std.specs.Prelude.{◌≡◌, ◌<◌, ◌≤◌, List, [], Ok, Some, IfErr, IfOk, OnOk, OnErr};
 ghost use Rattle.spans.specs.declared.calls.events.Event.{Event};
 ghost use Rattle.text_format.specs.declared.Format.TheVariants.{Two};
 ghost use Rattle.word_lines.specs.Commands.{command_line};

@@ -9,7 +9,7 @@
 //! 0 scan 10 - -\n               25, 0 bytes            (more than 18 bytes of rows, where 18 are let through)
 //! ```
 
-ghost use Rattle.std.specs.Prelude.{◌≡◌, ◌<◌, ◌≤◌, ◌⊎◌, List, Ok, false, length, IfErr, IfOk, OnErr};
+ghost use Rattle.std.specs.Prelude.{◌≡◌, ◌<◌, ◌≤◌, ◌⊎◌, List, Ok, false, length, IfOk, OnErr};
 ghost use Rattle.spans.specs.Effects.{effects_of};
 ghost use Rattle.spans.specs.declared.calls.events.Event.{Event};
 ghost use Rattle.embedded.specs.Embedded.{StandsFor, kept_text};

@@ -10,7 +10,7 @@
 //! 30   1 0 a  2 0 b              30           1       KeyLength: the bytes end within the second key
 //! ```
 
-ghost use Rattle.std.specs.Prelude.{List, MatchOption, IfErr, IfOk, OnErr, length, drop, ◌≡◌, ◌+◌, ◌<◌, ◌≤◌};
+ghost use Rattle.std.specs.Prelude.{List, MatchOption, IfOk, OnErr, length, drop, ◌≡◌, ◌+◌, ◌<◌, ◌≤◌};
 ghost use Rattle.spans.specs.Collection.{horizon_of};
 ghost use Rattle.spans.specs.Effects.{effects_of};
 ghost use Rattle.spans.specs.declared.calls.events.Event.{Event};

@@ -1,7 +1,7 @@
 -- The replies to the commands of feeds.
-use Rattle.std.proofs.Common.{Bool, List, None, Option, Some, [], ap, cond, drop, false, length, refl, subst, sym, take, true, ℕ, ◌≡◌, ◌∙◌}
+use Rattle.std.proofs.Common.{Bool, List, None, Option, Some, [], ap, cond, drop, false, length, refl, subst, sym, take, ℕ, ◌≡◌, ◌∙◌}
 use Rattle.std.specs.Prelude.{is_some, nat_lt, not, option_map, ◌&&◌, ◌==◌}
-use Rattle.std.proofs.lemmas.Bool.{both_ways, eq-eqb, ltb-false}
+use Rattle.std.proofs.lemmas.Bool.{eq-eqb, ltb-false}
 use Rattle.std.proofs.lemmas.List.{drop_all}
 use Rattle.timestamps.specs.declared.row.Row.{Row}
 use Rattle.spans.specs.Effects.{After}
@@ -10,14 +10,14 @@ use Rattle.spans.specs.declared.calls.commands.Cmd.TheVariants.{Poll}
 use Rattle.spans.specs.declared.calls.messages.Message.{Message}
 use Rattle.spans.specs.declared.calls.replies.Refusal.TheVariants.{NotOwner}
 use Rattle.spans.specs.declared.calls.replies.Reply.TheVariants.{Messages, Refused}
-use Rattle.kept.specs.Answered.{IsAnswered, IsReplyOf, IsWanting}
-use Rattle.kept.specs.Changes.{IsAlike, IsMovedBy}
+use Rattle.kept.specs.Answered.{IsAnswered, IsReplyOf}
+use Rattle.kept.specs.Changes.{IsMovedBy}
 use Rattle.spans.proofs.Steps.{by_test}
 use Rattle.kept.specs.Places.{AreLeft, AreNext, moved}
-use Rattle.kept.specs.Replies.{feed_refusal, messages_left, poll_place, poll_reply}
+use Rattle.kept.specs.Replies.{messages_left, poll_place, poll_reply}
 use Rattle.feed.specs.Live.{Live}
 use Rattle.version_chain.specs.Stores.{Stored, is_committed_in, version_in}
-use Rattle.feed.specs.Standing.{IsPolledBy, IsPut, Standing, behind_in, behind_or, is_behind, live_in, place_in, ring_of, ring_or, seat_in}
+use Rattle.feed.specs.Standing.{IsPolledBy, IsPut, Standing, behind_in, behind_or, is_behind, live_in, place_in, ring_of, ring_or}
 
 -- the feed lives and is the seat's
 owned : (k : Kept) (seat f max : ℕ) (place : Place) (rows : List Row) → k.feed f ≡ Some place → place.seat ≡ seat → poll_reply k seat f max rows ≡ Messages (take max (messages_left k.closed place rows))
@@ -31,34 +31,6 @@ poll_is k seat f max place rows ms lives owner left told = (rows, (λ other is m
 
 pub poll_done : (k k' : Kept) (seat f max : ℕ) (place : Place) (rows : List Row) (ms : List Message) → k.feed f ≡ Some place → place.seat ≡ seat → AreLeft k.version k.committed place k.closed rows → ms ≡ take max (messages_left k.closed place rows) → IsMovedBy k k' f ms → IsAnswered k k' seat (Poll f max) (Messages ms)
 poll_done k k' seat f max place rows ms lives owner left told moved = record { right = poll_is k seat f max place rows ms lives owner left told; change = moved }
-
--- there is no feed, or it isn't the seat's
-pub poll_none : (k k' : Kept) (seat f max : ℕ) → k.feed f ≡ None → IsAlike k k' → IsAnswered k k' seat (Poll f max) (Refused (feed_refusal k f))
-poll_none k k' seat f max none alike = record {
-  right = ([], (λ place is mine. (let no' : None ≡ Some place = sym none ∙ is in cc)), sym (ap (poll_place k seat f max []) none));
-  change = alike;
-}
-
-pub poll_foreign : (k k' : Kept) (seat f max : ℕ) (place : Place) → k.feed f ≡ Some place → (place.seat == seat) ≡ false → IsAlike k k' → IsAnswered k k' seat (Poll f max) (Refused NotOwner)
-poll_foreign k k' seat f max place lives foreign alike = record {
-  right = (
-    [],
-    (λ other is mine. (let same : place ≡ other = (let e : Some place ≡ Some other = sym lives ∙ is in cc) in absurd (both_ways _ foreign (eq-eqb place.seat seat (ap (λ p. p.seat) same ∙ mine))))),
-    sym (ap (poll_place k seat f max []) lives ∙ ap (λ b. cond (not b) (Refused NotOwner) (Messages (take max (messages_left k.closed place [])))) foreign),
-  );
-  change = alike;
-}
-
-pub poll_wanting : (k k' : Kept) (seat f max : ℕ) (place : Place) → k.feed f ≡ Some place → place.seat ≡ seat → IsAlike k k' → IsWanting k k' seat (Poll f max)
-poll_wanting k k' seat f max place lives owner alike = record { may = refl; accepting = (place, lives, owner); alike = alike }
-
--- a feed of a seat lives
-pub lives_of : (s : Standing) (f seat : ℕ) → seat_in s f ≡ Some seat → (l : Live) × (live_in s f ≡ Some l) × (l.place.seat ≡ seat)
-lives_of s f seat is = by (live_in s f) refl
-  where
-    by : (o : Option Live) → live_in s f ≡ o → (l : Live) × (live_in s f ≡ Some l) × (l.place.seat ≡ seat)
-    by None e = (let no' : None ≡ Some seat = sym (ap (option_map (λ (l : Live). l.place.seat)) e) ∙ is in cc)
-    by (Some l) e = (l, e, (let same : Some l.place.seat ≡ Some seat = sym (ap (option_map (λ (l : Live). l.place.seat)) e) ∙ is in cc))
 
 pub place_of_live : (s : Standing) (f : ℕ) (l : Live) → live_in s f ≡ Some l → place_in s f ≡ Some l.place
 place_of_live s f l e = ap (option_map (λ (l : Live). l.place)) e
@@ -113,16 +85,6 @@ left_told store s s' seat f closed max ms polled rings = by_test polled.live.beh
 -- a feed that isn't put is behind where it was
 pub others_stay : (s s' : Standing) (f : ℕ) (o : Option Live) → IsPut s s' f o → (g : ℕ) → (f == g) ≡ false → is_behind s' g ≡ is_behind s g
 others_stay s s' f o put g other = let same : live_in s' g ≡ live_in s g = put g ∙ rw other refl in ap behind_or same
-
-pub seat_lives : (s : Standing) (f seat : ℕ) → seat_in s f ≡ Some seat → is_some (place_in s f) ≡ true
-seat_lives s f seat is = let l = lives_of s f seat is in ap is_some (place_of_live s f l.0 l.1)
-
-pub seatless : (s : Standing) (f : ℕ) → seat_in s f ≡ None → is_some (place_in s f) ≡ false
-seatless s f is = by (live_in s f) refl
-  where
-    by : (o : Option Live) → live_in s f ≡ o → is_some (place_in s f) ≡ false
-    by None e = ap (λ (o : Option Live). is_some (option_map (λ (l : Live). l.place) o)) e
-    by (Some l) e = (let no' : Some l.place.seat ≡ None = sym (ap (option_map (λ (l : Live). l.place.seat)) e) ∙ is in cc)
 
 -- a feed that lives is behind or not
 pub behind_lives : (s : Standing) (f : ℕ) → is_some (behind_in s f) ≡ is_some (place_in s f)

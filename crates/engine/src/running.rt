@@ -1,5 +1,5 @@
 //! Calls made one after the other on a new engine.
-ghost use Rattle.std.specs.Prelude.{◌≡◌, ℕ, List, [], ◌∷◌, ◌+◌, ◌<◌, ◌≤◌, map, reverse, IfOk, IsOk, vec_capacity, vec_len};
+ghost use Rattle.std.specs.Prelude.{◌≡◌, List, [], ◌∷◌, ◌+◌, ◌<◌, ◌≤◌, map, reverse, IfOk, IsOk, vec_capacity, vec_len};
 ghost use Rattle.spans.specs.declared.calls.events.Event.{Event};
 ghost use Rattle.spans.specs.Legal.{IsGapless};
 ghost use Rattle.engine.specs.Runs.{call_of};

@@ -1,13 +1,12 @@
 -- A feed that is served from the store.
-use Rattle.std.proofs.Common.{Bool, List, None, Option, Some, [], ap, arith, false, inl, inr, length, map, max, min, refl, subst, sym, take, true, zero, suc, ℕ, ◌+◌, ◌-◌, ◌<◌, ◌&&◌, ◌==◌, ◌≡◌, ◌≤◌, ◌++◌, ◌∷◌, ◌∙◌}
+use Rattle.std.proofs.Common.{Bool, List, None, Option, Some, [], ap, arith, false, length, map, max, min, refl, subst, sym, take, true, zero, suc, ℕ, ◌+◌, ◌-◌, ◌<◌, ◌&&◌, ◌==◌, ◌≡◌, ◌++◌, ◌∷◌, ◌∙◌}
 use Rattle.std.specs.Prelude.{nat_lt}
-use Rattle.std.proofs.lemmas.Bool.{and_from, and_parts, both_ways, lt-ltb, ltb-true, or_cases, or_left}
+use Rattle.std.proofs.lemmas.Bool.{and_from, and_parts, both_ways, lt-ltb, ltb-true, or_left}
 use Rattle.std.proofs.lemmas.Bool.Decides.{nat_tests}
 use Rattle.timestamps.specs.declared.row.Row.{Row}
 use Rattle.spans.specs.KeyOrder.{key_lt}
 use Rattle.spans.specs.Kept.{Kept, Place}
 use Rattle.spans.proofs.Steps.{by_test}
-use Rattle.spans.proofs.RowOrder.{name_order}
 use Rattle.spans.proofs.Lists.{take_both}
 use Rattle.kept.proofs.LeftRows.{parts_left}
 use Rattle.version_chain.specs.Following.{is_after_place}
@@ -23,29 +22,6 @@ use Rattle.feed.specs.Live.{Live}
 use Rattle.feed.specs.Standing.{AreNextAt}
 use Rattle.feed.specs.Telling.{AreRowsTold}
 use Rattle.std.proofs.lemmas.List.{length-take, take-map, take-take}
-use Rattle.std.proofs.Math.Bool.{and-true, and-false}
-
--- without a last row
-pub after_none : (n : ℕ) (r : Row) → (nat_lt n r.ts && is_after_name None r) ≡ nat_lt n r.ts
-after_none n r = and-true (nat_lt n r.ts)
-
--- with one at or below what all is told through
-pub after_low : (n : ℕ) (last : VersionName) (r : Row) → last.ts ≤ n → (nat_lt n r.ts && is_after_name (Some last) r) ≡ nat_lt n r.ts
-after_low n last r low = by_test (nat_lt n r.ts)
-    (λ is. let l : n < r.ts = ltb-true n r.ts is in let before : name_lt last r ≡ true = or_left (nat_lt last.ts r.ts) ((last.ts == r.ts) && key_lt last.key r.key) (lt-ltb last.ts r.ts (omega arith)) in rw (is, before) refl)
-    (λ isnt. rw isnt refl)
-
--- with one above it
-pub after_high : (n : ℕ) (last : VersionName) (r : Row) → n < last.ts → (nat_lt n r.ts && is_after_name (Some last) r) ≡ is_after_place last.ts (Some last.key) r.key r.ts
-after_high n last r high = by_test (name_lt last r)
-    (λ is. let l : last.ts ≤ r.ts = not_below is in let on : nat_lt n r.ts ≡ true = lt-ltb n r.ts (omega arith) in rw (on, is) refl)
-    (λ isnt. rw isnt (and-false (nat_lt n r.ts)))
-  where
-    not_below : name_lt last r ≡ true → last.ts ≤ r.ts
-    not_below e = elim (or_cases _ _ e) [
-      | inl less ↦ (let l : last.ts < r.ts = ltb-true _ _ less in omega arith)
-      | inr same ↦ (let l : (last.ts == r.ts) ≡ true = (and_parts _ _ same).0 in grind (arith, nat_tests))
-    ]
 
 -- the stored rows after a place's last row, from the cursor on, are those that are left for the feed
 pub stored_next : (s : Stored) (place : Place) (through n ts : ℕ) (key : Option (List ℕ)) (rows : List Row) → ((r : Row) → (nat_lt (max place.after place.cursor) r.ts && is_after_name place.row r) ≡ is_after_place ts key r.key r.ts)
@@ -121,29 +97,6 @@ firsts_none s place n rows none empty = record {
   firsts = record { rising = tt; each = λ r. (λ i. absurd i, λ i. absurd (none (version_in s) r i)) };
   first = empty ∙ no_rows n [] refl;
 }
-
--- of a feed of another kind
-pub another_left : (place : Place) → place.kind.initial ≡ false → IsNoneLeft place
-another_left place other version r i = absurd (let no' : false ≡ true = sym other ∙ i.initial in cc)
-
--- of one that resolved its cursor or more
-pub resolved_left : (place : Place) → place.cursor ≤ place.after → IsNoneLeft place
-resolved_left place low version r i = let above : place.after < r.ts = ltb-true _ _ (and_parts _ _ i.later).0 in omega (arith, i.at)
-
-clash : (q c r : ℕ) → c < q → q ≤ r → r ≡ c → ⊥
-clash q c r high low at = omega arith
-
--- of one that was told a row above its cursor
-pub passed_left : (place : Place) → is_row_above place.row place.cursor ≡ true → IsNoneLeft place
-passed_left place above version r i = by place.row refl
-  where
-    by : (o : Option VersionName) → place.row ≡ o → ⊥
-    by None is = let no' : false ≡ true = sym (ap (λ o. is_row_above o place.cursor) is) ∙ above in cc
-    by (Some q) is =
-        let high : place.cursor < q.ts = ltb-true _ _ (sym (ap (λ o. is_row_above o place.cursor) is) ∙ above) in
-        let after : is_after_name (Some q) r ≡ true = subst (λ o. is_after_name o r ≡ true) is (and_parts _ _ i.later).1 in
-        let low : q.ts ≤ r.ts = name_order q r after in
-        clash q.ts place.cursor r.ts high low i.at
 
 -- what is kept of a store alone
 abbrev stored_as : Stored → ℕ → Kept

@@ -1,6 +1,6 @@
 -- How many messages find room, by the first of them.
-use Rattle.std.proofs.Common.{List, [], ap, arith, drop, false, inl, inr, length, refl, suc, sym, take, true, zero, ℕ, ◌+◌, ◌-◌, ◌<◌, ◌∙◌, ◌∷◌, ◌≡◌, ◌≤◌}
-use Rattle.std.specs.Prelude.{nat_le, nat_lt, ◌⊎◌}
+use Rattle.std.proofs.Common.{List, [], ap, arith, false, length, refl, suc, sym, take, true, zero, ℕ, ◌-◌, ◌<◌, ◌∙◌, ◌∷◌, ◌≡◌, ◌≤◌}
+use Rattle.std.specs.Prelude.{nat_le, nat_lt}
 use Rattle.std.proofs.lemmas.Bool.Decides.{nat_tests}
 use Rattle.spans.specs.declared.calls.messages.Message.{Message}
 use Rattle.spans.proofs.Steps.{by_test}
@@ -27,13 +27,6 @@ first_shorter (suc n) zero xs low = absurd (omega arith)
 first_shorter (suc n) (suc m) [] low = omega arith
 first_shorter (suc n) (suc m) (x ∷ xs) low = let rest : length (take n xs) ≤ length (take m xs) = first_shorter n m xs (omega (arith, low)) in omega (arith, rest)
 
--- fewer than were taken are all
-first_all : (n m : ℕ) (xs : List Message) → n ≤ m → length (take n xs) < n → take m xs ≡ take n xs
-first_all zero m xs low few = absurd (omega arith)
-first_all (suc n) zero xs low few = absurd (omega arith)
-first_all (suc n) (suc m) [] low few = refl
-first_all (suc n) (suc m) (x ∷ xs) low few = ap (λ l. x ∷ l) (first_all n m xs (omega (arith, low)) (omega (arith, few)))
-
 pub short_of : (max bytes : ℕ) (ms : List Message) → count_within bytes ms < length ms → count_within bytes ms ≡ count_or max bytes ms
 short_of max bytes ms few = let on : nat_lt (count_within bytes ms) (length ms) ≡ true = grind (arith, nat_tests) in rw on refl
 
@@ -47,11 +40,6 @@ counts_short bytes max chunk xs low few =
     let more : length (take chunk xs) ≤ length (take max xs) = first_shorter chunk max xs low in
     sym same ∙ short_of max bytes (take max xs) (omega (arith, same, more, few))
 
--- all of them do, and they are all
-pub counts_all : (bytes max chunk : ℕ) (xs : List Message) → chunk ≤ max → length (take chunk xs) ≤ count_within bytes (take chunk xs) → (length (take chunk xs) < chunk) ⊎ (chunk ≡ max) → max ≡ count_or max bytes (take max xs)
-counts_all bytes max chunk xs low all (inl few) = all_of max bytes (take chunk xs) all ∙ ap (count_or max bytes) (sym (first_all chunk max xs low few))
-counts_all bytes max chunk xs low all (inr same) = all_of max bytes (take chunk xs) all ∙ ap (λ n. count_or max bytes (take n xs)) same
-
 -- what was told says how many find room
 pub left_short : (store : Stored) (l : Live) (closed chunk max bytes count : ℕ) (told : Told) → IsTold store l closed chunk told → chunk ≤ max → count ≡ count_within bytes told.messages.items → count < length told.messages.items → IsCountLeft store closed max bytes l count
 left_short store l closed chunk max bytes count told is low counted few = record {
@@ -59,27 +47,3 @@ left_short store l closed chunk max bytes count told is low counted few = record
   left = record { ring = λ off. (is.left.ring off).0; stored = λ on. (is.left.stored on).0 };
   count = counted ∙ ap (count_within bytes) is.first ∙ counts_short bytes max chunk (messages_left closed l.place is.rows) low (omega (arith, few, ap (count_within bytes) is.first, ap length is.first, counted));
 }
-
-pub left_all : (store : Stored) (l : Live) (closed chunk max bytes count : ℕ) (told : Told) → IsTold store l closed chunk told → chunk ≤ max → count ≡ count_within bytes told.messages.items → length told.messages.items ≤ count → (length told.messages.items < chunk) ⊎ (chunk ≡ max) → IsCountLeft store closed max bytes l max
-left_all store l closed chunk max bytes count told is low counted all end = record {
-  rows = is.rows;
-  left = record { ring = λ off. (is.left.ring off).0; stored = λ on. (is.left.stored on).0 };
-  count = counts_all bytes max chunk (messages_left closed l.place is.rows) low (omega (arith, all, ap (count_within bytes) is.first, ap length is.first, counted)) (by_end end);
-}
-  where
-    by_end : (length told.messages.items < chunk) ⊎ (chunk ≡ max) → (length (take chunk (messages_left closed l.place is.rows)) < chunk) ⊎ (chunk ≡ max)
-    by_end (inl few) = inl (omega (arith, few, ap length is.first))
-    by_end (inr same) = inr same
-
--- a message that finds room, and one that doesn't
-pub count_more : (n bytes all index : ℕ) (left : ℕ) (ms : List Message) (m : Message) (rest : List Message) → drop index ms ≡ m ∷ rest → n + count_within left (drop index ms) ≡ all → message_weight m ≤ left → (n + 1) + count_within (left - message_weight m) rest ≡ all
-count_more n bytes all index left ms m rest is so fits =
-    let on : nat_le (message_weight m) left ≡ true = grind (arith, nat_tests) in
-    let e : count_within left (drop index ms) ≡ suc (count_within (left - message_weight m) rest) = ap (count_within left) is ∙ (rw on refl) in
-    omega (arith, e, so)
-
-pub count_none : (n all index : ℕ) (left : ℕ) (ms : List Message) (m : Message) (rest : List Message) → drop index ms ≡ m ∷ rest → n + count_within left (drop index ms) ≡ all → left < message_weight m → n ≡ all
-count_none n all index left ms m rest is so over =
-    let off : nat_le (message_weight m) left ≡ false = grind (arith, nat_tests) in
-    let e : count_within left (drop index ms) ≡ 0 = ap (count_within left) is ∙ (rw off refl) in
-    omega (arith, e, so)

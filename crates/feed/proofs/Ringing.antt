@@ -1,7 +1,6 @@
 -- How many messages of a ring find room, one row after another.
 use Rattle.std.proofs.Common.{Bool, List, None, Option, Some, [], add-one, ap, arith, drop, false, length, refl, suc, sym, take, true, zero, ℕ, ◌+◌, ◌-◌, ◌<◌, ◌∙◌, ◌∷◌, ◌≡◌, ◌≤◌}
 use Rattle.std.specs.Prelude.{nat_le, nat_lt, slice_get}
-use Rattle.std.proofs.lemmas.Bool.{both_ways}
 use Rattle.std.proofs.lemmas.Bool.Decides.{nat_tests}
 use Rattle.timestamps.specs.declared.row.Row.{Row}
 use Rattle.spans.specs.Feeds.{is_due}
@@ -10,9 +9,8 @@ use Rattle.spans.specs.declared.calls.messages.Message.{Message}
 use Rattle.spans.specs.declared.calls.messages.Message.TheVariants as messages
 use Rattle.spans.proofs.Steps.{by_test}
 use Rattle.kept.specs.Replies.{messages_left}
-use Rattle.version_chain.specs.Stores.{Stored}
 use Rattle.feed.specs.Live.{Live, due_at, due_in}
-use Rattle.feed.specs.Room.{IsCountLeft, count_or, count_within, message_weight, with_due}
+use Rattle.feed.specs.Room.{count_or, count_within, message_weight, with_due}
 use Rattle.feed.proofs.Fitting.{all_of, short_of}
 
 -- what is ahead of a look that has counted n of a ring
@@ -23,13 +21,6 @@ ahead closed max place ring n = take (max - n) (messages_left closed place (drop
 pub record IsCounting (closed max bytes : ℕ) (place : Place) (ring : List Row) (n left : ℕ) : Type 0 where
   pub counted : n + count_within left (ahead closed max place ring n) ≡ count_within bytes (take max (messages_left closed place ring))
   pub long : n + length (ahead closed max place ring n) ≡ length (take max (messages_left closed place ring))
-
-pub ring_begins : (closed max bytes : ℕ) (place : Place) (ring : List Row) → IsCounting closed max bytes place ring 0 bytes
-ring_begins closed max bytes place ring =
-    let whole : max - 0 ≡ max = omega arith in
-    let counted : count_within bytes (take (max - 0) (messages_left closed place ring)) ≡ count_within bytes (take max (messages_left closed place ring)) = ap (λ n. count_within bytes (take n (messages_left closed place ring))) whole in
-    let long : length (take (max - 0) (messages_left closed place ring)) ≡ length (take max (messages_left closed place ring)) = ap (λ n. length (take n (messages_left closed place ring))) whole in
-    record { counted = omega (arith, counted); long = omega (arith, long) }
 
 none_of_none : (k : ℕ) → take {A = Message} k [] ≡ []
 none_of_none zero = refl
@@ -71,12 +62,6 @@ ring_ends closed max bytes place ring n left r counting is low over =
     let here : n ≡ count_within bytes (take max (messages_left closed place ring)) = omega (arith, none, counting.counted) in
     here ∙ short_of max bytes (take max (messages_left closed place ring)) (omega (arith, here, ap length next, counting.long))
 
-pub ring_full : (closed max bytes : ℕ) (place : Place) (ring : List Row) (n left : ℕ) → IsCounting closed max bytes place ring n left → max ≤ n → max ≡ count_or max bytes (take max (messages_left closed place ring))
-ring_full closed max bytes place ring n left counting full =
-    let none : max - n ≡ 0 = omega (arith, full) in
-    let nothing : ahead closed max place ring n ≡ [] = ap (λ k. take k (messages_left closed place (drop n ring))) none in
-    all_of max bytes (take max (messages_left closed place ring)) (omega (arith, ap (count_within left) nothing, ap length nothing, counting.counted, counting.long))
-
 -- behind its rows stands what is due
 pub ring_past : (closed max bytes : ℕ) (place : Place) (ring : List Row) (n left : ℕ) (due : Option ℕ) → IsCounting closed max bytes place ring n left → slice_get ring n ≡ None → n < max → messages_left closed place [] ≡ due_at due
     → with_due max n left (due_at due) ≡ count_or max bytes (take max (messages_left closed place ring))
@@ -106,7 +91,3 @@ pub ring_done : (closed max bytes : ℕ) (l : Live) (n left : ℕ) → IsCountin
 ring_done closed max bytes l n left counting none low = by_test (is_due l.place.kind l.place.after closed)
     (λ on. let is : due_in l closed ≡ due_at (Some closed) = rw on refl in ap (with_due max n left) is ∙ ring_past closed max bytes l.place l.ring n left (Some closed) counting none low is)
     (λ off. let is : due_in l closed ≡ due_at None = rw off refl in ap (with_due max n left) is ∙ ring_past closed max bytes l.place l.ring n left None counting none low is)
-
--- so these are counted for the feed
-pub ring_counted : (store : Stored) (closed max bytes : ℕ) (l : Live) (n : ℕ) → l.behind ≡ false → n ≡ count_or max bytes (take max (messages_left closed l.place l.ring)) → IsCountLeft store closed max bytes l n
-ring_counted store closed max bytes l n off is = record { rows = l.ring; left = record { ring = λ _. refl; stored = λ on. absurd (both_ways _ off on) }; count = is }

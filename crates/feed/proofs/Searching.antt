@@ -22,9 +22,6 @@ out_of_reach slots held o x n a b covers out i from low high = by_test (held i x
     (λ is. absurd (both_ways _ out (covers x i low high is)))
     (λ isnt. isnt)
 
-pub found_left : (held : Held) (x : List ℕ) (n a m b i : ℕ) → m ≤ b → IsFirstIn held x n a m i → IsFirstIn held x n a b i
-found_left held x n a m b i low is = record { from = is.from; low = is.low; high = (let h : i < m = is.high in omega arith); here = is.here; first = is.first }
-
 pub found_middle : (held : Held) (x : List ℕ) (n a m b : ℕ) → a ≤ m → m < b → n ≤ m → IsNoneIn held x n a m → held m x ≡ true → IsFirstIn held x n a b m
 found_middle held x n a m b low high from none here = record { from = from; low = low; high = high; here = here; first = λ j f l h. none j f l h }
 

@@ -8,7 +8,7 @@ use Rattle.spans.specs.Kept.{Kept}
 use Rattle.spans.specs.declared.calls.messages.Message.{Message}
 use Rattle.spans.specs.declared.span.Span.{Span}
 use Rattle.spans.proofs.Steps.{by_test}
-use Rattle.kept.specs.Changes.{IsCancelledFrom, IsMovedBy, IsOpenedAt}
+use Rattle.kept.specs.Changes.{IsMovedBy, IsOpenedAt}
 use Rattle.kept.specs.Places.{moved}
 use Rattle.kept.specs.Rings.{AreOthersSame}
 use Rattle.spans.specs.Feeds.{start_at}
@@ -61,11 +61,5 @@ is_moved k s s' f ms behind ring l fits stood put = record {
       let at : k.feed g ≡ Some l.place = fits g ∙ ap (place_in s) (sym (eqb-true f g here)) ∙ ap (option_map (λ (v : Live). v.place)) stood in
       rw (here, at) refl)
       (λ there. rw there (sym (fits g)));
-  rest = refl;
-}
-
-pub is_cancelled_from : (k : Kept) (s s' : Standing) (f : ℕ) → ((g : ℕ) → k.feed g ≡ place_in s g) → IsPut s s' f None → IsCancelledFrom k (record k { feed = place_in s' }) f
-is_cancelled_from k s s' f fits put = record {
-  feed = λ g. place_put s s' f g None put ∙ ap (λ o. cond (f == g) None o) (sym (fits g));
   rest = refl;
 }

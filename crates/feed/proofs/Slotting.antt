@@ -3,12 +3,12 @@ use Rattle.std.proofs.Common.{Bool, List, None, Option, Some, [], ap, arith, fal
 use Rattle.std.specs.Prelude.{cond, is_some, nat_eq, nat_lt, option_map, position, slice_get}
 use Rattle.std.specs.List.{position_or_len}
 use Rattle.std.specs.Map.{keys_of, set_value}
-use Rattle.std.proofs.lemmas.Bool.{and_from, and_parts, eqb-true, eqb-false}
+use Rattle.std.proofs.lemmas.Bool.{and_from, and_parts, eqb-false}
 use Rattle.spans.proofs.Steps.{by_test}
 use Rattle.feed.specs.declared.hulls.Hull.{Hull}
 use Rattle.feed.specs.declared.slots.Slot.{Slot}
 use Rattle.feed.specs.declared.slots.ServedFrom.{ServedFrom}
-use Rattle.feed.specs.Slots.{HasEnded, IsKept, Slots, entry_holds, holds_at, slot_of, sourced}
+use Rattle.feed.specs.Slots.{Slots, entry_holds, holds_at, slot_of, sourced}
 use Rattle.feed.specs.Hulls.{AreHulls, held_but, high_in, low_in, reaches_or}
 use Rattle.feed.proofs.Building.{same_hulls}
 
@@ -105,32 +105,6 @@ pub key_at : (es : Slots) (i : ℕ) → slice_get (keys_of es) i ≡ option_map 
 key_at [] i = refl
 key_at (e ∷ es) zero = refl
 key_at (e ∷ es) (suc i) = key_at es i
-
-kept_itself : (o : Option Slot) → IsKept o o
-kept_itself None = tt
-kept_itself (Some s) = refl
-
-pub kept_same : (o p : Option Slot) → p ≡ o → IsKept o p
-kept_same o p same = subst (IsKept o) (sym same) (kept_itself o)
-
--- one that has ended goes
-pub kept_less : (o p : Option Slot) → IsKept o p → HasEnded p → IsKept o None
-kept_less None None kept ended = tt
-kept_less None (Some t) kept ended = absurd kept
-kept_less (Some s) None kept ended = kept
-kept_less (Some s) (Some t) kept ended = ap (λ (v : Slot). v.source) (sym kept) ∙ ended
-
--- after a removal
-pub kept_without : (es fs fs' : Slots) (f : ℕ) → ((g : ℕ) → IsKept (slot_of es g) (slot_of fs g)) → HasEnded (slot_of fs f) → ((g : ℕ) → slot_of fs' g ≡ cond (nat_eq f g) None (slot_of fs g)) → (g : ℕ) → IsKept (slot_of es g) (slot_of fs' g)
-kept_without es fs fs' f kept ended removed g = by_test (nat_eq f g)
-    (λ here.
-    let at : f ≡ g = eqb-true f g here in
-    subst (IsKept (slot_of es g)) (sym (removed g ∙ rw here refl)) (kept_less (slot_of es g) (slot_of fs g) (kept g) (subst (λ h. HasEnded (slot_of fs h)) at ended)))
-    (λ there. subst (IsKept (slot_of es g)) (sym (removed g ∙ rw there refl)) (kept g))
-
-pub ended_some : (o : Option Slot) → HasEnded o → is_some o ≡ true
-ended_some None ended = absurd ended
-ended_some (Some s) ended = refl
 
 -- a place that holds a key has a number
 pub has_number : (es : Slots) (i : ℕ) (x : List ℕ) → None ≡ slice_get (keys_of es) i → holds_at es i x ≡ true → ⊥

@@ -236,14 +236,6 @@ same_keys (d ∷ os) (e ∷ os') f s same is =
 pub known_places : (n : ℕ) (os os' : Slots) → AreKnown n os → keys_of os' ≡ keys_of os → AreKnown n os'
 known_places n os os' known same f s is = let t = same_keys os os' f s same is in known f t.0 t.1
 
--- no slot has a number that wasn't given yet
-pub unknown : (n f : ℕ) (os : Slots) → AreKnown n os → f ≡ n + 1 → slot_of os f ≡ None
-unknown n f os known beyond = by (slot_of os f) refl
-  where
-    by : (o : Option Slot) → slot_of os f ≡ o → slot_of os f ≡ None
-    by None is = is
-    by (Some s) is = let h : f ≤ n = known f s is in absurd (omega arith)
-
 pub known_more : (n f : ℕ) (os os' : Slots) (v : Option Slot) → AreKnown n os → f ≡ n + 1 → ((g : ℕ) → slot_of os' g ≡ cond (f == g) v (slot_of os g)) → AreKnown (n + 1) os'
 known_more n f os os' v known beyond put g s is = by_test (f == g)
     (λ here. let e : f ≡ g = eqb-true f g here in omega arith)

@@ -14,7 +14,7 @@
 ghost use Rattle.std.specs.Prelude.{◌≡◌, ◌≤◌, ◌<◌, List, Some, ℕ, false, length, slice_get, true, MatchOption};
 ghost use Rattle.spans.specs.KeyOrder.{below_high, from_low};
 ghost use Rattle.feed.specs.Slots.{holds_at};
-ghost use Rattle.feed.specs.Hulls.{AreHulls, AreSameOutside, IsCovering, IsFirstIn, IsFirstFrom, IsNoneFrom, IsNoneIn, held_but, high_in, hull_reaches, low_in, reaches};
+ghost use Rattle.feed.specs.Hulls.{AreHulls, AreSameOutside, IsCovering, IsFirstIn, IsFirstFrom, IsNoneFrom, IsNoneIn, held_but, high_in, hull_reaches, low_in};
 
 use crate::slots::{ServedFrom, Slot};
 use indexmap::IndexMap;

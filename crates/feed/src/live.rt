@@ -1,5 +1,5 @@
 //! One feed that lives: its place, its ring, and its next rows, which come from the ring or from the store.
-ghost use Rattle.std.specs.Prelude.{◌≡◌, ◌≤◌, ◌⊎◌, ℕ, IfOk, IfSome, MatchOption, max, take, drop, map, false};
+ghost use Rattle.std.specs.Prelude.{◌≡◌, ◌≤◌, ◌⊎◌, IfOk, IfSome, MatchOption, max, take, drop, map, false};
 ghost use Rattle.timestamps.specs.declared.ts.TheConstants.{MAX};
 ghost use Rattle.kept.specs.Places.{place_floor, row_floor};
 ghost use Rattle.std.specs.Prelude.{◌&&◌, [], true, nat_lt, slice_get};

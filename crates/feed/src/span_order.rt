@@ -4,7 +4,7 @@
 //! coming back to the ring and cancelling leave stale slots: a new one stands last, a changed one at its place. Each
 //! offer may look at all stale slots in vain. Once looks in vain may be as many as there are slots, the index is made
 //! anew: by lower bound, without the slots of cancelled feeds, and with hulls for as many slots again.
-ghost use Rattle.std.specs.Prelude.{◌≡◌, ◌<◌, ℕ, None, Some, [], if◌then◌else◌, MatchOption, OnOk, OnErr, IfSome, nat_eq, slice_get};
+ghost use Rattle.std.specs.Prelude.{◌≡◌, ◌<◌, ℕ, None, Some, [], MatchOption, OnOk, OnErr, IfSome, nat_eq, slice_get};
 ghost use Rattle.std.specs.Map.{keys_of, set_value};
 ghost use Rattle.std.specs.List.{IsDistinct};
 ghost use Rattle.feed.specs.declared.slots.Slot.{Slot};

@@ -1,5 +1,5 @@
 -- A follower that stopped, once what waited is written.
-use Rattle.std.proofs.Common.{◌≡◌, ◌≢◌, ℕ, zero, suc, ◌+◌, Bool, List, [], ◌∷◌, ◌++◌, refl, sym, ap, ◌∙◌, subst, arith, append-nil, append_assoc, inl, inr}
+use Rattle.std.proofs.Common.{◌≡◌, ◌≢◌, ℕ, ◌+◌, Bool, List, [], ◌∷◌, ◌++◌, refl, sym, ap, ◌∙◌, subst, arith, append-nil, append_assoc, inl, inr}
 use Rattle.spans.specs.declared.calls.messages.Message.{Message}
 use Rattle.word_lines.specs.Events.{spent_line}
 use Rattle.ticket_lock.specs.Lists.{StartsWith}
@@ -10,10 +10,10 @@ use Rattle.follow.specs.declared.ending.FollowEnd.TheVariants as ends
 use Rattle.follow.specs.declared.options.FollowOptions.{FollowOptions}
 use Rattle.follow.specs.declared.fault.FollowFault.{FollowFault}
 use Rattle.follow.specs.declared.fault.FollowError.TheVariants as errors
-use Rattle.follow.specs.Followed.{IsUnbegun, MayStart, fault_line}
+use Rattle.follow.specs.Followed.{IsUnbegun, fault_line}
 use Rattle.follow.specs.Following.{followed_at}
 use Rattle.follow.specs.Reports.{IsFollowReport}
-use Rattle.follow.specs.Ends.{IsReportWith, IsPart, EndsBy, FailsAt, IsFollowed, CouldBegin}
+use Rattle.follow.specs.Ends.{IsReportWith, IsPart, EndsBy, FailsAt, IsFollowed}
 use Rattle.follow.specs.Told.{kept_at}
 use Rattle.follow.specs.Steps.{IsStopped}
 use Rattle.follow.proofs.Told.{CantWrite}
@@ -121,14 +121,3 @@ module _ (o : FollowOptions) (r : Reads) (w : Writes) where
       followed_nothing ends.Output w' cant.0.1.part cant.0.1.took
       (record { last = fault_line 0 fault; is_last = inr (inl (0, fault, inl (refl, refl, refl, why), refl)); whole = fault_line 0 fault; report = ([], refl, refl); begins = (cant.0.0, sym told ∙ cant.0.1.left) })
       (omega arith, omega arith, cant.1)
-
--- where a replica may begin, it could, whatever the end
-pub could_begin : (o : FollowOptions) (r r' : Reads) (e : FollowEnd) → MayStart o.span o.start → CouldBegin o r r' e
-could_begin o r r' ends.Done may = may
-could_begin o r r' ends.NoMessages may = may
-could_begin o r r' (ends.Fault zero fault) may = tt
-could_begin o r r' (ends.Fault (suc line) fault) may = may
-could_begin o r r' ends.Spent may = may
-could_begin o r r' ends.Input may = may
-could_begin o r r' ends.Output may = inr may
-could_begin o r r' ends.Memory may = inr may

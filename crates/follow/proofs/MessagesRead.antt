@@ -67,10 +67,6 @@ all_at p [] k low all = absurd (omega arith)
 all_at p (x ∷ xs) zero low all = (both (p x) (list_all p xs) all).0
 all_at p (x ∷ xs) (suc k) low all = all_at p xs k (omega arith) (both (p x) (list_all p xs) all).1
 
-all_join : (p : ℕ → Bool) (xs ys : List ℕ) → list_all p xs ≡ true → list_all p ys ≡ true → list_all p (xs ++ ys) ≡ true
-all_join p [] ys a b = b
-all_join p (x ∷ xs) ys a b = let h = both (p x) (list_all p xs) a in rw h.0 (all_join p xs ys h.1 b)
-
 decimal_plain : (n : ℕ) → n < 2 ^ 64 → ArePlain (decimal n)
 decimal_plain n small = decimal_all is_plain (λ d low. rw (le-leb 32 (48 + d) (omega arith), lt-ltb (48 + d) 128 (omega arith), ne_eqb (48 + d) 34 (λ e. omega arith), ne_eqb (48 + d) 92 (λ e. omega arith)) refl) n small
 

@@ -34,17 +34,6 @@ base64_front (a ∷ []) long = absurd (omega arith)
 base64_front (a ∷ b ∷ []) long = absurd (omega arith)
 base64_front (a ∷ b ∷ c ∷ rest) long = base64_three a b c rest
 
-pub just_one : (bytes : List ℕ) → length bytes ≡ 1 → bytes ≡ get_or bytes 0 0 ∷ []
-just_one [] e = absurd (omega arith)
-just_one (a ∷ []) e = refl
-just_one (a ∷ b ∷ rest) e = absurd (omega arith)
-
-pub just_two : (bytes : List ℕ) → length bytes ≡ 2 → bytes ≡ get_or bytes 0 0 ∷ get_or bytes 1 0 ∷ []
-just_two [] e = absurd (omega arith)
-just_two (a ∷ []) e = absurd (omega arith)
-just_two (a ∷ b ∷ []) e = refl
-just_two (a ∷ b ∷ c ∷ rest) e = absurd (omega arith)
-
 pub base64_empty : (bytes : List ℕ) → length bytes ≡ 0 → base64 bytes ≡ []
 base64_empty bytes e = ap base64 (nil_from_length bytes e) ∙ base64_none
 

@@ -1,5 +1,5 @@
 //! The tests of a line in their order, over the tree that `serde_json` reads of it.
-ghost use Rattle.std.specs.Prelude.{◌≡◌, option_map, IfOk};
+ghost use Rattle.std.specs.Prelude.{option_map, IfOk};
 ghost use Rattle.serde_json.specs.View.{view};
 ghost use Rattle.json_lines.specs.Messages.{IsMessage};
 ghost use Rattle.json_lines.specs.Steps.{Gives, Reads};

@@ -1,13 +1,9 @@
 //! The replies made of what is kept are the answers of the definitions.
-ghost use Rattle.std.specs.Prelude.{List, ℕ, Some, None, true, false, ◌≡◌, ◌≤◌};
-ghost use Rattle.timestamps.specs.declared.ts.TheConstants.{MAX};
+ghost use Rattle.std.specs.Prelude.{List, ℕ, Some, None, true, false};
 ghost use Rattle.spans.specs.declared.span.Span.{Span};
 ghost use Rattle.spans.specs.declared.calls.commands.Cmd.TheVariants.{Begin, Get, Scan, Put, Del, Commit, Abort, Close, CloseHard, Protect, Release, Collect, Open, OpenInitial, OpenEvery, OpenInitialEvery, Poll, Cancel, Stats, ReadAt, ScanAt};
-ghost use Rattle.spans.specs.declared.calls.events.Event.{Event};
 ghost use Rattle.spans.specs.declared.calls.replies.Reply.{Reply};
-ghost use Rattle.spans.specs.Effects.{effects_of, kind_of};
-ghost use Rattle.spans.specs.Answer.{answer_of};
-ghost use Rattle.spans.specs.Legal.{is_accepted};
+ghost use Rattle.spans.specs.Effects.{kind_of};
 ghost use Rattle.spans.specs.Kept.{Kept};
 ghost use Rattle.kept.specs.Leading.{Answers};
 ghost use Rattle.kept.specs.Answered.{IsScanReply, IsWriteReply, IsCommitReply, IsCloseReply, IsHardCloseReply, IsScanAtReply, IsCollectReply, IsPollReply, IsStatsReply};

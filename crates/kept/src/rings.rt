@@ -1,5 +1,5 @@
 //! Feeds that are served from rings, and the rows that a closing releases to them.
-ghost use Rattle.std.specs.Prelude.{List, [], ℕ, false, ◌∷◌};
+ghost use Rattle.std.specs.Prelude.{List, ℕ, ◌∷◌};
 ghost use Rattle.spans.specs.declared.span.Span.{Span};
 ghost use Rattle.spans.specs.declared.calls.events.Event.{Event};
 ghost use Rattle.spans.specs.declared.calls.messages.Message.{Message};

@@ -82,9 +82,6 @@ put_first x (y ∷ keys) rising = let below : key_cmp x y ≡ Less = rising.0 y 
 pub put_below : (x y : List ℕ) (keys : List (List ℕ)) → key_cmp x y ≡ Less → x ∷ y ∷ keys ≡ insert_key x (y ∷ keys)
 put_below x y keys below = rw below refl
 
-pub put_same : (x y : List ℕ) (keys : List (List ℕ)) → key_cmp x y ≡ Equal → y ∷ keys ≡ insert_key x (y ∷ keys)
-put_same x y keys same = rw same refl
-
 pub put_above : (x y : List ℕ) (keys keys' : List (List ℕ)) → key_cmp x y ≡ Greater → keys' ≡ insert_key x keys → y ∷ keys' ≡ insert_key x (y ∷ keys)
 put_above x y keys keys' above put = ap (λ l. y ∷ l) put ∙ rw above refl
 

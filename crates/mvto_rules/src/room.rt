@@ -8,7 +8,7 @@
 //! d    "1"                              19       it ends at d
 //! ```
 
-ghost use Rattle.std.specs.Prelude.{◌≡◌, ◌≤◌, IfSome, true};
+ghost use Rattle.std.specs.Prelude.{◌≡◌, true};
 ghost use Rattle.std.specs.Option.{option_copied};
 ghost use Rattle.spans.proofs.Keyed.{RisingKeys};
 ghost use Rattle.version_chain.specs.Chains.{AreFilled};

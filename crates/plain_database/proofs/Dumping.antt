@@ -1,40 +1,38 @@
 -- What a dump writes is what the definitions say.
-use Rattle.std.proofs.Common.{◌≡◌, ℕ, suc, ◌+◌, ◌<◌, ◌≤◌, ◌==◌, Bool, true, false, not, cond, ◌&&◌, ◌||◌, List, [], ◌∷◌, ◌++◌, length, map, take, drop, Option, Some, None, refl, sym, ◌∙◌, ap, subst, inl, inr, arith, append_assoc, get_or, zero, Result, Ok, Err}
+use Rattle.std.proofs.Common.{◌≡◌, ℕ, suc, ◌+◌, ◌<◌, ◌≤◌, Bool, true, false, not, cond, ◌&&◌, ◌||◌, List, [], ◌∷◌, ◌++◌, length, drop, Option, Some, None, refl, sym, ◌∙◌, ap, subst, inl, inr, arith, append_assoc, get_or, zero, Result, Ok, Err}
 use Rattle.std.proofs.lemmas.Bool.Decides.{nat_tests}
 use Rattle.std.proofs.lemmas.List.{drop_more, take_all}
-use Rattle.std.specs.Prelude.{filter, is_none, is_some, max, nat_le, nat_lt, option_map, IfOk, ◌⊎◌}
+use Rattle.std.specs.Prelude.{filter, is_none, is_some, max, nat_le, nat_lt, IfOk, ◌⊎◌}
 use Rattle.timestamps.specs.declared.row.Row.{Row}
-use Rattle.timestamps.specs.declared.ts.TheConstants.{MAX}
 use Rattle.spans.specs.declared.calls.events.Event.{Event}
-use Rattle.spans.specs.Collection.{horizon_of, is_dead, is_delete, version_name}
+use Rattle.spans.specs.Collection.{horizon_of, is_delete}
 use Rattle.spans.specs.Effects.{After, Effect, effects_of}
 use Rattle.spans.specs.Newest.{Version, newest}
 use Rattle.spans.specs.Streams.{stream_of}
 use Rattle.spans.specs.Transactions.{begun_of, closed_of, is_committed, owner_of}
-use Rattle.spans.specs.Versions.{committed_version_of, version_of, write_of}
+use Rattle.spans.specs.Versions.{committed_version_of, write_of}
 use Rattle.spans.proofs.Closed.{closed_version}
-use Rattle.spans.proofs.Copies.{AllAllowed}
 use Rattle.spans.proofs.Dead.{committed_is}
 use Rattle.spans.proofs.Horizon.{horizon_low}
 use Rattle.spans.proofs.Legal.{legal_allowed}
 use Rattle.spans.proofs.Members.{Has, among_has, has_begun}
 use Rattle.spans.proofs.Open.{begun_among}
-use Rattle.spans.proofs.Steps.{by_test, newest_same}
-use Rattle.spans.proofs.StreamOrder.{IsRowIn, IsStreamed, in_stream, stream_rises}
+use Rattle.spans.proofs.Steps.{newest_same}
+use Rattle.spans.proofs.StreamOrder.{IsRowIn, in_stream, stream_rises}
 use Rattle.kept.proofs.Untold.{only_rows}
 use Rattle.restarts.specs.Dump.{greatest_of, mark_of}
-use Rattle.restarts.specs.Rows.{all_keys, is_left, left_rows}
+use Rattle.restarts.specs.Rows.{all_keys, is_left}
 use Rattle.restarts.proofs.InRange.{at_most, each_low, first_low}
 use Rattle.plain_versions.specs.declared.transactions.Transaction.{Transaction}
 use Rattle.plain_versions.specs.declared.versions.LentVersion.{LentVersion}
-use Rattle.plain_versions.specs.Chains.{committed_at, version_at}
-use Rattle.plain_versions.specs.Streams.{AreNextRows, AreRowsAfter, IsRowAfter}
+use Rattle.plain_versions.specs.Chains.{version_at}
+use Rattle.plain_versions.specs.Streams.{AreNextRows, AreRowsAfter}
 use Rattle.plain_versions.specs.Transactions.{IsLatest, transaction_at}
 use Rattle.plain_versions.specs.Versions.{IsBestOf}
 use Rattle.plain_versions.proofs.Newest.{best_is, place_of}
 use Rattle.plain_database.specs.declared.database.PlainDatabase.{PlainDatabase}
 use Rattle.plain_database.specs.Answering.{AfterEach}
-use Rattle.plain_database.specs.Dumps.{AreCommitted, AreLeftOf, Tells}
+use Rattle.plain_database.specs.Dumps.{AreCommitted}
 use Rattle.plain_database.specs.Streams.{HasCommitted}
 use Rattle.plain_database.specs.Tied.{IsTied, StandsFor, owner_in}
 use Rattle.plain_database.proofs.Reporting.{all_taken}
@@ -92,9 +90,6 @@ module _ (db : PlainDatabase) (h : List Event) (stands : StandsFor db h) (r : Ro
       newest_same (committed_version_of p r.key) (version_at db.chains r.key) (horizon_of p) (λ i low. sym (stands.tied.versions r.key i ∙ closed_version p all r.key i (omega (arith, low, horizon_low p all))))
       ∙ ap (newest (version_at db.chains r.key)) (sym stands.tied.horizon_at)
       ∙ best_is (version_at db.chains r.key) db.horizon o best)
-
-  pub deleted : r.ts ≤ db.horizon → is_none r.after ≡ true → false ≡ is_left (effects_of h) r
-  deleted low none = sym (below low ∙ ap (λ b. not (b || nat_lt r.ts (newest (committed_version_of (effects_of h) r.key) (horizon_of (effects_of h))).ts)) none)
 
   pub valued : r.ts ≤ db.horizon → is_none r.after ≡ false → (o : Option LentVersion) → IsBestOf (version_at db.chains r.key) db.horizon o → nat_le (place_of o).ts r.ts ≡ is_left (effects_of h) r
   valued low value o best = sym (below low ∙ ap (λ b. not (b || nat_lt r.ts (newest (committed_version_of (effects_of h) r.key) (horizon_of (effects_of h))).ts)) value

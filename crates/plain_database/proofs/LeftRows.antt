@@ -218,7 +218,3 @@ pub both_first : (m n : ℕ) (firsts rows xs ys : List Row) → firsts ≡ take 
 both_first m n firsts rows xs ys first rest more =
     let left : n ≡ m - length xs = omega (arith, ap length first, length-take m xs) in
     ap (λ (l : List Row). l ++ rows) first ∙ ap (λ (l : List Row). take m xs ++ l) (more ∙ ap (λ k. take k ys) left) ∙ take_both m xs ys
-
--- no more come than were asked for
-pub few_taken : (n : ℕ) (rows all : List Row) → rows ≡ take n all → length rows ≤ n
-few_taken n rows all is = omega (arith, ap length is, length-take n all)

@@ -3,7 +3,7 @@ use Rattle.std.proofs.Common.{◌≡◌, ℕ, ◌<◌, ◌==◌, Bool, true, fal
 use Rattle.std.specs.Prelude.{option_map, is_some, bytes_eq, nat_le, nat_lt}
 use Rattle.std.proofs.lemmas.Bool.{eqb-true, false_from_ne_true, ltb-false}
 use Rattle.std.proofs.Math.Bool.{or_assoc}
-use Rattle.spans.specs.Effects.{After, Effect, Begins, Reads, Scans, Writes, Commits, Aborts, Closes, HardCloses, SnapshotReads, SnapshotScans, Opens, Polls, Cancels, Protects, Releases, NoEffect}
+use Rattle.spans.specs.Effects.{After, Effect, Begins, Reads, Scans, Writes, Commits, Aborts, HardCloses, SnapshotReads, SnapshotScans, Opens, Polls, Cancels, NoEffect}
 use Rattle.spans.specs.Transactions.{owner_of, closed_of, is_committed, is_aborted, is_undecided}
 use Rattle.spans.specs.Versions.{visible, write_of}
 use Rattle.spans.specs.declared.span.Span.{Span}
@@ -27,7 +27,6 @@ use Rattle.plain_database.specs.SpanReads.{scan_of, is_scan_across, scan_goes_ac
 use Rattle.plain_database.specs.Tied.{owner_in, aborted_in, IsTied}
 use Rattle.plain_feeds.specs.declared.record.FeedRecord.{FeedRecord}
 use Rattle.plain_feeds.specs.FeedTie.{FeedsTied}
-use Rattle.plain_feeds.specs.ProtectionTie.{Standing, ProtectionsTied}
 use Rattle.plain_feeds.proofs.FeedTies.{feeds_kept}
 use Rattle.plain_feeds.proofs.ProtectionTies.{protections_kept}
 use Rattle.plain_database.proofs.Undecided.{open_at}
@@ -40,11 +39,6 @@ IsOfFeed (Opens f seat kind span cursor) = Unit {0}
 IsOfFeed (Polls f max ms) = Unit {0}
 IsOfFeed (Cancels f) = Unit {0}
 IsOfFeed _ = ⊥
-
-abbrev pub IsOfProtection : Effect → Type 0
-IsOfProtection (Protects id t) = Unit {0}
-IsOfProtection (Releases id) = Unit {0}
-IsOfProtection _ = ⊥
 
 owner_decided : (b : Bool) (s : Decision) (o : Option Transaction) → owner_in (cond b (option_map (decided s) o) o) ≡ owner_in o
 owner_decided true s None = refl
@@ -227,22 +221,6 @@ tied_aborts db p t table chains set cleared tied active = record {
     not_committed None = refl
     not_committed (Some x) = refl
 
--- closed moves
-pub tied_closes : (db : PlainDatabase) (p : List Effect) (at : ℕ) → IsTied db p → IsTied (record db { closed = at }) (Closes at ∷ p)
-tied_closes db p at tied = record {
-  closed_at = refl;
-  owners = tied.owners;
-  committed = tied.committed;
-  aborted = tied.aborted;
-  keys = tied.keys;
-  versions = tied.versions;
-  reads = tied.reads;
-  horizon_at = tied.horizon_at;
-  dead_count = tied.dead_count;
-  feeds = feeds_kept db.feeds p (Closes at) tt tied.feeds;
-  protections = protections_kept db.protections p (Closes at) tt tied.protections;
-}
-
 -- a snapshot is read
 pub tied_snapshot : (db : PlainDatabase) (p : List Effect) (t : ℕ) (x : List ℕ) (v : After) → IsTied db p → IsTied db (SnapshotReads t x v ∷ p)
 tied_snapshot db p t x v tied = record {
@@ -281,12 +259,6 @@ tied_feeds db p (Opens f seat kind span cursor) feeds is tied now = record { clo
 tied_feeds db p (Polls f max ms) feeds is tied now = record { closed_at = tied.closed_at; owners = tied.owners; committed = tied.committed; aborted = tied.aborted; keys = tied.keys; versions = tied.versions; reads = tied.reads; horizon_at = tied.horizon_at; dead_count = tied.dead_count; feeds = now; protections = protections_kept db.protections p (Polls f max ms) tt tied.protections }
 tied_feeds db p (Cancels f) feeds is tied now = record { closed_at = tied.closed_at; owners = tied.owners; committed = tied.committed; aborted = tied.aborted; keys = tied.keys; versions = tied.versions; reads = tied.reads; horizon_at = tied.horizon_at; dead_count = tied.dead_count; feeds = now; protections = protections_kept db.protections p (Cancels f) tt tied.protections }
 tied_feeds db p _ feeds is tied now = absurd is
-
--- something of a protection happens
-pub tied_protections : (db : PlainDatabase) (p : List Effect) (e : Effect) (protections : Standing) → IsOfProtection e → IsTied db p → ProtectionsTied protections (e ∷ p) → IsTied (record db { protections = protections }) (e ∷ p)
-tied_protections db p (Protects id t) protections is tied now = record { closed_at = tied.closed_at; owners = tied.owners; committed = tied.committed; aborted = tied.aborted; keys = tied.keys; versions = tied.versions; reads = tied.reads; horizon_at = tied.horizon_at; dead_count = tied.dead_count; feeds = feeds_kept db.feeds p (Protects id t) tt tied.feeds; protections = now }
-tied_protections db p (Releases id) protections is tied now = record { closed_at = tied.closed_at; owners = tied.owners; committed = tied.committed; aborted = tied.aborted; keys = tied.keys; versions = tied.versions; reads = tied.reads; horizon_at = tied.horizon_at; dead_count = tied.dead_count; feeds = feeds_kept db.feeds p (Releases id) tt tied.feeds; protections = now }
-tied_protections db p _ protections is tied now = absurd is
 
 -- closed moves hard
 abbrev pub goes : PlainDatabase → ℕ → ℕ → Bool

@@ -1,5 +1,5 @@
 //! What a dump writes: the versions that are left, where it closes, and the horizon.
-ghost use Rattle.std.specs.Prelude.{◌≡◌, ◌≤◌, IfOk, filter};
+ghost use Rattle.std.specs.Prelude.{◌≡◌, ◌≤◌, IfOk};
 ghost use Rattle.timestamps.specs.declared.ts.TheConstants.{MAX};
 ghost use Rattle.restarts.specs.Dump.{mark_of};
 ghost use Rattle.restarts.specs.Rows.{left_rows};

@@ -2,7 +2,7 @@
 //!
 //! They are kept by key and by reader, so that a write asks no other key's, and of its own key those of the
 //! readers above it alone.
-ghost use Rattle.std.specs.Prelude.{◌≡◌, ◌||◌, ℕ, List, [], OnOk, OnErr, None};
+ghost use Rattle.std.specs.Prelude.{◌≡◌, [], OnOk, OnErr, None};
 ghost use Rattle.std.specs.Map.{lookup};
 ghost use Rattle.std.specs.BTreeMap.{is_at};
 ghost use Rattle.timestamps.specs.Bytes.{key_cmp};

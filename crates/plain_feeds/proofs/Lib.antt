@@ -2,5 +2,4 @@ pub mod RecordLists
 pub mod Telling
 pub mod FeedTies
 pub mod ProtectionTies
-pub mod Refusals
 pub mod Reporting

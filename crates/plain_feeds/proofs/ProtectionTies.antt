@@ -72,10 +72,6 @@ oldest_first (x ∷ xs) =
 pub protections_reported : (kept : Standing) (p : List Effect) → ProtectionsTied kept p → map standing_report kept.standing ≡ map protection_report (reverse (protections_of p))
 protections_reported kept p tied = oldest_first kept.standing ∙ ap (λ l. map protection_report (reverse l)) (sym tied.standing)
 
--- the protected timestamps
-pub protections_at : (kept : Standing) (p : List Effect) → ProtectionsTied kept p → map (λ (x : collection.Protection). x.at) (protections_of p) ≡ map (λ (x : collection.Protection). x.at) (newest_first kept.standing)
-protections_at kept p tied = ap (map (λ (x : collection.Protection). x.at)) tied.standing
-
 -- the next protection counts before those after it
 pub least_more : (n : ℕ) (x : Protection) (xs : List Protection)
     → least_of n (map (λ (y : collection.Protection). y.at) (newest_first (x ∷ xs))) ≡ least_of (min n x.at) (map (λ (y : collection.Protection). y.at) (newest_first xs))

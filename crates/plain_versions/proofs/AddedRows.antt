@@ -6,8 +6,7 @@ use Rattle.std.specs.BTreeMap.Range.{range_contains}
 use Rattle.std.specs.List.{filter}
 use Rattle.std.specs.declared.ops.Bound.TheVariants.{Excluded, Unbounded}
 use Rattle.std.proofs.lemmas.Bool.{and_from, and_parts, both_ways, cases_lt, eqb-true, eq-eqb, lt-ltb, ltb-true, or_cases, or_left, or_right}
-use Rattle.std.proofs.lemmas.List.{length-append, take_all, take_at, append-nil}
-use Rattle.std.proofs.Math.Bool.{and-false}
+use Rattle.std.proofs.lemmas.List.{take_all, take_at, append-nil}
 use Rattle.timestamps.specs.Bytes.{key_cmp}
 use Rattle.timestamps.specs.declared.row.Row.{Row}
 use Rattle.spans.specs.declared.span.Span.{Span}
@@ -25,13 +24,11 @@ use Rattle.spans.proofs.Sets.{all_within}
 use Rattle.plain_versions.specs.declared.written.Written.{Written}
 use Rattle.plain_versions.specs.Transactions.{Table, transaction_at, committed_in}
 use Rattle.plain_versions.specs.Chains.{Stored, version_at}
-use Rattle.plain_versions.specs.Streams.{IsRowAfter, AreRowsAfter, AreNextRows, AreAdded, names_at, is_wanted, rows_of, row_of, row_with}
+use Rattle.plain_versions.specs.Streams.{IsRowAfter, AreRowsAfter, AreAdded, names_at, is_wanted, rows_of, row_of}
 use Rattle.plain_versions.specs.Written.{Listed, listed_in, is_listed, AreBetween, IsTiedTo}
 use Rattle.plain_versions.proofs.Counted.{has_key}
 use Rattle.plain_versions.proofs.Names.{in_names, in_order, in_rows, names_rise, order_same, rows_rise}
 use Rattle.plain_versions.proofs.Listed.{listed_names, listed_rise, between_are}
-
--- ---- the first of a list
 
 -- ---- the rows of one transaction
 
@@ -47,38 +44,6 @@ open_adds table stored span t max keys rows open' few = sym (ap (λ more. take m
 pub record AreAdding (table : Table) (stored : Stored) (span : Span) (t max : ℕ) (keys : List (List ℕ)) (rows whole : List Row) : Type 0 where
   pub few : length rows ≤ max
   pub left : take max (rows ++ rows_of table stored span (names_at t keys)) ≡ whole
-
-pub adding_full : (table : Table) (stored : Stored) (span : Span) (t max : ℕ) (keys : List (List ℕ)) (rows whole : List Row) → max ≤ length rows → AreAdding table stored span t max keys rows whole → rows ≡ whole
-adding_full table stored span t max keys rows whole full are = let few = are.few in sym (take_at rows (rows_of table stored span (names_at t keys)) max (omega arith)) ∙ are.left
-
-pub adding_ends : (table : Table) (stored : Stored) (span : Span) (t max : ℕ) (keys : List (List ℕ)) (rows whole : List Row) → keys ≡ [] → AreAdding table stored span t max keys rows whole → rows ≡ whole
-adding_ends table stored span t max keys rows whole none are =
-    sym (ap (λ (ks : List (List ℕ)). take max (rows ++ rows_of table stored span (names_at t ks))) none ∙ ap (take max) (append-nil rows) ∙ take_all max rows are.few) ∙ are.left
-
-one_row : (stored : Stored) (v : VersionName) → length (row_of stored v) ≤ 1
-one_row stored v = one (version_at stored v.key v.ts)
-  where
-    one : (o : Option After) → length (row_with v o) ≤ 1
-    one None = omega arith
-    one (Some a) = omega arith
-
-pub adding_one : (table : Table) (stored : Stored) (span : Span) (t max : ℕ) (keys rest : List (List ℕ)) (x : List ℕ) (rows rows' whole : List Row) → committed_in (transaction_at table t) ≡ true → in_span span x ≡ true → (max ≤ length rows → ⊥)
-    → keys ≡ x ∷ rest → rows' ≡ rows ++ row_of stored (version_name x t) → AreAdding table stored span t max keys rows whole → AreAdding table stored span t max rest rows' whole
-adding_one table stored span t max keys rest x rows rows' whole done inside room next more are = record {
-  few = rw more (omega (arith, length-append rows (row_of stored (version_name x t)), one_row stored (version_name x t), room));
-  left =
-      ap (λ rs. take max (rs ++ rows_of table stored span (names_at t rest))) more
-      ∙ ap (take max) (append_assoc rows (row_of stored (version_name x t)) (rows_of table stored span (names_at t rest)))
-      ∙ sym (ap (λ (ks : List (List ℕ)). take max (rows ++ rows_of table stored span (names_at t ks))) next ∙ rw (done, inside) refl)
-      ∙ are.left;
-}
-
-pub adding_none : (table : Table) (stored : Stored) (span : Span) (t max : ℕ) (keys rest : List (List ℕ)) (x : List ℕ) (rows whole : List Row) → in_span span x ≡ false → keys ≡ x ∷ rest
-    → AreAdding table stored span t max keys rows whole → AreAdding table stored span t max rest rows whole
-adding_none table stored span t max keys rest x rows whole outside next are = record {
-  few = are.few;
-  left = sym (ap (λ (ks : List (List ℕ)). take max (rows ++ rows_of table stored span (names_at t ks))) next ∙ rw (outside, and-false (committed_in (transaction_at table t))) refl) ∙ are.left;
-}
 
 -- ---- the rows above a timestamp
 
@@ -235,9 +200,6 @@ beside_added table stored span ts through max key keys part rows rows' some low 
 
 -- ---- both
 
-pub added_few : (table : Table) (stored : Stored) (span : Span) (ts : ℕ) (key : Option (List ℕ)) (through max : ℕ) (rows rows' : List Row) → AreAdded table stored span ts key through max rows rows' → length rows' ≤ max
-added_few table stored span ts key through max rows rows' a = rw a.is (take_few max (rows ++ a.all))
-
 pub added_both : (table : Table) (stored : Stored) (span : Span) (ts : ℕ) (key : List ℕ) (through max : ℕ) (rows rows' rows'' : List Row) → AreAdded table stored span ts (Some key) (min ts through) max rows rows' → AreAdded table stored span ts None through max rows' rows''
     → AreAdded table stored span ts (Some key) through max rows rows''
 added_both table stored span ts key through max rows rows' rows'' b a = record {
@@ -260,10 +222,6 @@ added_both table stored span ts key through max rows rows' rows'' b a = record {
   };
   is = a.is ∙ ap (λ rs. take max (rs ++ a.all)) b.is ∙ take_again max (rows ++ b.all) a.all ∙ ap (take max) (append_assoc rows b.all a.all);
 }
-
--- what was added to none is the first
-pub next_of_none : (table : Table) (stored : Stored) (span : Span) (ts : ℕ) (key : Option (List ℕ)) (through max : ℕ) (rows rows' : List Row) → rows ≡ [] → AreAdded table stored span ts key through max rows rows' → AreNextRows table stored span ts key through max rows'
-next_of_none table stored span ts key through max rows rows' none a = record { all = a.all; are = a.are; first = a.is ∙ ap (λ rs. take max (rs ++ a.all)) none }
 
 -- nothing is above the end
 pub nothing_above : (table : Table) (stored : Stored) (span : Span) (ts through max : ℕ) (rows : List Row) → through ≤ ts → length rows ≤ max → AreAdded table stored span ts None through max rows rows

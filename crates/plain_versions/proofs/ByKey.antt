@@ -1,5 +1,5 @@
 -- What a walk over chains gives is what their keys give.
-use Rattle.std.proofs.Common.{◌≡◌, ℕ, true, false, cond, List, [], ◌∷◌, ◌++◌, Option, Some, None, refl, sym, ◌∙◌, ap, subst, inl, inr, arith}
+use Rattle.std.proofs.Common.{◌≡◌, ℕ, true, false, cond, List, [], ◌∷◌, Option, Some, None, refl, sym, ◌∙◌, ap, subst, inl, inr, arith}
 use Rattle.std.specs.Prelude.{bytes_eq, filter, unwrap_or}
 use Rattle.std.specs.Map.{lookup, keys_of}
 use Rattle.std.specs.BTreeMap.{is_at}
@@ -60,12 +60,6 @@ rows_are value span stored (e ∷ es) are = let more = rows_are value span store
 
 pub all_rows : (value : Chain → After) (span : Span) (stored : Stored) → RisingKeys (keys_of stored) → rows_of value (within span stored) ≡ pairs_of (λ x. value (versions_at stored x)) (filter (in_span span) (keys_of stored))
 all_rows value span stored r = rows_are value span stored stored (by_key stored r)
-
--- one more row
-pub row_more : (x : List ℕ) (a : After) (rows more : List (List ℕ × List ℕ)) → (rows ++ with_value x a []) ++ more ≡ rows ++ with_value x a more
-row_more x None [] more = refl
-row_more x (Some v) [] more = refl
-row_more x a (r ∷ rows) more = ap (λ l. r ∷ l) (row_more x a rows more)
 
 -- ---- the first that a key gives
 

@@ -17,18 +17,10 @@ use Rattle.spans.proofs.Steps.{by_test, same_key, key_itself}
 use Rattle.plain_versions.specs.Chains.{Stored, version_at, wrote, IsCleared, IsWritten}
 use Rattle.plain_versions.specs.Counting.{IsCountOf}
 use Rattle.plain_versions.specs.declared.written.Written.{Written}
-use Rattle.plain_versions.specs.Written.{is_among, is_listed, is_version, IsListedToo, IsUnlisted, IsTiedTo}
+use Rattle.plain_versions.specs.Written.{is_among, is_listed, is_version, IsListedToo, IsTiedTo}
 use Rattle.plain_versions.proofs.Changes.{other_way}
 
 -- ---- counts
-
-counted_alike : {A : Type 0} (f g : A → Bool) (n : ℕ) → ((x : A) → g x ≡ f x) → IsCountOf f n → IsCountOf g n
-counted_alike f g n same c = record {
-  all = c.all;
-  distinct = c.distinct;
-  each = λ x. (λ i. same x ∙ (c.each x).0 i, λ e. (c.each x).1 (sym (same x) ∙ e));
-  count = c.count;
-}
 
 -- one more passes
 counted_more : {A : Type 0} (f g : A → Bool) (n : ℕ) (y : A) → f y ≡ false → g y ≡ true → ((x : A) → f x ≡ true → g x ≡ true) → ((x : A) → g x ≡ true → (y ≡ x → ⊥) → f x ≡ true) → ((x : A) → (y ≡ x) ⊎ (y ≡ x → ⊥)) → IsCountOf f n → IsCountOf g (n + 1)
@@ -85,14 +77,6 @@ counted_keys stored keys t ordered listed = record {
   count = refl;
 }
 
-pub counted_none : (stored : Stored) (t : ℕ) → ((y : List ℕ) → false ≡ is_some (version_at stored y t)) → IsCountOf (wrote stored t) 0
-counted_none stored t none = record {
-  all = [];
-  distinct = tt;
-  each = λ x. (λ i. absurd i, λ e. both_ways _ (sym (none x)) e);
-  count = refl;
-}
-
 -- ---- the versions of t, by name
 
 is_of : ℕ → VersionName → Bool
@@ -130,32 +114,8 @@ of_keys stored t n c = record {
 
 -- ---- a write
 
-at_place : (es : Stored) (x : List ℕ) (t : ℕ) (y : List ℕ) (i : ℕ) → ((t == i) && bytes_eq x y) ≡ true → version_at es x t ≡ version_at es y i
-at_place es x t y i here =
-    let both = and_parts (t == i) (bytes_eq x y) here in
-    ap (λ z. version_at es z t) (same_key x y both.1) ∙ ap (version_at es y) (eqb-true t i both.0)
-
 written_some : (es fs : Stored) (x : List ℕ) (t : ℕ) (a : After) → IsWritten es fs x t a → (y : List ℕ) (i : ℕ) → is_some (version_at fs y i) ≡ (((t == i) && bytes_eq x y) || is_some (version_at es y i))
 written_some es fs x t a w y i = ap is_some (w.version y i) ∙ by_test ((t == i) && bytes_eq x y) (λ here. rw here refl) (λ off. rw off refl)
-
--- the chains are as they were, and so is the index
-pub tied_still : (es : Stored) (w w' : Written) (n : ℕ) → ((y : List ℕ) (i : ℕ) → is_listed w' y i ≡ is_listed w y i) → IsTiedTo es w n → IsTiedTo es w' n
-tied_still es w w' n same tied = record {
-  listed = λ y i. same y i ∙ tied.listed y i;
-  counted = tied.counted;
-}
-
--- a version took the place of one
-pub tied_replaced : (es fs : Stored) (w : Written) (x : List ℕ) (t n : ℕ) (a : After) → IsWritten es fs x t a → is_some (version_at es x t) ≡ true → IsTiedTo es w n → IsTiedTo fs w n
-tied_replaced es fs w x t n a written there tied = record {
-  listed = λ y i. tied.listed y i ∙ sym (same y i);
-  counted = counted_alike (is_version es) (is_version fs) n (λ v. same v.key v.ts) tied.counted;
-}
-  where
-    same : (y : List ℕ) (i : ℕ) → is_some (version_at fs y i) ≡ is_some (version_at es y i)
-    same y i = written_some es fs x t a written y i ∙ by_test ((t == i) && bytes_eq x y)
-        (λ here. rw here (sym (ap is_some (sym (at_place es x t y i here)) ∙ there)))
-        (λ off. rw off refl)
 
 -- a version came
 pub tied_more : (es fs : Stored) (w w' : Written) (x : List ℕ) (t n : ℕ) (a : After) → IsWritten es fs x t a → is_some (version_at es x t) ≡ false → IsListedToo w w' t x → IsTiedTo es w n → IsTiedTo fs w' (n + 1)
@@ -176,14 +136,6 @@ tied_more es fs w w' x t n a written none more tied = record {
   where
     name_is : (v : VersionName) → x ≡ v.key → t ≡ v.ts → version_name x t ≡ v
     name_is v e h = ap (λ k. version_name x k) h ∙ ap (λ y. version_name y v.ts) e
-
--- a key that was listed where it had no version is unlisted again
-pub listed_again : (es : Stored) (w w' w'' : Written) (x : List ℕ) (t n : ℕ) → is_some (version_at es x t) ≡ false → IsListedToo w w' t x → IsUnlisted w' w'' t x → IsTiedTo es w n → IsTiedTo es w'' n
-listed_again es w w' w'' x t n none more less tied = tied_still es w w'' n
-    (λ y i. less y i ∙ by_test ((t == i) && bytes_eq x y)
-    (λ here. rw here (sym (tied.listed y i ∙ ap is_some (sym (at_place es x t y i here)) ∙ none)))
-    (λ off. rw off (more y i ∙ rw off refl)))
-    tied
 
 -- ---- the versions of t went
 

@@ -1,5 +1,5 @@
 -- What a walk of the index counts.
-use Rattle.std.proofs.Common.{◌≡◌, ℕ, suc, ◌+◌, ◌-◌, ◌^◌, ◌<◌, ◌≤◌, ◌==◌, Bool, true, false, cond, ◌&&◌, List, [], ◌∷◌, ◌++◌, length, map, Option, Some, None, refl, sym, ◌∙◌, ap, subst, inl, inr, arith}
+use Rattle.std.proofs.Common.{◌≡◌, ℕ, suc, ◌+◌, ◌-◌, ◌^◌, ◌<◌, ◌≤◌, ◌==◌, Bool, true, false, ◌&&◌, List, [], ◌∷◌, ◌++◌, length, map, Option, Some, None, refl, sym, ◌∙◌, ap, subst, inl, inr, arith}
 use Rattle.std.specs.Prelude.{◌↔◌, filter, is_some, min, nat_le, nat_lt}
 use Rattle.std.specs.BTreeMap.{is_at}
 use Rattle.std.specs.BTreeSet.{BTreeSet, IsOrdered, contains}
@@ -16,7 +16,7 @@ use Rattle.spans.proofs.Members.{Has, AreDistinct, distinct_append, distinct_fil
 use Rattle.spans.proofs.Steps.{by_test, none_of}
 use Rattle.plain_versions.specs.Chains.{Stored, version_at}
 use Rattle.plain_versions.specs.Counting.{IsCountOf}
-use Rattle.plain_versions.specs.Dying.{ByKey, IsDeathCount, IsDeathCountAt, deaths_by, deletes, is_between, one_if, replaces}
+use Rattle.plain_versions.specs.Dying.{ByKey, IsDeathCount, IsDeathCountAt, deletes, is_between, replaces}
 use Rattle.plain_versions.specs.Written.{Listed, AreBetween, listed_in}
 use Rattle.plain_versions.proofs.Counted.{has_key}
 
@@ -37,16 +37,6 @@ counted_keys q keys ordered = record {
 -- so many of the keys pass either test, each test counted
 abbrev pub deaths_among : ByKey → ℕ → List (List ℕ) → ℕ
 deaths_among versions t keys = length (filter (λ x. deletes versions x t) keys) + length (filter (λ x. replaces versions x t) keys)
-
-pub deaths_more : (versions : ByKey) (t : ℕ) (x : List ℕ) (keys : List (List ℕ)) → deaths_among versions t (x ∷ keys) ≡ deaths_by versions x t + deaths_among versions t keys
-deaths_more versions t x keys = step (deletes versions x t) (replaces versions x t)
-  where
-    step : (b c : Bool) → length (cond b (x ∷ filter (λ y. deletes versions y t) keys) (filter (λ y. deletes versions y t) keys)) + length (cond c (x ∷ filter (λ y. replaces versions y t) keys) (filter (λ y. replaces versions y t) keys))
-        ≡ (one_if b + one_if c) + deaths_among versions t keys
-    step true true = omega arith
-    step true false = omega arith
-    step false true = omega arith
-    step false false = omega arith
 
 pub counted_at : (versions : ByKey) (t n : ℕ) (keys : BTreeSet (List ℕ)) → IsOrdered key_cmp keys → n ≡ min (deaths_among versions t keys.keys) (2 ^ 64 - 1) → IsDeathCountAt versions t keys n
 counted_at versions t n keys ordered is = record {

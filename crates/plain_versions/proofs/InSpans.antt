@@ -63,9 +63,6 @@ are_ahead span es r = record {
 
 -- ---- one step
 
-pub ahead_next : (low : Option (List ℕ)) (e : List ℕ × Chain) (es : Stored) → AreAhead low (e ∷ es) → AreAhead low es
-ahead_next low e es a = record { rising = a.rising.1; from = a.from.1 }
-
 pub step_inside : (span : Span) (e : List ℕ × Chain) (es : Stored) → AreAhead span.lo (e ∷ es) → length e.0 ≤ MAX_KEY_BYTES → below_high span.hi e.0 ≡ true → within span (e ∷ es) ≡ e ∷ within span es
 step_inside span e es a short below =
     let from : from_low span.lo e.0 ≡ true = a.from.0 short in

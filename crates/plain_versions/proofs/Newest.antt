@@ -1,8 +1,8 @@
 -- The newest version that a search of a chain finds.
-use Rattle.std.proofs.Common.{◌≡◌, ℕ, ◌<◌, ◌≤◌, ◌-◌, ◌==◌, ◌⊎◌, ◌&&◌, Bool, true, false, cond, not, Option, Some, None, refl, subst, inl, inr, arith}
+use Rattle.std.proofs.Common.{◌≡◌, ℕ, ◌<◌, ◌≤◌, ◌==◌, ◌&&◌, Bool, false, cond, not, Option, Some, None, refl, inl, inr, arith}
 use Rattle.std.specs.Prelude.{IsSome}
 use Rattle.std.specs.Ordering.{is_gt, is_lt, nat_cmp}
-use Rattle.std.proofs.lemmas.Bool.{cases_lt, ne_eqb}
+use Rattle.std.proofs.lemmas.Bool.{ne_eqb}
 use Rattle.std.proofs.lemmas.Bool.Decides.{nat_tests}
 use Rattle.spans.specs.Effects.{After}
 use Rattle.spans.specs.Newest.{Version as Seen, version_at as seen_at, newest, IsNewest}
@@ -10,7 +10,7 @@ use Rattle.spans.proofs.Steps.{newest_only}
 use Rattle.plain_versions.specs.declared.versions.LentVersion.{LentVersion}
 use Rattle.plain_versions.specs.Scans.{stopped_by}
 use Rattle.plain_versions.specs.Transactions.{Table, transaction_at, committed_in}
-use Rattle.plain_versions.specs.Versions.{Chain, version_in, settled, IsBestOf}
+use Rattle.plain_versions.specs.Versions.{Chain, settled, IsBestOf}
 
 -- k has the version a, and no other at or below t is above it
 pub newest_found : (f : ℕ → Option After) (t k : ℕ) (a : After) → 0 < k → is_gt (nat_cmp k t) ≡ false → f k ≡ Some a → ((i : ℕ) → is_gt (nat_cmp i t) ≡ false → IsSome (f i) → is_lt (nat_cmp k i) ≡ false) → IsNewest f t k a
@@ -43,49 +43,7 @@ pub record IsDownTo (table : Table) (versions : Chain) (t through : ℕ) : Type 
   pub low : through ≤ t
   pub none : (i : ℕ) → through < i → i ≤ t → settled table versions i ≡ None
 
-without_version : (table : Table) (versions : Chain) (k : ℕ) → version_in versions k ≡ None → settled table versions k ≡ None
-without_version table versions k none = joined (committed_in (transaction_at table k))
-  where
-    joined : (b : Bool) → cond b (version_in versions k) None ≡ None
-    joined true = none
-    joined false = refl
-
-none_down : (table : Table) (versions : Chain) (t through k : ℕ) (a : After) → IsDownTo table versions t through → IsNewest (version_in versions) through k a → (i : ℕ) → k < i → i ≤ t → settled table versions i ≡ None
-none_down table versions t through k a down newest i above below = elim (cases_lt through i) [
-  | inl over ↦ down.none i over below
-  | inr at ↦ without_version table versions i (newest.gap i above at)
 ]
-
-pub down_starts : (table : Table) (versions : Chain) (t : ℕ) → IsDownTo table versions t t
-down_starts table versions t = record { low = omega arith; none = λ i above below. absurd (omega arith) }
-
-pub down_more : (table : Table) (versions : Chain) (t through k : ℕ) (a : After) → IsDownTo table versions t through → IsNewest (version_in versions) through k a → 0 < k → committed_in (transaction_at table k) ≡ false
-    → IsDownTo table versions t (k - 1)
-down_more table versions t through k a down newest some open' = record {
-  low = omega (arith, down.low, newest.at_most);
-  none = λ i above below. elim (cases_lt k i) [
-    | inl over ↦ none_down table versions t through k a down newest i over below
-    | inr at ↦ (let same : k ≡ i = omega arith in subst (λ n. settled table versions n ≡ None) same (rw open' refl))
-  ];
-}
-
-pub down_found : (table : Table) (versions : Chain) (t through k : ℕ) (a : After) → IsDownTo table versions t through → IsNewest (version_in versions) through k a → 0 < k → committed_in (transaction_at table k) ≡ true
-    → IsNewest (settled table versions) t k a
-down_found table versions t through k a down newest some done = record {
-  at_most = omega (arith, down.low, newest.at_most);
-  gap = none_down table versions t through k a down newest;
-  has = inr (some, rw done (there newest.has));
-}
-  where
-    there : ((k ≡ 0) × (a ≡ None)) ⊎ ((0 < k) × (version_in versions k ≡ Some a)) → version_in versions k ≡ Some a
-    there has = elim has [ inl none ↦ absurd (omega (arith, none.0)) | inr one ↦ one.1 ]
-
-pub down_to_none : (table : Table) (versions : Chain) (t through : ℕ) → IsDownTo table versions t through → IsNewest (version_in versions) through 0 None → IsNewest (settled table versions) t 0 None
-down_to_none table versions t through down newest = record {
-  at_most = omega arith;
-  gap = none_down table versions t through 0 None down newest;
-  has = inl (refl, refl);
-}
 
 pub above_none : (k : ℕ) → (k ≡ 0 → ⊥) → 0 < k
 above_none k other = grind (arith, other)

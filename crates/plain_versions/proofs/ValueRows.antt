@@ -1,12 +1,11 @@
 -- The rows of what a span holds at a timestamp.
-use Rattle.std.proofs.Common.{◌≡◌, ℕ, ◌≤◌, Bool, true, false, cond, List, [], ◌∷◌, ◌++◌, length, take, Option, Some, None, refl, sym, ◌∙◌, ap, subst, inl, inr, append_assoc, arith}
+use Rattle.std.proofs.Common.{◌≡◌, ℕ, ◌≤◌, Bool, true, false, cond, List, [], ◌∷◌, ◌++◌, length, take, Option, Some, None, refl, sym, ◌∙◌, ap, subst, inl, inr, arith}
 use Rattle.std.specs.Prelude.{◌↔◌, is_some, nat_lt}
 use Rattle.std.specs.Map.{lookup, keys_of}
 use Rattle.std.specs.BTreeMap.{is_at}
 use Rattle.std.specs.Ordering.{is_lt}
 use Rattle.std.specs.declared.cmp.Ordering.TheVariants.{Less}
 use Rattle.std.proofs.lemmas.Bool.{and_from, both_ways, eq-eqb, or_right}
-use Rattle.std.proofs.lemmas.List.{length-append, take_all, take_at, append-nil}
 use Rattle.timestamps.specs.Bytes.{key_cmp}
 use Rattle.timestamps.specs.declared.row.Row.{Row}
 use Rattle.spans.specs.declared.span.Span.{Span}
@@ -149,29 +148,6 @@ values_are table stored span rest key t r same =
 pub record AreFilling (table : Table) (span : Span) (t max : ℕ) (es : Stored) (rows whole : List Row) : Type 0 where
   pub few : length rows ≤ max
   pub left : take max (rows ++ value_rows table span t es) ≡ whole
-
-pub filling_full : (table : Table) (span : Span) (t max : ℕ) (es : Stored) (rows whole : List Row) → max ≤ length rows → AreFilling table span t max es rows whole → rows ≡ whole
-filling_full table span t max es rows whole full f = let few = f.few in sym (take_at rows (value_rows table span t es) max (omega arith)) ∙ f.left
-
-pub filling_ends : (table : Table) (span : Span) (t max : ℕ) (es : Stored) (rows whole : List Row) → es ≡ [] → AreFilling table span t max es rows whole → rows ≡ whole
-filling_ends table span t max es rows whole none f =
-    sym (ap (λ (ds : Stored). take max (rows ++ value_rows table span t ds)) none ∙ ap (take max) (append-nil rows) ∙ take_all max rows f.few) ∙ f.left
-
-pub filling_one : (table : Table) (span : Span) (t max : ℕ) (es rest : Stored) (x : List ℕ) (vs : Chain) (a : After) (rows more whole : List Row) → in_span span x ≡ true → (max ≤ length rows → ⊥) → es ≡ (x, vs) ∷ rest → a ≡ value_of table vs t → more ≡ rows ++ value_row t x a
-    → AreFilling table span t max es rows whole → AreFilling table span t max rest more whole
-filling_one table span t max es rest x vs a rows more whole inside room next is added f = record {
-  few = rw added (omega (arith, length-append rows (value_row t x a), one_row a, room));
-  left =
-      ap (λ rs. take max (rs ++ value_rows table span t rest)) added
-      ∙ ap (take max) (append_assoc rows (value_row t x a) (value_rows table span t rest))
-      ∙ ap (λ b. take max (rows ++ (value_row t x b ++ value_rows table span t rest))) is
-      ∙ sym (ap (λ (ds : Stored). take max (rows ++ value_rows table span t ds)) next ∙ rw inside refl)
-      ∙ f.left;
-}
-  where
-    one_row : (b : After) → length (value_row t x b) ≤ 1
-    one_row None = omega arith
-    one_row (Some v) = omega arith
 
 pub filling_none : (table : Table) (span : Span) (t max : ℕ) (es rest : Stored) (x : List ℕ) (vs : Chain) (rows whole : List Row) → in_span span x ≡ false → es ≡ (x, vs) ∷ rest
     → AreFilling table span t max es rows whole → AreFilling table span t max rest rows whole

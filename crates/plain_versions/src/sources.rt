@@ -1,5 +1,5 @@
 //! What a scan is given, key by key.
-ghost use Rattle.std.specs.Prelude.{◌≡◌, ℕ, List, [], if◌then◌else◌, bytes_eq, IfOk, OnOk, OnErr};
+ghost use Rattle.std.specs.Prelude.{◌≡◌, ℕ, List, [], if◌then◌else◌, bytes_eq, IfOk, OnOk};
 ghost use Rattle.spans.specs.Newest.{newest};
 ghost use Rattle.plain_versions.specs.Sources.{source_at, AreSources};
 ghost use Rattle.plain_versions.specs.Versions.{version_in};

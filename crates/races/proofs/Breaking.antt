@@ -30,15 +30,6 @@ start_more : (es : List Event) (e f : Event) → start_of ((es ++ e ∷ []) ++ f
 start_more [] e f = refl
 start_more (x ∷ es) e f = refl
 
--- the first event alone
-pub alone : (events : List Event) → 0 < length events → IsUnbroken (take 1 events)
-alone [] some = absurd (omega arith)
-alone (e ∷ events) some = (refl, tt)
-
-pub none_broken : (events : List Event) → length events ≡ 0 → IsUnbroken events
-none_broken [] none = tt
-none_broken (e ∷ events) none = absurd (omega arith)
-
 -- the next event stands one place further
 pub goes_on : (events : List Event) (k : ℕ) (e f : Event) → suc k < length events → e ≡ get_or events k e → f ≡ get_or events (suc k) f → f.position ≡ e.position + 1 → IsUnbroken (take (suc k) events) → IsUnbroken (take (suc (suc k)) events)
 goes_on events k e f there at at' next h =

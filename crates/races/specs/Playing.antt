@@ -22,9 +22,6 @@ module _ {C : Ghosts Served Event} where
     pub unseen : seen s ≡ []
     pub none : mine s ≡ []
 
-  abbrev pub AllIdle : List (Seat Served Event C) → Type 0
-  AllIdle seats = (k : ℕ) (s : Seat Served Event C) → get_elem? seats k ≡ some s → IsIdle s
-
   -- the session of this seat ended: its calls were these commands, or a beginning of them where it was refused for want of positions
   pub record IsPlayed (db : Db) (seat : Seat Served Event C) (commands : List Cmd) (events : List Event) (spent : Bool) (after : Seat Served Event C) : Type 0 where
     pub own : IsOf db after

@@ -8,13 +8,6 @@ use Rattle.kept.specs.Marks.{AtMost, IsBetween}
 use Rattle.read_marks.specs.Readers.{AreAllBetween, IsBeyond, SplitsAt, is_kept, is_reader}
 use Rattle.read_marks.proofs.Splitting.{from_place, reader_is}
 
-pub none_above : (xs : List ℕ) (t at : ℕ) (to : Option ℕ) → SplitsAt xs t at → at ≡ length xs → IsBetween (is_reader xs) t to → ⊥
-none_above xs t at to p end b =
-    let c = (reader_is xs b.reader).0 b.mark in
-    let h : at ≤ c.0 = from_place xs t at c.0 b.reader p c.1 c.2 b.higher in
-    let lt : c.0 < length xs = c.1 in
-    omega arith
-
 -- the latest, where there is one
 module _ (xs : List ℕ) (x : ℕ) (is : slice_get xs (length xs - 1) ≡ Some x) where
   latest_inside : length xs - 1 < length xs
@@ -60,13 +53,6 @@ kept-turn t j false b is h = cc
 
 is-kept : (xs : List ℕ) (t j : ℕ) → t < j → is_reader xs j ≡ true → is_kept t xs j ≡ true
 is-kept xs t j above h = rw (lt-ltb t j above) h
-
--- one that is kept is beyond a number where one is above both that and what is forgotten
-pub beyond_is : (xs : List ℕ) (t to : ℕ) (b : Bool) → (b ≡ true) ↔ IsBetween (is_reader xs) (max t to) None → (b ≡ true) ↔ IsBeyond (is_kept t xs) (Some to)
-beyond_is xs t to b is = (
-  λ on. let r = is.0 on in let h : max t to < r.reader = r.higher in (r.reader, is-kept xs t r.reader (omega arith) r.mark, omega arith),
-  λ r. is.1 (let k = kept-turn t r.0 (nat_lt t r.0) (is_reader xs r.0) refl r.1 in record { reader = r.0; mark = k.1; higher = omega (arith, k.0, r.2); low = tt }),
-)
 
 beyond_or : (m : ℕ → Bool) (to : Option ℕ) (n : ℕ) → m n ≡ true → (IsBeyond m to → ⊥) → AtMost to n
 beyond_or m None n is none = tt

@@ -1,11 +1,10 @@
 -- A patch picks the keys that it holds; a list of patches that is made one by one; and a patch that holds no key.
-use Rattle.std.proofs.Common.{ℕ, List, [], ◌∷◌, ◌++◌, length, get_or, map, drop, drop-cons, add-one, append-nil, append_assoc, ◌+◌, Bool, true, false, not, ◌&&◌, ◌≡◌, ◌<◌, ◌≤◌, refl, sym, ap, ◌∙◌, arith, Option, Some, None}
+use Rattle.std.proofs.Common.{ℕ, List, [], ◌∷◌, length, get_or, Bool, true, false, not, ◌&&◌, ◌≡◌, ◌<◌, ◌≤◌, refl, sym, ap, ◌∙◌, arith, Option, Some, None}
 use Rattle.std.specs.Ordering.{is_le, is_lt, ordering_reverse}
 use Rattle.std.specs.declared.cmp.Ordering.{Ordering}
 use Rattle.std.specs.declared.cmp.Ordering.TheVariants.{Less, Equal, Greater}
 use Rattle.std.specs.Cmp.Lexicographic.{nat_list_cmp_total}
 use Rattle.timestamps.specs.Bytes.{key_cmp}
-use Rattle.std.proofs.Math.ListN.{drop_of_length-le}
 use Rattle.spans.specs.KeyOrder.{key_lt}
 use Rattle.read_marks.specs.Segments.{reaches}
 use Rattle.read_marks.specs.Patches.{AreEdited, holds}
@@ -42,14 +41,6 @@ holds_is_picks p x = ends-alike p p.hi x refl
 
 -- the next of what patches are made from, and the end of it
 module _ {X : Type 0} (f : X → Patch) (xs : List X) (i : ℕ) (made : List Patch) where
-  pub made_next : (item : X) → i < length xs → item ≡ get_or xs i item → made ++ map f (drop i xs) ≡ map f xs → (made ++ f item ∷ []) ++ map f (drop (i + 1) xs) ≡ map f xs
-  made_next item lt is before =
-      let next : drop i xs ≡ item ∷ drop (i + 1) xs = rw (add-one, drop-cons xs i item lt, ← is) refl in
-      append_assoc made (f item ∷ []) (map f (drop (i + 1) xs)) ∙ (sym (ap (λ ys. made ++ map f ys) next) ∙ before)
-
-  pub made_all : length xs ≤ i → made ++ map f (drop i xs) ≡ map f xs → made ≡ map f xs
-  made_all end before = sym (append-nil made) ∙ (sym (ap (λ ys. made ++ map f ys) (drop_of_length-le xs end)) ∙ before)
-
 -- a list of one
 pub only : {X : Type 0} (xs : List X) (x : X) → 1 ≤ length xs → length xs < 2 → x ≡ get_or xs 0 x → xs ≡ x ∷ []
 only [] x some few is = absurd (omega arith)

@@ -1,8 +1,7 @@
 //! The marks of all keys.
 ghost use Rattle.std.specs.Prelude.{◌≡◌, ◌↔◌, ◌<◌, ◌≤◌, ◌∷◌, [], ◌==◌, ◌&&◌, ◌||◌, ℕ, List, false, true, IsTrue, OnOk, OnErr, nat_lt};
-ghost use Rattle.std.specs.List.{Contains};
 ghost use Rattle.spans.specs.Keys.{in_span};
-ghost use Rattle.kept.specs.Marks.{IsBetween, IsPiece};
+ghost use Rattle.kept.specs.Marks.{IsBetween};
 ghost use Rattle.read_marks.specs.declared.piece.Piece.{Piece};
 ghost use Rattle.read_marks.specs.Readers.{AreAllBetween};
 ghost use Rattle.read_marks.specs.Marks.{AddsInside, AreApart, AreMarksEdited, HaveGaps, KeepsOutside, in_any, is_marked_in, marked_spans};

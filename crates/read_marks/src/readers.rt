@@ -1,5 +1,5 @@
 //! The readers of one segment.
-ghost use Rattle.std.specs.Prelude.{◌≡◌, ℕ, List, [], ◌<◌, ◌≤◌, ◌↔◌, IfOk, OnOk, OnErr, IsTrue, length, nat_lt, filter, take, drop, ◌++◌, ◌-◌, slice_get};
+ghost use Rattle.std.specs.Prelude.{◌≡◌, ℕ, List, [], ◌<◌, ◌≤◌, ◌↔◌, IfOk, OnOk, OnErr, IsTrue, length, nat_lt, filter, take, drop, ◌++◌, ◌-◌};
 ghost use Rattle.std.specs.List.Sorted.{IsNonDecreasing};
 ghost use Rattle.kept.specs.Marks.{IsBetween, IsPiece};
 ghost use Rattle.read_marks.specs.Readers.{AreAllBetween, IsBeyond, SplitsAt, is_kept, is_reader};

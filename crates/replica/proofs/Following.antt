@@ -115,10 +115,6 @@ faults_agree r (messages.Resolved t) s ms before =
 pub fault_is : (r : Replica) (m : Message) (f : Fault) → fault_in r m ≡ Some f → IsFaultAt r m (test_of f)
 fault_is r m f e s ms before = faults_agree r m s ms before ∙ ap tests_of e
 
--- a message without a fault has none
-pub fault_none : (r : Replica) (m : Message) → fault_in r m ≡ None → IsFaultAt r m None
-fault_none r m e s ms before = faults_agree r m s ms before ∙ ap tests_of e
-
 -- a resolved message without a fault is above what was resolved
 pub resolved_above : (r : Replica) (t : ℕ) → fault_in r (messages.Resolved t) ≡ None → r.resolved < t
 resolved_above r t none = above (nat_lt r.resolved t) (is_over r.last t) refl none

@@ -1,5 +1,5 @@
 -- What is listed after the keys of one value changed.
-use Rattle.std.proofs.Common.{◌≡◌, ℕ, Bool, true, false, cond, ◌&&◌, ◌||◌, List, [], Option, None, refl, sym, ◌∙◌, ap, subst}
+use Rattle.std.proofs.Common.{◌≡◌, ℕ, false, cond, ◌&&◌, ◌||◌, List, Option, refl, sym, ◌∙◌, ap, subst}
 use Rattle.std.specs.Prelude.{bytes_eq}
 use Rattle.std.specs.Map.{lookup}
 use Rattle.std.specs.BTreeMap.{BTreeMap, is_at}
@@ -42,24 +42,6 @@ pub listed_less : (es fs : Keyed) (x v : List ℕ) (w : Option (BTreeSet (List �
 listed_less es fs x v w put among y u = ap (λ o. is_among o y) (put u) ∙ by_test (bytes_eq v u)
     (λ here. rw (at_bytes v u, here) (among y ∙ ap (λ n. cond (bytes_eq x y) false (is_listed es y n)) (same_key v u here)))
     (λ there. rw (at_bytes v u, there) refl)
-
--- nothing is listed where no value has keys
-pub none_listed : (es : Keyed) → es ≡ [] → (x v : List ℕ) → is_listed es x v ≡ false
-none_listed es none x v = ap (λ l. is_listed l x v) none
-
--- where a value has no keys, taking one out changes nothing
-pub less_none : (es : Keyed) (x v : List ℕ) → lookup (is_at (key_cmp v)) es ≡ None → (y u : List ℕ) → is_listed es y u ≡ cond (bytes_eq v u && bytes_eq x y) false (is_listed es y u)
-less_none es x v none y u = by_test (bytes_eq v u)
-    (λ here. let out : is_listed es y u ≡ false = ap (λ n. is_listed es y n) (sym (same_key v u here)) ∙ ap (λ o. is_among o y) none in rw (here, out) (same (bytes_eq x y)))
-    (λ there. rw there refl)
-  where
-    same : (b : Bool) → false ≡ cond b false false
-    same true = refl
-    same false = refl
-
--- nothing changed
-pub listed_still : (m n k : BTreeMap (List ℕ) (BTreeSet (List ℕ))) → n ≡ k → k.entries ≡ m.entries → (y u : List ℕ) → is_listed n.entries y u ≡ is_listed m.entries y u
-listed_still m n k is same y u = ap (λ l. is_listed l.entries y u) is ∙ ap (λ es. is_listed es y u) same
 
 -- the keys of v are the same ones
 pub listed_same : (m n k : BTreeMap (List ℕ) (BTreeSet (List ℕ))) (v : List ℕ) (w : Option (BTreeSet (List ℕ))) → n ≡ k → ArePutAt m.entries k.entries v w → ((y : List ℕ) → is_among w y ≡ is_listed m.entries y v)

@@ -6,7 +6,7 @@ use Rattle.std.specs.BTreeMap.{is_at}
 use Rattle.timestamps.specs.Bytes.{key_cmp}
 use Rattle.replica.specs.Rows.{value_at}
 use Rattle.replica.specs.Values.{has_value}
-use Rattle.replica.proofs.Tied.{Lists, AreTied, IsMore, IsLess, IsPut, put_at, tied_new, tied_other, tied_back}
+use Rattle.replica.proofs.Tied.{Lists, AreTied, IsMore, IsLess, IsPut, put_at, tied_new, tied_other}
 
 abbrev pub Entries : Type 0
 Entries = List (List ℕ × List ℕ)
@@ -28,7 +28,3 @@ ties_other m n l f g own key a b same tied some apart changed more less =
     let some' : value_at m key ≡ Some b = subst (λ x. value_at m x ≡ Some b) same some in
     let apart' : bytes_eq b a ≡ false = ap (λ o. has_value o a) (sym some') ∙ apart in
     tied_other (value_at m) (value_at n) l f g key a b tied some' apart' (is_put m n own key (Some a) same changed) more less
-
-pub ties_back : (m n : Entries) (l f g : Lists) (own key a b : List ℕ) → own ≡ key → b ≡ a → n ≡ m → AreTied (value_at m) l → value_at m own ≡ None → IsMore l f key a → IsLess f g key b → AreTied (value_at n) g
-ties_back m n l f g own key a b same value still tied none more less = subst (λ es. AreTied (value_at es) g) (sym still)
-    (tied_back (value_at m) l f g key a tied (subst (λ x. value_at m x ≡ None) same none) more (subst (λ w. IsLess f g key w) value less))

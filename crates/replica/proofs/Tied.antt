@@ -61,15 +61,6 @@ tied_other m n l f g k a b tied some apart is more less x v = less x v ∙ ap (c
     let after : n x ≡ m x = is x ∙ rw there refl in
     rw (there, after, and-false (bytes_eq b v), and-false (bytes_eq a v)) (tied x v))
 
--- what was listed is taken out again
-pub tied_back : (m : Map) (l f g : Lists) (k a : List ℕ) → AreTied m l → m k ≡ None → IsMore l f k a → IsLess f g k a → AreTied m g
-tied_back m l f g k a tied none more less x v = less x v ∙ ap (cond (bytes_eq a v && bytes_eq k x) false) (more x v) ∙ by_test (bytes_eq k x)
-    (λ here.
-    let before : m x ≡ None = at_key m k x None none here in
-    let unlisted : l x v ≡ false = tied x v ∙ ap (λ o. has_value o v) before in
-    rw (here, before, unlisted, and-true (bytes_eq a v), or-false (bytes_eq a v)) (less_same (bytes_eq a v)))
-    (λ there. rw (there, and-false (bytes_eq a v)) (tied x v))
-
 pub tied_less : (m n : Map) (l g : Lists) (k b : List ℕ) → AreTied m l → m k ≡ Some b → IsPut m n k None → IsLess l g k b → AreTied n g
 tied_less m n l g k b tied some is less x v = less x v ∙ by_test (bytes_eq k x)
     (λ here.
@@ -79,18 +70,6 @@ tied_less m n l g k b tied some is less x v = less x v ∙ by_test (bytes_eq k x
     (λ there.
     let after : n x ≡ m x = is x ∙ rw there refl in
     rw (there, after, and-false (bytes_eq b v)) (tied x v))
-
--- the value that a key has is put there again
-pub put_same : (m : Map) (k a b : List ℕ) → m k ≡ Some b → bytes_eq b a ≡ true → IsPut m m k (Some a)
-put_same m k a b some same x = by_test (bytes_eq k x)
-    (λ here. rw here (at_key m k x (Some b) some here ∙ ap Some (same_key b a same)))
-    (λ there. rw there refl)
-
--- a key without a value is taken out
-pub put_none : (m : Map) (k : List ℕ) → m k ≡ None → IsPut m m k None
-put_none m k none x = by_test (bytes_eq k x)
-    (λ here. rw here (at_key m k x None none here))
-    (λ there. rw there refl)
 
 pub has_some : (o : Option (List ℕ)) (v : List ℕ) → (has_value o v ≡ true) ↔ (o ≡ Some v)
 has_some None v = (λ e. cc, λ e. cc)

@@ -1,5 +1,5 @@
 //! Values as the keys of an ordered map.
-ghost use Rattle.std.specs.Prelude.{◌≡◌, Some, refl, bytes_eq};
+ghost use Rattle.std.specs.Prelude.{Some, refl, bytes_eq};
 ghost use Rattle.std.specs.Cmp.{partial_equiv_from_equiv};
 ghost use Rattle.std.specs.Cmp.Lexicographic.{nat_list_eq_equiv, nat_list_cmp_total, texts_ties, texts_po};
 ghost use Rattle.timestamps.specs.Bytes.{key_cmp};

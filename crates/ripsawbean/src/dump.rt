@@ -1,6 +1,6 @@
 //! A dump of the database, piece by piece, as C asks for it.
 
-ghost use Rattle.std.specs.Prelude.{◌++◌, ◌≡◌, ◌≤◌, List, MatchResult, None, Some, IfOk, length, drop, take};
+ghost use Rattle.std.specs.Prelude.{◌≡◌, ◌≤◌, None, Some, IfOk, length, take};
 ghost use Rattle.embedded.specs.declared.dumping.DumpPiece.{DumpPiece};
 ghost use Rattle.ripsawbean.specs.Dumps.{HasKeyRoom, IsShownOrNot, IsTold, IsToldPiece, ToldDump, dump_fault, in_front, key_bytes, key_of, next_key, place_record};
 

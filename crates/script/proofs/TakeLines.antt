@@ -20,7 +20,7 @@ use Rattle.script.specs.declared.fault.TranscriptError.TheVariants as errors
 use Rattle.word_lines.proofs.ReadWords.{bind_ok, ok_is}
 use Rattle.script.specs.Lines.{Place, is_newline, lines_of}
 use Rattle.word_lines.specs.Reading.{◌>>=◌}
-use Rattle.script.specs.Transcripts.{Fault, Fails, TakesLines, at_line, first_of, next_at, many_at, following_at, event_at, events_at, body_at, Transcript, nothing_left, onto_left, left_within, left_at, outcome_of, outcome, HasHeader, left_of, TranscriptWants, WantsNext, IsFaulty, TakesEvent}
+use Rattle.script.specs.Transcripts.{Fault, Fails, TakesLines, at_line, first_of, next_at, many_at, following_at, event_at, events_at, body_at, Transcript, nothing_left, onto_left, left_within, left_at, outcome_of, outcome, HasHeader, left_of, TranscriptWants, WantsNext, TakesEvent}
 
 -- what was read before, and what is still read
 abbrev pub with_front : {A : Type 0} → List A → Result (List A × Place) Fault → Result (List A × Place) Fault
@@ -242,11 +242,6 @@ behind front left = outcome_of (front ++ left.events) left.fault
 -- one event more was read
 pub reads_more : (front : List Event) (e : Event) (left left' : Transcript) → (w : Bool) × (left ≡ record { events = e ∷ left'.events; fault = left'.fault; wants = w ∷ left'.wants }) → behind front left ≡ behind (front ++ e ∷ []) left'
 reads_more front e left left' is = ap (behind front) is.1 ∙ ap (λ (es : List Event). outcome_of es left'.fault) (sym (append_assoc front (e ∷ []) left'.events))
-
--- an event is faulty
-pub reads_fail : (error : TranscriptError) (front : List Event) (left : Transcript) (total : Result (List Event) Fault) → IsFaulty error left → total ≡ behind front left → Fails error total
-reads_fail errors.NoMemory front left total faulty so_far = tt
-reads_fail (errors.Fault line fault) front left total faulty so_far = so_far ∙ ap (behind front) faulty
 
 -- nothing is left
 pub reads_end : (front : List Event) (left : Transcript) (total : Result (List Event) Fault) → left ≡ nothing_left → total ≡ behind front left → total ≡ Ok front

@@ -1,15 +1,7 @@
 -- What waits in a block.
 use Rattle.std.proofs.Common.{◌≡◌, ℕ, ◌+◌, ◌-◌, ◌≤◌, zero, suc, List, [], ◌∷◌, ◌++◌, length, take, drop, arith, refl, ◌∙◌, sym, ap, subst, append_assoc}
 use Rattle.std.proofs.lemmas.List.{take-append-le, drop-take, drop-drop, length-take, length-take-le}
-use Rattle.std.proofs.Math.Seq.{take-append-add, take-append_seam}
-
--- the front stays, whatever stands behind it
-pub kept : (s e : ℕ) (xs rest : List ℕ) → s ≡ 0 → e ≤ length xs → take (e - s) (drop s (take e xs ++ rest)) ≡ take (e - s) (drop s xs)
-kept s e xs rest front within =
-    let l : length (take e xs) ≡ e = length-take-le e xs within in
-    let seam : take e (take e xs ++ rest) ≡ take e xs = subst (λ (n : ℕ). take n (take e xs ++ rest) ≡ take e xs) l (take-append_seam (take e xs) rest) in
-    let z : e - s ≡ e = omega arith in
-    rw (z, front) seam
+use Rattle.std.proofs.Math.Seq.{take-append-add}
 
 take_take : (k m : ℕ) (ys : List ℕ) → k ≤ m → take k (take m ys) ≡ take k ys
 take_take zero m ys le = refl

@@ -74,10 +74,6 @@ none_before bytes is =
       | inr h ↦ omega (arith, before_is bytes, h.1)
     ]
 
--- the newline stands among the bytes
-pub newline_within : (bytes : List ℕ) (at : ℕ) → Some at ≡ position is_newline bytes → at < length bytes
-newline_within bytes at is = (some_before bytes at is).1
-
 -- more bytes behind it leave the first newline where it is
 pub newline_stays : (xs ys : List ℕ) (at : ℕ) → Some at ≡ position is_newline xs → Some at ≡ position is_newline (xs ++ ys)
 newline_stays xs ys at is =

@@ -27,36 +27,17 @@ use Rattle.sessions.specs.Devices.{Reads, Writes}
 use Rattle.sessions.specs.declared.serving.Run.{Run}
 use Rattle.sessions.specs.declared.serving.Terms.{Terms}
 use Rattle.text_format.specs.declared.Format.{Format}
-use Rattle.text_format.specs.Limits.{header}
 use Rattle.sessions.specs.Waiting.{waiting, IsLine}
 use Rattle.sessions.specs.Writing.{HasTaken, HasBegun}
 use Rattle.sessions.specs.NextLines.{HasReadOn, IsSought}
 use Rattle.sessions.specs.Made.{HasMade, HasSpent}
 use Rattle.sessions.specs.Runs.{calls_of, NextWants, EndsBy, FailsBy}
-use Rattle.sessions.specs.Going.{IsGoing, IsStopped, IsFresh, kept_at}
+use Rattle.sessions.specs.Going.{IsGoing, IsStopped, kept_at}
 use Rattle.sessions.proofs.Goings.{behind, calls_more, text_more as events_more, part_of_text}
 use Rattle.sessions.proofs.Scripts as scripts
 
 few_seats : (config : Config) → SeatsInRange config → config.seats < 2 ^ 8
 few_seats config range = let low = range.1 in omega arith
-
--- ---- where it begins
-
-pub started : (r : Reads) (w : Writes) (run : Run) → IsFresh run → IsGoing r r w w run []
-started r w run f = record {
-  made = f.made;
-  first = f.first;
-  seats = f.seats;
-  in_range = f.in_range;
-  formatted = f.formatted;
-  read = sym (ap (λ (xs : List ℕ). r.given ++ xs) f.waits ∙ append-nil r.given);
-  found = λ e. absurd (let q = f.open_ended in cc);
-  calls = All-nil (IsCall run.terms.format run.terms.config.seats);
-  out = [];
-  wrote = sym (append-nil w.taken);
-  keeps = f.pending ∙ sym (append-nil (header run.terms.format));
-  worked = (refl, refl);
-}
 
 -- ---- where it stops as it is
 

@@ -1,10 +1,8 @@
 -- A transcript written event by event.
 use Rattle.std.proofs.Common.{◌≡◌, ◌<◌, ℕ, zero, suc, List, [], ◌∷◌, ◌++◌, drop, length, get_or, refl, sym, ap, ◌∙◌, append-nil, append_assoc, arith}
-use Rattle.text_format.specs.declared.Format.{Format}
-use Rattle.text_format.specs.Limits.{header}
 use Rattle.spans.specs.declared.calls.events.Event.{Event}
 use Rattle.word_lines.specs.Events.{event_text}
-use Rattle.script.specs.Transcripts.{events_text, transcript_text}
+use Rattle.script.specs.Transcripts.{events_text}
 use Rattle.sessions.specs.Writing.{HasTaken, HasBegun}
 
 dropped : {A : Type 0} (xs : List A) (at : ℕ) (x : A) → at < length xs → x ≡ get_or xs at x → drop at xs ≡ x ∷ drop (suc at) xs
@@ -15,11 +13,6 @@ dropped (y ∷ xs) (suc at) x low e = dropped xs at x (omega arith) e
 -- nothing was written
 pub nothing_taken : (taken bytes : List ℕ) → HasTaken taken taken bytes bytes
 nothing_taken taken bytes = record { part = []; took = sym (append-nil taken); left = refl }
-
--- the header is kept, and nothing is written yet
-pub header_kept : (format : Format) (taken : List ℕ) (events : List Event) (pending pending' : List ℕ) → pending ≡ [] → pending' ≡ pending ++ header format → HasTaken taken taken (transcript_text format events) (pending' ++ events_text events)
-header_kept format taken events pending pending' none grown =
-    record { part = []; took = sym (append-nil taken); left = ap (λ (p : List ℕ). p ++ events_text events) (sym (grown ∙ ap (λ (p : List ℕ). p ++ header format) none)) }
 
 -- the text of one event more is kept
 pub one_kept : (whole taken taken' : List ℕ) (events : List Event) (at next : ℕ) (event : Event) (pending pending' : List ℕ) → at < length events → event ≡ get_or events at event → next ≡ suc at → pending' ≡ pending ++ event_text event

@@ -1,5 +1,5 @@
 //! The callers of one database.
-ghost use Rattle.std.specs.Prelude.{◌≡◌, ◌≤◌, ◌<◌, ◌+◌, ◌++◌, [], ◌∷◌, List, length, vec_len, IfOk, IfErr, OnErr, OnOk};
+ghost use Rattle.std.specs.Prelude.{◌≡◌, ◌≤◌, ◌<◌, ◌+◌, [], List, length, vec_len, IfOk, IfErr, OnErr, OnOk};
 ghost use Rattle.shared_db.specs.Opening.{IsReason, SeatsInRange, RingInRange};
 ghost use Rattle.shared_db.specs.Seats.{first_of, seat_count};
 ghost use Rattle.spans.specs.declared.calls.events.Event.{Event};

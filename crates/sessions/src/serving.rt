@@ -1,5 +1,5 @@
 //! Serving a script: its calls are made in their order, and what happened is written.
-ghost use Rattle.std.specs.Prelude.{◌≡◌, ◌<◌, ◌≤◌, ℕ, vec_len, length, take, IfOk, IfErr, OnOk};
+ghost use Rattle.std.specs.Prelude.{◌≡◌, ◌<◌, ◌≤◌, vec_len, length, take, IfOk, IfErr, OnOk};
 ghost use Rattle.word_lines.specs.Commands.{command_line};
 ghost use Rattle.word_lines.specs.Limits.{IsCommand};
 ghost use Rattle.sessions.specs.Runs.{IsServed};

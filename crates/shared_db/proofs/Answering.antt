@@ -12,16 +12,13 @@ use Rattle.ticket_lock.specs.Seats.{number, seen, mine, known, met_spent, found,
 use Rattle.ticket_lock.specs.Turns.{HasTurn}
 use Rattle.shared_db.specs.declared.served.Served.{Served}
 use Rattle.shared_db.specs.History.{StandsFor, closed_after}
-use Rattle.shared_db.specs.Calls.{IsAnswered, IsReady, IsMade}
+use Rattle.shared_db.specs.Calls.{IsAnswered, IsMade}
 use Rattle.shared_db.specs.Standing.{legal_of, closed_is}
 use Rattle.shared_db.proofs.Turning.{others_only, none_of}
 
 module _ {C : Ghosts Served Event} where
   abbrev Turn : ℕ → Seat Served Event C → Served → ℕ → Seat Served Event C → Type 0
   Turn = HasTurn (λ (s : Served) (n : ℕ) (h : List Event). StandsFor s.engine.value n h) (λ (s : Served). closed_timestamp s.engine.value)
-
-  pub ready : (first : ℕ) (old turn : Seat Served Event C) (value : Served) (t : ℕ) → Turn first old value t turn → IsReady first value t turn
-  ready first old turn value t h = record { turn = h.ticket; stood = h.stood; place = h.place; unraised = h.unraised }
 
   pub answered : (first : ℕ) (old turn new : Seat Served Event C) (value : Served) (t : ℕ) (cmd : Cmd) (event : Event) → mine old ≡ of_seat (λ (e : Event). e.seat) (number old) (seen old) → Turn first old value t turn → IsSame turn new → IsMade first turn t cmd event new
       → IsAnswered first old cmd event new

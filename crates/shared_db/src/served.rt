@@ -1,5 +1,4 @@
 //! The engine as the lock keeps it.
-ghost use Rattle.std.specs.Prelude.{◌≡◌, ◌≤◌};
 
 use engine::Engine;
 use spans::calls::Event;

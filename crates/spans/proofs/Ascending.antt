@@ -1,5 +1,5 @@
 -- Rising keys, by std's word.
-use Rattle.std.proofs.Common.{List, inl, inr, refl, subst, sym, true, ℕ, ◌==◌, ◌≡◌, ◌∷◌, []}
+use Rattle.std.proofs.Common.{List, inl, inr, subst, sym, true, ℕ, ◌==◌, ◌≡◌, ◌∷◌, []}
 use Rattle.std.specs.List.{AllByRecursion}
 use Rattle.std.specs.List.Sorted.{IsStrictlySortedBy}
 use Rattle.std.specs.Ordering.{ordering_index}
@@ -7,15 +7,6 @@ use Rattle.std.specs.declared.cmp.Ordering.{Ordering}
 use Rattle.std.specs.declared.cmp.Ordering.TheVariants.{Equal, Greater, Less}
 use Rattle.timestamps.specs.Bytes.{key_cmp}
 use Rattle.spans.proofs.Keyed.{IsIn, RisingKeys}
-
-lower_than : (x : List ℕ) (keys : List (List ℕ)) → ((y : List ℕ) → IsIn y keys → key_cmp x y ≡ Less) → AllByRecursion (λ y. key_cmp x y ≡ Less) keys
-lower_than x [] all = tt
-lower_than x (y ∷ ys) all = (all y (inl refl), lower_than x ys (λ z i. all z (inr i)))
-
-pub strictly : (keys : List (List ℕ)) → RisingKeys keys → IsStrictlySortedBy key_cmp keys
-unfolding IsStrictlySortedBy
-strictly [] rising = tt
-strictly (x ∷ xs) rising = (lower_than x xs rising.0, strictly xs rising.1)
 
 lower : (x : List ℕ) (keys : List (List ℕ)) → AllByRecursion (λ y. key_cmp x y ≡ Less) keys → (y : List ℕ) → IsIn y keys → key_cmp x y ≡ Less
 lower x [] all y i = absurd i

@@ -1,6 +1,6 @@
 -- What a feed's list is: the map at the cursor first, where the feed is initial, and then the stream.
 use Rattle.std.proofs.Common.{◌≡◌, ℕ, zero, suc, ◌<◌, ◌≤◌, ◌-◌, ◌⊎◌, ◌==◌, Bool, true, false, cond, List, [], ◌∷◌, ◌++◌, map, Some, None, refl, sym, ◌∙◌, ap, inl, inr, arith, append_assoc}
-use Rattle.std.specs.Prelude.{◌↔◌, filter, is_some}
+use Rattle.std.specs.Prelude.{◌↔◌, is_some}
 use Rattle.std.specs.Ordering.{is_lt}
 use Rattle.std.proofs.lemmas.Bool.{and_from, or_left, or_right, lt-ltb, eq-eqb}
 use Rattle.std.proofs.lemmas.Bool.Decides.{nat_tests}
@@ -11,7 +11,7 @@ use Rattle.spans.specs.declared.kind.Kind.{Kind}
 use Rattle.spans.specs.Effects.{After, Effect, Writes, Commits}
 use Rattle.spans.specs.Transactions.{closed_of, is_committed}
 use Rattle.spans.specs.Versions.{written_keys}
-use Rattle.spans.specs.Serial.{Map, serial_run, map_at, span_part}
+use Rattle.spans.specs.Serial.{serial_run, map_at, span_part}
 use Rattle.spans.specs.Streams.{stream_of, pair_row, snapshot_rows}
 use Rattle.spans.specs.Feeds.{Feed, first_rows, list_of, start_at, start_of}
 use Rattle.spans.proofs.Steps.{by_test, map_at_is}
@@ -141,13 +141,6 @@ first_none kind p span c zeroth = by_test kind.initial
     no_pairs : (keys : List (List ℕ)) → pairs_of (span_part span (map_at p 0)) keys ≡ []
     no_pairs [] = refl
     no_pairs (x ∷ xs) = rw (no_value (in_span span x)) (no_pairs xs)
-
--- the pairs of a part of a map are those of its keys in the span
-part_pairs : (span : Span) (m n : Map) (keys : List (List ℕ)) → ((x : List ℕ) → m x ≡ n x) → pairs_of (span_part span m) keys ≡ pairs_of n (filter (in_span span) keys)
-part_pairs span m n [] same = refl
-part_pairs span m n (x ∷ xs) same = by_test (in_span span x)
-    (λ inside. rw inside (rw (same x, part_pairs span m n xs same) refl))
-    (λ out. rw out (part_pairs span m n xs same))
 
 -- the start is at or below the cursor
 pub start_low : (kind : Kind) (c : ℕ) → start_at kind c ≤ c

@@ -9,7 +9,7 @@ use Rattle.std.proofs.lemmas.List.Recursion.{is_position_or_len}
 use Rattle.std.proofs.lemmas.List.Splits.{slice_split-cons_yes, slice_split-cons_no, slice_split_first, length-slice_split}
 use Rattle.std.proofs.lemmas.Bool.{ltb-true, ltb-false, ne_eqb}
 use Rattle.spelled_words.specs.Words.{is_space, is_empty, is_printable, words, words_at, words_left}
-use Rattle.spelled_words.specs.declared.fault.LineFault.TheVariants.{BadByte, WordCount}
+use Rattle.spelled_words.specs.declared.fault.LineFault.TheVariants.{WordCount}
 
 -- how many bytes stand before the first space
 abbrev pub first_space : List ℕ → ℕ
@@ -141,15 +141,6 @@ pub printable_more : (text : List ℕ) (i : ℕ) (total : Bool) → i < length t
 printable_more text i total lt p so_far =
     let at = at_drop_more (list_all is_printable) text i 0 lt in
     ap (λ (x : Bool). x && list_all is_printable (drop (i + 1) text)) (sym p) ∙ sym at ∙ so_far
-
-pub not_printable : (text : List ℕ) (i : ℕ) (total : Bool) → i < length text → is_printable (get_or text i 0) ≡ false → list_all is_printable (drop i text) ≡ total → total ≡ false
-not_printable text i total lt p so_far =
-    let at = at_drop_more (list_all is_printable) text i 0 lt in
-    sym so_far ∙ at ∙ ap (λ (x : Bool). x && list_all is_printable (drop (i + 1) text)) p
-
-pub words_bad : (text : List ℕ) → list_all is_printable text ≡ false → words_at text ≡ Err BadByte
-unfolding words_at
-words_bad text e = rw e refl
 
 pub words_short : (text : List ℕ) → list_all is_printable text ≡ true → list_any is_empty (words text) ≡ true → words_at text ≡ Err WordCount
 unfolding words_at

@@ -1,5 +1,5 @@
 -- Two seats tell each other what they have seen.
-use Rattle.std.proofs.Common.{◌≡◌, ℕ, ◌≤◌, Bool, true, List, [], ◌∷◌, ◌++◌, max, set, get_or, sym, refl, ap, ◌∙◌, subst, arith, le_refl, true≢false, Option, Some, None}
+use Rattle.std.proofs.Common.{◌≡◌, ℕ, ◌≤◌, true, List, [], ◌∷◌, ◌++◌, max, set, get_or, sym, refl, ap, ◌∙◌, subst, arith, le_refl, true≢false, Option, Some, None}
 use Rattle.std.specs.List.{sum_by}
 use mathlib.Core.Option.{some-ne-none, none}
 use Rattle.atomic_table.specs.Table.{State, Me, Act, keeps, step, stepped, carried_after, Valid, Allows, Splits, Joins}
@@ -7,7 +7,7 @@ use Rattle.ticket_lock.specs.declared.rule.View.{View}
 use Rattle.ticket_lock.specs.declared.rule.Setup.{Setup}
 use Rattle.ticket_lock.specs.Lists.{longer}
 use Rattle.ticket_lock.specs.Views.{numbers, report, nobody, telling, report_of, hearing, caught_up}
-use Rattle.ticket_lock.specs.Rule.{Knows, Ordered}
+use Rattle.ticket_lock.specs.Rule.{Ordered}
 use Rattle.ticket_lock.specs.Steps.{compared}
 use Rattle.ticket_lock.proofs.ListFacts.{set_there, longer_starts, of_between}
 use Rattle.ticket_lock.proofs.Keeping.{at_words, unmoved, knows_looking, came_new, joined}
@@ -24,9 +24,6 @@ module _ {T E : Type 0} (stands : T → ℕ → List E → Type 0) (seat_of : E 
 
   abbrev Rule : St → Type 0
   Rule = Ordered stands seat_of floor_of key
-
-  abbrev K : (ticket serving floor : ℕ) → List E → Bool → (ℕ → ℕ) → ℕ → View E → Type 0
-  K = Knows seat_of key.first key.count
 
   pub compares : (slots id : ℕ) (me : M) → me.0.sits ≡ true → Allows Rule slots id me 1 (λ n. n) (compared seat_of (step slots 1 0 0 none) me)
   compares slots id me sits s r _ at _ = let v : View E = me.0 in let k = r.each id v at in let f = k.fits sits in let h : List E = r.history in let l = longer_starts h v.kept.seen v.heard k.sees k.heard in

@@ -4,7 +4,7 @@ use Rattle.std.specs.List.{sum_by}
 use Rattle.std.proofs.lemmas.List.Sums.{sum_by-append, sum_by-cons}
 use mathlib.Core.Option.{some, some-injective, some-ne-none, none}
 use lib.ListN.{get_elem?}
-use Rattle.atomic_table.specs.Table.{State, Me, Step, gives, step, homes_after, Allows, rest}
+use Rattle.atomic_table.specs.Table.{State, Me, gives, step, homes_after, Allows, rest}
 use Rattle.atomic_table.proofs.Lists.{at_snoc, at_map}
 use Rattle.ticket_lock.specs.declared.rule.SeatRecord.{SeatRecord}
 use Rattle.ticket_lock.specs.declared.rule.View.{View}
@@ -148,7 +148,3 @@ module _ {T E : Type 0} (stands : T → ℕ → List E → Type 0) (seat_of : E 
       (releases slots id (m.0, (0, Some y) ∷ rest m.1) t new said e y sits alone issued_all mine holds (ap (λ (l : List (ℕ × S)). (0, Some y) ∷ rest l) hand) up is names stood rises high)
 
   -- what a release leaves, by what was there before the value came into the slot
-  pub released_from : (st : Step S) (m m' m'' : M) (n : ℕ) (said : List E) (e : E) (y : T) → m' ≡ (m.0, (0, Some y) ∷ rest m.1) → m.1 ≡ (0, None) ∷ [] → said ≡ e ∷ [] → released seat_of floor_of said st m' n m''
-      → (m.0.kept.known ≤ floor_of y) × (m'' ≡ (ended m.0 (e ∷ []), [])) × (m.0.kept.mine ≡ of_seat seat_of m.0.kept.number m.0.found)
-  released_from st m m' m'' n said e y now hand is r = let r' = subst (λ (z : M). released seat_of floor_of said st z n m'') now r in
-      (r'.0 y (ap (λ (l : List (ℕ × S)). (0, Some y) ∷ rest l) hand), r'.1 ∙ (λ i. (ended m.0 (is i), rest (hand i))), r'.2)

@@ -1,7 +1,7 @@
 //! The single steps of a turn.
-ghost use Rattle.std.specs.Prelude.{◌≡◌, List, ◌≤◌, ◌<◌, ◌+◌, ◌-◌, ◌^◌, ◌++◌, [], ◌∷◌, length, true, false, Some, None, IfSome, IfNone, IfOk, IfErr};
-ghost use Rattle.ticket_lock.specs.Lists.{of_seat, StartsWith};
-ghost use Rattle.ticket_lock.specs.Views.{drawn, met_spent, looked, looking, holding, ended};
+ghost use Rattle.std.specs.Prelude.{◌≡◌, ◌≤◌, ◌<◌, ◌+◌, ◌-◌, ◌^◌, ◌++◌, [], ◌∷◌, true, false, Some, None, IfSome, IfNone, IfOk, IfErr};
+ghost use Rattle.ticket_lock.specs.Lists.{of_seat};
+ghost use Rattle.ticket_lock.specs.Views.{met_spent, looked, looking, ended};
 ghost use Rattle.ticket_lock.specs.declared.rule.Look.TheVariants.{Serving, Next};
 ghost use Rattle.ticket_lock.specs.Turns.{HasMetSpent};
 ghost use Rattle.ticket_lock.specs.Steps.{DeniedAt, Draws, DrawsServed, PutOffAt, HasDrawn, Took};

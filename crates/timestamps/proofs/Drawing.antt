@@ -4,14 +4,14 @@ use Rattle.std.specs.List.{sum_by, count_by, Contains}
 use Rattle.std.proofs.lemmas.Bool.{cases_lt}
 use Rattle.std.proofs.lemmas.List.Elements.{Contains-get_or}
 use Rattle.std.proofs.lemmas.List.Sums.{sum_by-append, sum_by-cons}
-use mathlib.Core.Option.{some, some-ne-none, none}
+use mathlib.Core.Option.{some, none}
 use mathlib.Core.Logic.{dite}
 use native.Mathlib.Decide.{ℕ_discrete}
 use lib.ListN.{get_elem?}
 use prog.Atomic.{either}
-use Rattle.atomic_table.specs.Table.{State, Act, keeps, step, stepped, carried_after, Valid, Allows, Splits, Joins, opening}
+use Rattle.atomic_table.specs.Table.{State, Act, keeps, step, stepped, carried_after, Valid, Allows, Splits, Joins}
 use Rattle.timestamps.specs.declared.blocks.Draws.{Draws}
-use Rattle.timestamps.specs.Blocks.{NoSlot, Sat, blocks_with, times_drawn, IsDrawnOnce, opener, nobody, newcomer, itself, without_drawn, only_drawn, borrowing, without_lent, only_lent, taking_back, loads, draws, Looks, DrawsNext, Compares}
+use Rattle.timestamps.specs.Blocks.{NoSlot, Sat, blocks_with, times_drawn, IsDrawnOnce, nobody, newcomer, itself, without_drawn, only_drawn, borrowing, without_lent, only_lent, taking_back, loads, draws, Looks, DrawsNext, Compares}
 use Rattle.timestamps.specs.Numbers.{AreApart}
 use Rattle.timestamps.proofs.Numbers.{counted_once}
 use Rattle.timestamps.proofs.Views.{sum_set, one_of_sum, each_set, each_more}
@@ -148,14 +148,3 @@ module _ (first : ℕ) where
   pub takes_back : (id other : ℕ) (v w : Draws) → v.drawn ≡ [] → w.lent ≡ [] → Joins Rule id v other w (taking_back v w) nobody
   takes_back id other v w none_left bare s r at apart there = joined s r id other v w (taking_back v w) at apart there (r.above id v at)
       (λ b. let f : ℕ → ℕ = λ x. cond (eqb x b) 1 0 in let y = ap (sum_by f) none_left in let z = ap (sum_by f) bare in omega (arith, sum_by-append f v.drawn v.lent, sum_by-append f w.drawn v.lent, sum_by-append f w.drawn w.lent))
-
-  pub opens : Rule (opening (first ∷ []) [] (opener first))
-  opens = record {
-    next = first;
-    words = refl;
-    begun = le_refl first;
-    above = each_more (λ u. u.loaded ≤ first) [] (opener first) (le_refl first) (λ j u e. absurd (some-ne-none u (sym e)));
-    once = λ b l u. absurd (omega arith);
-    earlier = λ b l. refl;
-    later = λ b l. refl;
-  }

@@ -1,5 +1,5 @@
 //! A search by halves for the place where timestamps above one begin.
-ghost use Rattle.std.specs.Prelude.{◌≡◌, ℕ, ◌+◌, ◌/◌, ◌≤◌, nat_le, if◌then◌else◌};
+ghost use Rattle.std.specs.Prelude.{◌≡◌, ◌+◌, ◌/◌, ◌≤◌, nat_le, if◌then◌else◌};
 ghost use Rattle.timestamps.specs.BinarySearch.{StillLeft};
 
 /// The places of a rising list that are left to search: `size` of them, from `low` on.

@@ -1,5 +1,5 @@
 -- What is found by key, where chains lie by number: after a chain changed, one came and one went.
-use Rattle.std.proofs.Common.{◌≡◌, ℕ, zero, suc, ◌<◌, ◌==◌, true, false, cond, List, [], ◌∷◌, ◌++◌, length, Option, Some, None, refl, sym, ◌∙◌, ap, subst, arith, eq-eqb}
+use Rattle.std.proofs.Common.{◌≡◌, ℕ, zero, suc, ◌<◌, ◌==◌, true, false, cond, List, [], ◌∷◌, length, Option, Some, None, refl, sym, ◌∙◌, ap, subst, arith, eq-eqb}
 use Rattle.std.specs.Prelude.{◌≢◌, bytes_eq, slice_index_or, slice_set}
 use Rattle.std.specs.BTreeMap.{is_at}
 use Rattle.std.proofs.lemmas.Bool.{both_ways}
@@ -48,21 +48,6 @@ set_at cs n vs low m = by_test (n == m)
     (λ same. let is : n ≡ m = grind (arith, nat_tests) in rw same (ap (λ k. slice_index_or (slice_set cs n vs) k []) (sym is) ∙ get_or-set_same cs n vs [] low))
     (λ other. let differs : m ≢ n = (λ e. grind (arith, nat_tests)) in rw other (get_or-set_other cs n m vs [] differs))
 
-pub pushed_at : (cs : Lists) (vs : List Version) → IsPutAt cs (cs ++ vs ∷ []) (length cs) vs
-pushed_at cs vs m = by_test (length cs == m)
-    (λ same. let is : length cs ≡ m = grind (arith, nat_tests) in rw same (ap (λ k. slice_index_or (cs ++ vs ∷ []) k []) (sym is) ∙ at_end cs))
-    (λ other. let differs : m ≢ length cs = (λ e. grind (arith, nat_tests)) in rw other (before cs m differs))
-  where
-    at_end : (bs : Lists) → slice_index_or (bs ++ vs ∷ []) (length bs) [] ≡ vs
-    at_end [] = refl
-    at_end (b ∷ bs) = at_end bs
-
-    before : (bs : Lists) (k : ℕ) → k ≢ length bs → slice_index_or (bs ++ vs ∷ []) k [] ≡ slice_index_or bs k []
-    before [] zero differs = absurd (differs refl)
-    before [] (suc k) differs = refl
-    before (b ∷ bs) zero differs = refl
-    before (b ∷ bs) (suc k) differs = before bs k (λ e. differs (ap suc e))
-
 at_it : (cs ds : Lists) (n : ℕ) (vs : List Version) → IsPutAt cs ds n vs → slice_index_or ds n [] ≡ vs
 at_it cs ds n vs put = let same : (n == n) ≡ true = eq-eqb n n refl in put n ∙ rw same refl
 
@@ -105,40 +90,6 @@ kept_put ns ms cs ds x n vs kept numbered put some y m is none = by_test (n == m
 
 pub kept_but : (ns : Numbered) (cs ds : Lists) (n : ℕ) (vs : List Version) → AreKept ns cs → IsPutAt cs ds n vs → AreKeptBut ns ds n
 kept_but ns cs ds n vs kept put y m is differs none = kept y m is (sym (at_other cs ds n m vs put differs) ∙ none)
-
--- ---- a number without versions is freed
-
-same_at : (cs ds : Lists) (n : ℕ) → IsPutAt cs ds n [] → slice_index_or cs n [] ≡ [] → (m : ℕ) → slice_index_or ds m [] ≡ slice_index_or cs m []
-same_at cs ds n put empty m = put m ∙ by_test (n == m)
-    (λ same. let is : n ≡ m = grind (arith, nat_tests) in rw same (sym empty ∙ ap (λ k. slice_index_or cs k []) is))
-    (λ other. rw other refl)
-
-pub found_freed : (ns ms : Numbered) (cs ds : Lists) (x : List ℕ) (n : ℕ) → IsNumberedAt ns ms x None → number_in ns x ≡ Some n → IsPutAt cs ds n [] → slice_index_or cs n [] ≡ []
-    → (y : List ℕ) → chain_by ms ds y ≡ chain_by ns cs y
-found_freed ns ms cs ds x n numbered is put empty y = by_test (bytes_eq x y)
-    (λ here.
-    let gone : number_in ms y ≡ None = numbered y ∙ rw here refl in
-    ap (chain_at ds) gone ∙ sym (ap (chain_by ns cs) (sym (same_key x y here)) ∙ ap (chain_at cs) is ∙ empty))
-    (λ there.
-    let stays : number_in ms y ≡ number_in ns y = numbered y ∙ rw there refl in
-    by_number (number_in ms y) ∙ ap (chain_at cs) stays)
-  where
-    by_number : (o : Option ℕ) → chain_at ds o ≡ chain_at cs o
-    by_number None = refl
-    by_number (Some m) = same_at cs ds n put empty m
-
-pub kept_freed : (ns ms : Numbered) (cs ds : Lists) (x : List ℕ) (n : ℕ) → IsNumberedAt ns ms x None → IsOwn ns x n → IsPutAt cs ds n [] → slice_index_or cs n [] ≡ [] → AreKeptBut ns cs n → AreKept ms ds
-kept_freed ns ms cs ds x n numbered own put empty kept y m is none = by_test (bytes_eq x y)
-    (λ here. (let no : None ≡ Some m = sym (numbered y ∙ rw here refl) ∙ is in cc))
-    (λ there.
-    let was : number_in ns y ≡ Some m = sym (numbered y ∙ rw there refl) ∙ is in
-    let differs : m ≢ n = (λ e. both_ways _ there (ap (bytes_eq x) (own y (was ∙ ap Some e)) ∙ key_itself x)) in
-    kept y m was differs (sym (same_at cs ds n put empty m) ∙ none))
-
-pub kept_all : (ns : Numbered) (cs : Lists) (n : ℕ) → (slice_index_or cs n [] ≡ [] → ⊥) → AreKeptBut ns cs n → AreKept ns cs
-kept_all ns cs n some kept y m is = by_test (n == m)
-    (λ same. let e : n ≡ m = grind (arith, nat_tests) in subst (λ k. slice_index_or cs k [] ≡ [] → ⊥) e some)
-    (λ other. kept y m is (λ e. grind (arith, nat_tests)))
 
 -- ---- of a whole store
 

@@ -67,10 +67,6 @@ filtered_twice p q (e ∷ es) more = by_test (q e.0)
     (λ passes. (let no : true ≡ false = sym (more e.0 passes) ∙ off in cc))
     (λ fails. rw (off, fails) (filtered_twice p q es more)))
 
-all_pass : (p : List ℕ → Bool) (es : List Entry) → ((x : List ℕ) → IsIn x (keys_of es) → p x ≡ true) → filter (λ (e : Entry). p e.0) es ≡ es
-all_pass p [] passes = refl
-all_pass p (e ∷ es) passes = rw (passes e.0 (inl refl)) (ap (λ ds. e ∷ ds) (all_pass p es (λ x i. passes x (inr i))))
-
 -- each entry that is left passes
 pub passes_among : (p : List ℕ → Bool) (es done rest : List Entry) (e : Entry) → filter (λ (d : Entry). p d.0) es ≡ done ++ e ∷ rest → p e.0 ≡ true
 passes_among p [] [] rest e is = (let no : [] ≡ e ∷ rest = is in cc)
@@ -148,9 +144,6 @@ from_numbered low start ns ms cs begins those r kept =
     (from_start low (entries_of ns cs) (subst RisingKeys (sym (keys_numbered ns cs)) r) (filled_numbered ns cs r kept))
 
 -- ---- one step
-
-pub ahead_next : (low : Option (List ℕ)) (e : Entry) (es : List Entry) → AreAhead low (e ∷ es) → AreAhead low es
-ahead_next low e es a = record { rising = a.rising.1; behind = a.behind.1; filled = a.filled.1 }
 
 pub step_inside : (span : Span) (e : Entry) (es : List Entry) → AreAhead span.lo (e ∷ es) → length e.0 ≤ MAX_KEY_BYTES → below_high span.hi e.0 ≡ true
     → filter (λ (d : Entry). in_span span d.0) (e ∷ es) ≡ e ∷ filter (λ (d : Entry). in_span span d.0) es

@@ -87,7 +87,3 @@ is_least vs t n v r p lt is =
           let other : (get_or vs n d).ts ≡ (get_or vs n v).ts = same_ts vs n d v lt in
           grind (arith, below, at, above));
     }
-
--- what is read at a place
-pub is_read : {us vs : List Version} (k : ℕ) (d : Version) → us ≡ vs → k < length vs → get_or us k d ≡ get_or vs k (get_or us k d)
-is_read {us} {vs} k d same lt = ap (λ ws. get_or ws k d) same ∙ get_or_default vs k d (get_or us k d) lt

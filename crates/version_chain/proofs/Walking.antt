@@ -11,7 +11,6 @@ use Rattle.std.specs.List.Sorted.{IsStrictlySortedBy}
 use Rattle.std.proofs.lemmas.Bool.{both_ways, cases_lt, lt-ltb, ltb-true, false_from_ne_true}
 use Rattle.std.proofs.lemmas.Bool.Decides.{nat_tests}
 use Rattle.std.proofs.lemmas.Cmp.{ranked}
-use Rattle.std.proofs.lemmas.List.{append-nil}
 use Rattle.timestamps.specs.Bytes.{key_cmp}
 use Rattle.spans.specs.KeyOrder.{key_lt}
 use Rattle.spans.proofs.Keyed.{IsIn, RisingKeys, filter_in, filter_rises}
@@ -60,9 +59,6 @@ pub record ArePassed (s : Stored) (t : ℕ) (keys unseen : List (List ℕ)) : Ty
   pub split : keys ≡ passed ++ unseen
   pub none : IsNoneAmong s passed t
 
-pub passes_none : (s : Stored) (t : ℕ) (keys : List (List ℕ)) → ArePassed s t keys keys
-passes_none s t keys = record { passed = []; split = refl; none = λ y i. absurd i }
-
 pub passes_one : (s : Stored) (t : ℕ) (keys : List (List ℕ)) (x : List ℕ) (unseen : List (List ℕ)) → is_committed_in s x t ≡ false → ArePassed s t keys (x ∷ unseen) → ArePassed s t keys unseen
 passes_one s t keys x unseen none are = record {
   passed = are.passed ++ x ∷ [];
@@ -72,9 +68,6 @@ passes_one s t keys x unseen none are = record {
     | inr last ↦ elim last [ inl here ↦ subst (λ k. is_committed_in s k t ≡ false) here none | inr there ↦ absurd there ]
   ];
 }
-
-pub passes_all : (s : Stored) (t : ℕ) (keys unseen : List (List ℕ)) → ArePassed s t keys unseen → unseen ≡ [] → IsNoneAmong s keys t
-passes_all s t keys unseen are none = subst (λ l. IsNoneAmong s l t) (sym (are.split ∙ ap (λ l. are.passed ++ l) none ∙ append-nil are.passed)) are.none
 
 pub meets : (s : Stored) (t : ℕ) (keys : List (List ℕ)) (x : List ℕ) (unseen : List (List ℕ)) (v : Version) → RisingKeys keys → IsCommittedAt s x t v → ArePassed s t keys (x ∷ unseen) → IsFirstAmong s keys t x v
 meets s t keys x unseen v rising is are = record {
@@ -124,11 +117,6 @@ is_first_between index a b t keys es rest listed are is =
         | inr there ↦ (let over = listed_above t b rest first.2 y i there in omega arith)
       ]);
     }
-
--- a lower bound is one too
-pub between_lower : (a c b : ℕ) (es : Keyed) → a < c → AreBetween c b es → AreBetween a b es
-between_lower a c b [] low are = tt
-between_lower a c b (e ∷ es) low are = ((let above = are.0 in omega arith), are.1, are.2)
 
 -- what a range of an ordered map has
 pub are_between : (a b : ℕ) (es : Keyed) → IsStrictlySortedBy nat_cmp (keys_of es) → AreBetween a b (filter (λ (e : ℕ × List (List ℕ)). range_contains nat_cmp (Excluded a) (Included b) e.0) es)

@@ -1,5 +1,5 @@
 -- Words with one space between two.
-use Rattle.std.proofs.Common.{◌≡◌, ℕ, ◌+◌, ◌-◌, ◌<◌, ◌≤◌, List, [], ◌∷◌, ◌++◌, length, take, refl, ap, ◌∙◌, sym, append_assoc, Some, None, arith}
+use Rattle.std.proofs.Common.{◌≡◌, ℕ, ◌+◌, ◌-◌, ◌<◌, List, [], ◌∷◌, ◌++◌, length, take, refl, ap, ◌∙◌, sym, append_assoc, Some, None, arith}
 use Rattle.std.proofs.lemmas.List.{length-append, take_at}
 use Rattle.std.specs.Prelude.{codes, decimal}
 use Rattle.spans.specs.declared.calls.commands.Cmd.{Cmd}
@@ -116,9 +116,6 @@ event_written out a b c d e f p s cmd r ea eb ec ed ee ef =
 -- a command's line is its text and a newline
 pub line_length : (line : List ℕ) (seat : ℕ) (cmd : Cmd) → line ≡ command_line seat cmd → length line ≡ length (joined (decimal seat ∷ words_of cmd)) + 1
 line_length line seat cmd is = ap length is ∙ length-append (joined (decimal seat ∷ words_of cmd)) (10 ∷ [])
-
-pub some_line : (line : List ℕ) (seat : ℕ) (cmd : Cmd) → line ≡ command_line seat cmd → 1 ≤ length line
-some_line line seat cmd is = omega (arith, line_length line seat cmd is)
 
 -- the text of a line is its session and its command's words
 text_of_line : (line : List ℕ) (seat : ℕ) (cmd : Cmd) → line ≡ command_line seat cmd → take (length line - 1) line ≡ decimal seat ++ 32 ∷ joined (words_of cmd)

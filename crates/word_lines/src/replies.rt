@@ -1,6 +1,6 @@
 //! Replies as text: a line of words, and the lines that follow it.
 
-ghost use Rattle.std.specs.Prelude.{◌≡◌, ◌++◌, ◌∷◌, OnOk, OnErr};
+ghost use Rattle.std.specs.Prelude.{◌≡◌, ◌++◌, OnOk, OnErr};
 ghost use Rattle.word_lines.specs.Writing.{Keeps};
 ghost use Rattle.word_lines.specs.Commands.{joined};
 ghost use Rattle.word_lines.specs.Messages.{message_line};
