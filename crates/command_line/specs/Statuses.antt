@@ -1,5 +1,5 @@
 -- The exit status that each end leaves the caller of the program (this project).
-use Rattle.std.specs.Prelude.{ℕ, ◌≢◌, ◌==◌, if◌then◌else◌, Option, Some}
+use Rattle.std.specs.Prelude.{ℕ, ◌≡◌, ◌≢◌, ◌⊎◌, ◌==◌, if◌then◌else◌, Option, Some}
 use Rattle.clap.specs.declared.error.kind.ErrorKind.{ErrorKind}
 use Rattle.clap.specs.declared.error.kind.ErrorKind.TheVariants as kinds
 use Rattle.jobs.specs.declared.ending.End.{End}
@@ -30,3 +30,7 @@ status_of_follower _ = 1
 -- words were refused: clap answered them neither with help nor with the version
 abbrev pub IsRefusal : ErrorKind → Type 0
 IsRefusal kind = (kind ≢ kinds.DisplayHelp) × (kind ≢ kinds.DisplayVersion)
+
+-- words were answered with help or with the version
+abbrev pub IsShown : ErrorKind → Type 0
+IsShown kind = (kind ≡ kinds.DisplayHelp) ⊎ (kind ≡ kinds.DisplayVersion)

@@ -1,8 +1,8 @@
 //! What the program leaves its caller: an exit status, and a sentence where there is more to say.
-ghost use Rattle.std.specs.Prelude.{◌≡◌};
+ghost use Rattle.std.specs.Prelude.{◌≡◌, ◌⊎◌};
 ghost use Rattle.std.specs.Process.{exit_status};
 ghost use Rattle.clap.specs.Values.{kind_of};
-ghost use Rattle.command_line.specs.Statuses.{IsRefusal, status_of, status_of_follower};
+ghost use Rattle.command_line.specs.Statuses.{IsRefusal, IsShown, status_of, status_of_follower};
 
 use crate::sentences::{MEMORY, NO_SCAN, OUTPUT, Sentence, sentence_of, sentence_of_follower};
 use clap::Error;
@@ -104,9 +104,11 @@ fn faulty_seed(rt: &impl Eprint, line: u64) -> ExitCode
 }
 
 /// The exit status of a command line that asks for no run: for help or the version, which is printed, or for what
-/// the program doesn't do. `hint` is what the caller may have meant, and is told behind the refusal.
+/// the program doesn't do. Help and the version leave 0, or 1 where they can't be printed. `hint` is what the caller
+/// may have meant, and is told behind the refusal.
 pub fn refused<R: Print + Eprint>(rt: &R, error: &Error, hint: Option<&str>) -> ExitCode
-    ensures { IsRefusal (kind_of error.now) → exit_status result ≡ 1 }
+    ensures refusal { IsRefusal (kind_of error.now) → exit_status result ≡ 1 }
+    ensures shown { IsShown (kind_of error.now) → (exit_status result ≡ 0) ⊎ (exit_status result ≡ 1) }
 {
     let printed = error.print(rt);
     if error.exit_code() != 0 {

@@ -1,5 +1,5 @@
 -- Rings, and the rows that a closing releases, along a legal history.
-use Rattle.std.proofs.Common.{Bool, List, Some, [], arith, drop, false, inl, inr, refl, subst, sym, true, ℕ, ◌∙◌, ◌∷◌, ◌≡◌, ◌≤◌}
+use Rattle.std.proofs.Common.{Bool, List, None, Some, [], ap, arith, cond, drop, false, inl, inr, refl, subst, sym, true, ℕ, ◌∙◌, ◌∷◌, ◌≡◌, ◌≤◌}
 use Rattle.std.specs.Prelude.{max}
 use Rattle.timestamps.specs.declared.row.Row.{Row}
 use Rattle.spans.specs.declared.kind.Kind.{Kind}
@@ -9,17 +9,20 @@ use Rattle.spans.specs.Kept.{IsKeptOf, Kept, Place, place_with}
 use Rattle.spans.specs.Legal.{IsLegal, IsRightEvent}
 use Rattle.spans.specs.Streams.{stream_of}
 use Rattle.spans.specs.Transactions.{closed_of, is_committed}
-use Rattle.spans.specs.Versions.{write_of}
+use Rattle.spans.specs.Versions.{committed_version_of, write_of}
 use Rattle.spans.specs.declared.calls.events.Event.{Event}
 use Rattle.spans.specs.declared.calls.messages.Message.{Message}
 use Rattle.spans.specs.declared.span.Span.{Span}
 use Rattle.spans.proofs.Copies.{AllAllowed, Allowed}
 use Rattle.spans.proofs.Horizon.{horizon_low}
+use Rattle.spans.proofs.Steps.{version_wrote}
+use Rattle.spans.proofs.StreamOrder.{in_stream, stream_rises}
 use Rattle.spans.proofs.Legal.{legal_allowed, right_allowed}
 use Rattle.kept.specs.Places.{AreLeft}
 use Rattle.kept.specs.Rings.{AreCommittedBetween, AreOffered, AreOthersSame, AreRings, IsClosing, is_quiet, whole}
 use Rattle.kept.specs.StandsFor.{StandsFor}
 use Rattle.kept.proofs.Floors.{place_at, placed_by}
+use Rattle.kept.proofs.Dead.{committed_stands, kept_above, kept_is}
 use Rattle.kept.proofs.Polling.{left_are}
 use Rattle.kept.proofs.RingRows.{rings_after_closes, rings_after_opens, rings_after_polls, rings_stay, untold_closes, untold_hard_closes}
 
@@ -73,6 +76,27 @@ rings_live k h ring ring' behind behind' stands rings fewer f feed is live up =
 -- rings after everything else
 pub rings_others : (h : List Event) (e : Event) (ring : ℕ → List Row) (behind : ℕ → Bool) → IsLegal h → IsRightEvent (effects_of h) e → is_quiet (effect_of e) ≡ true → AreRings ring behind (effects_of h) → AreRings ring behind (effects_of (e ∷ h))
 rings_others h e ring behind legal right quiet rings = rings_stay (effects_of h) (effect_of e) (legal_allowed h legal) (right_allowed (effects_of h) e right) quiet ring behind rings
+
+-- what stands above the old closed timestamp is what a closing through n releases
+released : (k : Kept) (p q : List Effect) (n : ℕ) → AllAllowed q → IsKeptOf k q → horizon_of q ≤ closed_of p → ((t : ℕ) → is_committed q t ≡ is_committed p t) → ((t : ℕ) (x : List ℕ) → write_of q t x ≡ write_of p t x)
+    → AreCommittedBetween k.version k.committed (closed_of p) n (stream_of p whole (closed_of p) n)
+released k p q n all fits low same wrote = record {
+  rising = stream_rises p whole (closed_of p) n;
+  each = λ r. let s = in_stream p whole (closed_of p) n r in (
+    λ i. let m = s.0 i in
+        let done : is_committed q r.ts ≡ true = same r.ts ∙ m.done in
+        let was : committed_version_of q r.key r.ts ≡ Some r.after = ap (λ b. cond b (write_of q r.ts r.key) None) done ∙ wrote r.ts r.key ∙ m.wrote in
+        let is : k.version r.key r.ts ≡ Some r.after = fits.versions r.key r.ts ∙ kept_above q r.key r.ts (omega (arith, low, m.above)) ∙ committed_stands q all r.key r.ts r.after was in
+        (is, fits.committed r.key r.ts r.after is ∙ done, m.above, m.low),
+    λ i. s.1 (record {
+      above = i.2;
+      low = i.3;
+      done = sym (same r.ts) ∙ sym (fits.committed r.key r.ts r.after i.0) ∙ i.1;
+      inside = refl;
+      wrote = sym (wrote r.ts r.key) ∙ (version_wrote q r.key r.ts r.after (kept_is q r.key r.ts r.after (sym (fits.versions r.key r.ts) ∙ i.0))).1;
+    }),
+  );
+}
 
 -- which is a closing of either kind
 pub released_by : (k : Kept) (p : List Effect) (d : Effect) (n : ℕ) → AllAllowed (d ∷ p) → IsKeptOf k (d ∷ p) → IsClosing d n → AreCommittedBetween k.version k.committed (closed_of p) n (stream_of p whole (closed_of p) n)

@@ -9,7 +9,7 @@
 //! racing      sessions held by gates, so that one transcript alone is right
 //! together    threads that call at once, and the engine that comes back with all their seats
 //! apart       threads one after the other
-//! turns       a turn of a lock, during which another thread is refused
+//! turns       a turn of a lock, during which another thread is refused, or sleeps
 //! leases      eight sessions that take their timestamps from leases
 //! seats       calls that wait for nobody, floors, and leases
 //! texts       scripts and transcripts for all of them
