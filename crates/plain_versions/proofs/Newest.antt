@@ -43,8 +43,6 @@ pub record IsDownTo (table : Table) (versions : Chain) (t through : ℕ) : Type 
   pub low : through ≤ t
   pub none : (i : ℕ) → through < i → i ≤ t → settled table versions i ≡ None
 
-]
-
 pub above_none : (k : ℕ) → (k ≡ 0 → ⊥) → 0 < k
 above_none k other = grind (arith, other)
 

@@ -39,8 +39,6 @@ ends-alike p (Some hi) x is = rw is (and-alike _ _ _ _ (reaches_is x p.lo) (belo
 pub holds_is_picks : (p : Patch) (x : List ℕ) → holds p x ≡ picks p x
 holds_is_picks p x = ends-alike p p.hi x refl
 
--- the next of what patches are made from, and the end of it
-module _ {X : Type 0} (f : X → Patch) (xs : List X) (i : ℕ) (made : List Patch) where
 -- a list of one
 pub only : {X : Type 0} (xs : List X) (x : X) → 1 ≤ length xs → length xs < 2 → x ≡ get_or xs 0 x → xs ≡ x ∷ []
 only [] x some few is = absurd (omega arith)

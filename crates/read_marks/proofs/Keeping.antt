@@ -6,8 +6,6 @@ use Rattle.kept.specs.Marks.{IsPiece}
 use Rattle.read_marks.specs.Readers.{is_kept, is_reader}
 use Rattle.read_marks.proofs.Splitting.{filtered_reader}
 
--- a piece's readers, less those that are forgotten
-module _ (forgotten : ℕ) where
 -- the same of readers that were the same before, or are afterwards
 pub piece_alike : (m n m' : ℕ → Bool) (ts low high : ℕ) → ((j : ℕ) → n j ≡ m j) → IsPiece n m' ts low high → IsPiece m m' ts low high
 piece_alike m n m' ts low high same p = record {

@@ -146,5 +146,4 @@ module _ {T E : Type 0} (stands : T → ℕ → List E → Type 0) (seat_of : E 
   releases_from slots id m m' t new said e y now sits alone issued_all mine holds hand up is names stood rises high =
       subst (λ (z : M). Allows Rule slots id z 1 (λ _. new) (λ _. released seat_of floor_of said (step slots 1 new 0 none) z new)) (sym now)
       (releases slots id (m.0, (0, Some y) ∷ rest m.1) t new said e y sits alone issued_all mine holds (ap (λ (l : List (ℕ × S)). (0, Some y) ∷ rest l) hand) up is names stood rises high)
-
   -- what a release leaves, by what was there before the value came into the slot
