@@ -14,7 +14,7 @@ pub(super) fn list_that_is_full(alloc: Global) -> Option<Story> {
 
 /// The put that halves the second block: room for a third is wanted too.
 pub(super) fn block_that_is_full(alloc: Global) -> Option<Story> {
-    story_of_a_put(alloc, FULL.saturating_add(FULL / 2).saturating_sub(1))
+    story_of_a_put(alloc, FULL.saturating_add(FULL / 2))
 }
 
 /// The put of one more version behind so many.
