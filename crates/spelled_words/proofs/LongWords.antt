@@ -1,13 +1,13 @@
 -- Where long words stand among those that are read.
 use Rattle.std.proofs.Common.{◌≡◌, ℕ, Bool, true, false, cond, ◌||◌, List, [], ◌∷◌, length, Option, Some, None, Result, Ok, Err, refl, ap, ◌∙◌}
 use Rattle.std.specs.Prelude.{codes, drop, bytes_eq, ok_or, ◌&&◌, nat_le}
-use Rattle.text_format.specs.Limits.{bound_limit}
+use Rattle.text_format.specs.Limits.{key_limit, bound_limit}
 use Rattle.text_format.specs.declared.Format.{Format}
 use Rattle.json_lines.specs.Numbers.{number_of}
 use Rattle.spelled_words.specs.declared.fault.LineFault.{LineFault}
 use Rattle.spelled_words.specs.declared.fault.LineFault.TheVariants.{Number, KeyLength, BadByte}
 use Rattle.spelled_words.specs.Memory.{is_long, has_long}
-use Rattle.spelled_words.specs.Reading.{◌>>=◌, bytes_at, number_at, bound_at}
+use Rattle.spelled_words.specs.Reading.{◌>>=◌, bytes_at, number_at, key_at, bound_at}
 use Rattle.spelled_words.specs.Spelling.{bytes_of}
 
 -- a word stands before those that are left
@@ -61,3 +61,7 @@ long_behind words x behind long = rw behind.1 (second (is_long behind.0) x.1 lon
 
 pub left_long : {A : Type 0} (words : List (List ℕ)) (x : A × List (List ℕ)) (count : ℕ) → Behind words x → has_long count x.1 ≡ true → has_long count (drop 1 words) ≡ true
 left_long words x count behind long = rw behind.1 long
+
+pub behind_key : (format : Format) (words : List (List ℕ)) (x : List ℕ × List (List ℕ)) → key_at format words ≡ Ok x → Behind words x
+unfolding key_at
+behind_key format words x e = behind_bytes 1 (key_limit format) KeyLength words x e
