@@ -16,13 +16,14 @@ use Rattle.spans.specs.declared.calls.replies.Reply.{Reply}
 use Rattle.spans.specs.declared.calls.replies.Reply.TheVariants.{Started, Found, Rows, Written, Committed, Aborted, Closed, Protected, Released, Collected, Opened, Messages, Cancelled, Refused}
 use Rattle.spans.specs.Consumer.{AllTaken, ConsumerIsRight}
 use Rattle.spans.specs.Effects.{Effect, effect, effects_of}
-use Rattle.spans.specs.Feeds.{Feed, told_to}
+use Rattle.spans.specs.Feeds.{Feed, feed_of, told_to}
 use Rattle.spans.specs.Legal.{IsLegal}
 use Rattle.spans.proofs.Floors.{taken_after}
 use Rattle.spans.proofs.Lawful.{lawful}
 use Rattle.spans.proofs.Steps.{by_test}
 use Rattle.json_lines.specs.Messages.{IsMessage}
 use Rattle.word_lines.specs.Limits.{IsEvent, IsReply, KeepsLimit}
+use Rattle.replica.specs.Starts.{IsStartOf, Start}
 use Rattle.script.specs.Lines.{lines_of}
 use Rattle.script.specs.Transcripts.{events_text, transcript_text}
 use Rattle.follow.specs.Chosen.{is_feed}
@@ -30,6 +31,7 @@ use Rattle.follow.specs.Followed.{start_of as options_start}
 use Rattle.follow.specs.Following.{followed_at, followed_lines, followed_through}
 use Rattle.follow.specs.declared.options.FollowOptions.{FollowOptions}
 use Rattle.pipes.specs.Followers.{Follows, IsFollowing, TakesAll, told_in, told_lines}
+use Rattle.pipes.specs.Texts.{IsWritable}
 use Rattle.pipes.proofs.TakenLines.{AreTaken, Goes, event_goes, header_goes, messages_taken, nothing_goes, polled_of, told_of, told_where}
 use Rattle.pipes.proofs.Texts.{events_are, lines_keep}
 
@@ -98,6 +100,9 @@ module _ (format : Format) where
   told_are n [] are = tt
   told_are n (e ∷ es) are = both_are (IsMessage format) (told_of n e) (told_by n es) (reply_told (is_feed n (polled_of e.cmd)) e.reply are.0.3) (told_are n es are.1)
 
+  pub told_lawful : (first n : ℕ) (es : List Event) → IsWritable format first es → AllByRecursion (IsMessage format) (told_in es n)
+  told_lawful first n es w = subst (AllByRecursion (IsMessage format)) (sym (told_is n es)) (told_are n es (recursion_from_All (IsEvent format) es (events_are format first es w)))
+
 -- ---- the whole text
 
 module _ (o : FollowOptions) where
@@ -114,12 +119,16 @@ module _ (o : FollowOptions) where
 
 -- ---- what the follower of a feed takes
 
--- it refuses none of the feed's messages
+-- who begins as its consumer is to begin refuses none of the feed's messages
+pub none_refused : (es : List Event) (n : ℕ) (feed : Feed) (s : Start) → IsLegal (reverse es) → feed_of (effects_of (reverse es)) n ≡ Some feed → IsStartOf (effects_of (reverse es)) feed s → AllTaken feed.span s.start [] (told_in es n)
+none_refused es n feed s legal opened starts =
+    let right : ConsumerIsRight (effects_of (reverse es)) n feed = (lawful (reverse es) legal).consumers n feed opened in
+    subst (λ (k : ℕ). AllTaken feed.span k [] (told_in es n)) (sym starts.start) right.takes
+
 all_taken : (es : List Event) (o : FollowOptions) (n : ℕ) (feed : Feed) → IsLegal (reverse es) → Follows (effects_of (reverse es)) n feed o → AreTaken o [] (told_in es n)
 all_taken es o n feed legal follows =
-    let right : ConsumerIsRight (effects_of (reverse es)) n feed = (lawful (reverse es) legal).consumers n feed follows.opened in
-    let begun : AllTaken feed.span (options_start o.span o.start).start [] (told_in es n) = subst (λ (k : ℕ). AllTaken feed.span k [] (told_in es n)) (sym follows.starts.start) right.takes in
-    subst (λ (i : Span). AllTaken i (options_start o.span o.start).start [] (told_in es n)) (sym follows.span) begun
+    let s : Start = options_start o.span o.start in
+    subst (λ (i : Span). AllTaken i s.start [] (told_in es n)) (sym follows.span) (none_refused es n feed s legal follows.opened follows.starts)
 
 module _ (es : List Event) (o : FollowOptions) (n : ℕ) where
   events_in : IsFollowing es o n → AllByRecursion (IsEvent o.format) es
@@ -138,7 +147,7 @@ module _ (es : List Event) (o : FollowOptions) (n : ℕ) where
   alone w none =
       let ms = told_in es n in
       let end : ms ++ [] ≡ ms = append-nil ms in
-      let are = subst (AllByRecursion (IsMessage o.format)) (sym (told_is n es)) (told_are o.format n es (events_in w)) in
+      let are = told_lawful o.format w.first n es w.writable in
       let taken : AreTaken o [] (ms ++ []) = subst (AreTaken o []) (sym end) (all_taken es o n w.feed w.writable.history.legal w.follows) in
       ap (λ (to : Option ℕ). followed_lines o (is_none to) [] 1 (lines_of (told_lines es n))) none
       ∙ ap (λ (text : List ℕ). followed_lines o true [] 1 (lines_of text)) (sym (append-nil (told_lines es n)))

@@ -8,6 +8,7 @@ pub mod Pipes
 pub mod MessageTexts
 pub mod TakenLines
 pub mod Followers
+pub mod Consumers
 pub mod Shown
 pub mod Reported
 pub mod GoingOn

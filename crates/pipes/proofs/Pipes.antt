@@ -38,7 +38,7 @@ use Rattle.races.specs.Playing.{commands_of}
 use Rattle.jobs.specs.Races.{IsRaced}
 use Rattle.embedded.specs.Embedded.{StandsFor}
 use Rattle.embedded.specs.declared.database.Database.{Database}
-use Rattle.pipes.specs.Texts.{EndsWhole, IsWholeAt, IsWritable, KeepsFormat, SaysYes}
+use Rattle.pipes.specs.Texts.{EndsWhole, IsTranscript, IsWholeAt, IsWritable, KeepsFormat, SaysYes}
 use Rattle.pipes.proofs.Texts.{writable_says}
 
 -- what holds of two lists, one behind the other, holds of the first
@@ -102,25 +102,31 @@ seats_few config run.Memory whole opened = opened.0.1
 seats_few config _ whole opened = absurd whole
 
 -- the output at a whole end
-whole_says : (format : Format) (used : Type 0) (config : Config) (input : List ℕ) (ended : Bool) (events : List Event) (output : List ℕ) (e : ServeEnd)
-    → IsWritable format config.first events → IsWholeAt e → EndsBy format used config input ended events output e → SaysYes output
-whole_says format used config input ended events output run.Done w whole ends = subst SaysYes (sym ends.2) (writable_says format config.first events w)
-whole_says format used config input ended events output run.Input w whole ends = subst SaysYes (sym ends.1) (writable_says format config.first events w)
-whole_says format used config input ended events output run.Memory w whole wants = elim wants [
-  | inl start ↦ subst SaysYes (sym start.2) (writable_says One 0 [] nothing_writable)
+whole_text : (format : Format) (used : Type 0) (config : Config) (input : List ℕ) (ended : Bool) (events : List Event) (output : List ℕ) (e : ServeEnd)
+    → IsWritable format config.first events → IsWholeAt e → EndsBy format used config input ended events output e → IsTranscript output
+whole_text format used config input ended events output run.Done w whole ends = record { format = format; first = config.first; events = events; writable = w; is = ends.2 }
+whole_text format used config input ended events output run.Input w whole ends = record { format = format; first = config.first; events = events; writable = w; is = ends.1 }
+whole_text format used config input ended events output run.Memory w whole wants = elim wants [
+  | inl start ↦ record { format = One; first = 0; events = []; writable = nothing_writable; is = start.2 }
   | inr later ↦ (elim later [
-    | inl line ↦ subst SaysYes (sym line.1) (writable_says format config.first events w)
-    | inr text ↦ subst SaysYes (sym text.3) (writable_says format config.first text.0 (without_last format config.first text.0 text.1 (subst (IsWritable format config.first) text.2 w)))
+    | inl line ↦ record { format = format; first = config.first; events = events; writable = w; is = line.1 }
+    | inr text ↦ record {
+      format = format;
+      first = config.first;
+      events = text.0;
+      writable = without_last format config.first text.0 text.1 (subst (IsWritable format config.first) text.2 w);
+      is = text.3;
+    }
   ])
 ]
-whole_says format used config input ended events output _ w whole ends = absurd whole
+whole_text format used config input ended events output _ w whole ends = absurd whole
 
-pub served_says : (format : Format) (config : Config) (r r' : Reads) (w w' : Writes) (e : ServeEnd) (s : IsServed format config r r' w w' e)
-    → EndsWhole config.first s.events e → SaysYes s.output
-served_says format config r r' w w' e s whole =
+pub run_text : (format : Format) (config : Config) (r r' : Reads) (w w' : Writes) (e : ServeEnd) (s : IsServed format config r r' w w' e)
+    → EndsWhole config.first s.events e → IsTranscript s.output
+run_text format config r r' w w' e s whole =
     let calls = begun_calls format config.seats s.input r'.ended (calls_of s.events) s.begins in
     let keeps = calls_keep format config.seats s.events (seats_few config e whole.1 s.opened) calls in
-    whole_says format (config.first + length s.events ≡ 18446744073709551615) config s.input r'.ended s.events s.output e
+    whole_text format (config.first + length s.events ≡ 18446744073709551615) config s.input r'.ended s.events s.output e
     (record { history = s.history; positions = whole.0; commands = All-from_recursion (KeepsFormat format) s.events keeps }) whole.1 s.ends
 
 -- ---- races
@@ -162,21 +168,37 @@ module _ (format : Format) where
       let own = subst (AllByRecursion (IsCommand format)) (sym (raced.each e.seat seat)) (commands_keep sessions e.seat calls are) in
       (omega arith, own_keeps e.seat es own e i refl))
 
-pub raced_says : (format : Format) (sessions : ℕ) (text out : List ℕ) → sessions ≤ 64 → length out ≤ 18446744073709551615 → IsRaced format sessions text out → SaysYes out
-raced_says format sessions text out few short r =
+pub race_text : (format : Format) (sessions : ℕ) (text out : List ℕ) → sessions ≤ 64 → length out ≤ 18446744073709551615 → IsRaced format sessions text out → IsTranscript out
+race_text format sessions text out few short r =
     let calls : AllByRecursion (IsCall format sessions) r.calls = subst (AllByRecursion (IsCall format sessions)) (ap (λ (s : Script). s.calls) r.script) (script_calls format sessions text) in
-    let size : length out ≡ length (header format ++ events_text r.events) = ap length r.told in
-    subst SaysYes (sym r.told) (writable_says format 0 r.events (record {
-      history = record { legal = r.raced.trace.legal; gapless = r.raced.gapless };
-      positions = omega (arith, size, length-append (header format) (events_text r.events), texts_some r.events);
-      commands = All-from_recursion (KeepsFormat format) r.events (raced_keeps format sessions r.calls r.events few calls r.raced);
-    }))
+    let size : length out ≡ length (header format ++ events_text r.events) = ap length r.told in record {
+      format = format;
+      first = 0;
+      events = r.events;
+      writable = record {
+        history = record { legal = r.raced.trace.legal; gapless = r.raced.gapless };
+        positions = omega (arith, size, length-append (header format) (events_text r.events), texts_some r.events);
+        commands = All-from_recursion (KeepsFormat format) r.events (raced_keeps format sessions r.calls r.events few calls r.raced);
+      };
+      is = r.told;
+    }
 
 -- ---- embedded databases
 
-pub kept_says : (d : Database) (h : List Event) → StandsFor d h → All (KeepsFormat Two) h → length h ≤ 18446744073709551615 → SaysYes (transcript_text Two (reverse h))
-kept_says d h stands keeps few = writable_says Two 0 (reverse h) (record {
-  history = record { legal = subst IsLegal (sym (reverse-reverse h)) stands.legal; gapless = stands.gapless };
-  positions = omega (arith, length-reverse h);
-  commands = All-reverse (KeepsFormat Two) h keeps;
-})
+pub kept_text : (d : Database) (h : List Event) → StandsFor d h → All (KeepsFormat Two) h → length h ≤ 18446744073709551615 → IsTranscript (transcript_text Two (reverse h))
+kept_text d h stands keeps few = record {
+  format = Two;
+  first = 0;
+  events = reverse h;
+  writable = record {
+    history = record { legal = subst IsLegal (sym (reverse-reverse h)) stands.legal; gapless = stands.gapless };
+    positions = omega (arith, length-reverse h);
+    commands = All-reverse (KeepsFormat Two) h keeps;
+  };
+  is = refl;
+}
+
+-- ---- what `check` says of them
+
+pub transcript_says : (text : List ℕ) → IsTranscript text → SaysYes text
+transcript_says text t = subst SaysYes (sym t.is) (writable_says t.format t.first t.events t.writable)

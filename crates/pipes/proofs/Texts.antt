@@ -64,7 +64,7 @@ module _ (format : Format) where
 one_result : {A E : Type 0} (r : Result A E) (x y : A) → r ≡ Ok x → r ≡ Ok y → x ≡ y
 one_result r x y e h = cc
 
-no_fault : {A E : Type 0} (r : Result A E) (x : A) (f : E) → r ≡ Ok x → r ≡ Err f → ⊥
+pub no_fault : {A E : Type 0} (r : Result A E) (x : A) (f : E) → r ≡ Ok x → r ≡ Err f → ⊥
 no_fault r x f e h = cc
 
 -- of a text that is read as a trace the verdict is `yes`

@@ -1,3 +1,4 @@
 pub mod Texts
 pub mod Followers
+pub mod Consumers
 pub mod GoingOn

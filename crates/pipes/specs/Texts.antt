@@ -7,9 +7,9 @@ use Rattle.sessions.specs.Made.{IsHistory}
 use Rattle.sessions.specs.declared.ending.ServeEnd.{ServeEnd}
 use Rattle.sessions.specs.declared.ending.ServeEnd.TheVariants as run
 use Rattle.word_lines.specs.Limits.{IsCommand}
+use Rattle.script.specs.Transcripts.{transcript_text}
 use Rattle.jobs.specs.Verdicts.{IsVerdict, is_right}
 use Rattle.jobs.specs.declared.ending.End.{End}
-use Rattle.jobs.specs.declared.ending.End.TheVariants as ends
 
 -- the session and the command of an event keep the limits of a format
 abbrev pub KeepsFormat : Format → Event → Type 0
@@ -42,3 +42,11 @@ IsWholeAt _ = ⊥
 -- a run ended so, after events that have a position each
 abbrev pub EndsWhole : ℕ → List Event → ServeEnd → Type 0
 EndsWhole first events e = InPositions first events × IsWholeAt e
+
+-- the text is that of a history that has one
+pub record IsTranscript (text : List ℕ) : Type 0 where
+  pub format : Format
+  pub first : ℕ
+  pub events : List Event
+  pub writable : IsWritable format first events
+  pub is : text ≡ transcript_text format events

@@ -6,9 +6,10 @@ ghost use Rattle.embedded.specs.declared.database.Database.{Database};
 ghost use Rattle.embedded_replica.specs.Seeds.{pairs_at};
 ghost use Rattle.follow.specs.declared.options.FollowOptions.{FollowOptions};
 ghost use Rattle.jobs.specs.Races.{IsRaced};
+ghost use Rattle.pipes.specs.Consumers.{ComesNext, TakesLine};
 ghost use Rattle.pipes.specs.Followers.{IsFollowing, ReportsAll, TakesAll, TellsMaps, told_in, told_lines};
 ghost use Rattle.pipes.specs.GoingOn.{GoOnFrom, IsKept};
-ghost use Rattle.pipes.specs.Texts.{EndsWhole, IsWritable, KeepsFormat, SaysYes};
+ghost use Rattle.pipes.specs.Texts.{EndsWhole, IsTranscript, IsWritable, KeepsFormat, SaysYes};
 ghost use Rattle.replica.specs.Starts.{Pairs};
 ghost use Rattle.replica.specs.declared.replica.Replica.{Replica};
 ghost use Rattle.script.specs.Transcripts.{transcript_at, transcript_text};
@@ -39,11 +40,15 @@ pub fn law_of_texts()
 /// database gave of its events, behind the header of format two.
 ///
 /// Positions have 64 bits, so the events of a run are no more than positions are left for. A race's text, which begins at
-/// position 0, has them wherever it is itself no longer than 64 bits can count.
+/// position 0, has them wherever it is itself no longer than 64 bits can count. Each of these texts is the transcript of one
+/// history, of which `law_of_followers` has what a follower takes.
 pub fn law_of_pipes()
-    ensures served { (f : Format) (c : Config) (r r' : Reads) (w w' : Writes) (e : ServeEnd) (s : IsServed f c r r' w w' e) → EndsWhole c.first s.events e → SaysYes s.output }
+    ensures served { (f : Format) (c : Config) (q r : Reads) (v w : Writes) (e : ServeEnd) (s : IsServed f c q r v w e) → EndsWhole c.first s.events e → SaysYes s.output }
     ensures raced { (f : Format) (sessions : ℕ) (text out : List ℕ) → sessions ≤ 64 → length out ≤ 18446744073709551615 → IsRaced f sessions text out → SaysYes out }
     ensures kept { (d : Database) (h : List Event) → StandsFor d h → All (KeepsFormat Two) h → length h ≤ 18446744073709551615 → SaysYes (transcript_text Two (reverse h)) }
+    ensures run_text { (f : Format) (c : Config) (q r : Reads) (v w : Writes) (e : ServeEnd) (s : IsServed f c q r v w e) → EndsWhole c.first s.events e → IsTranscript s.output }
+    ensures race_text { (f : Format) (sessions : ℕ) (text out : List ℕ) → sessions ≤ 64 → length out ≤ 18446744073709551615 → IsRaced f sessions text out → IsTranscript out }
+    ensures kept_text { (d : Database) (h : List Event) → StandsFor d h → All (KeepsFormat Two) h → length h ≤ 18446744073709551615 → IsTranscript (transcript_text Two (reverse h)) }
 {}
 
 /// A follower of a feed takes exactly the messages that the feed told: from the transcript of all events, where it is given
@@ -56,6 +61,13 @@ pub fn law_of_followers()
     ensures alone { (es : List Event) (o : FollowOptions) (n : ℕ) → IsFollowing es o n → o.feed ≡ None → TakesAll o (told_lines es n) (told_in es n) }
     ensures maps { (es : List Event) (o : FollowOptions) (n : ℕ) (w : IsFollowing es o n) → TellsMaps (effects_of (reverse es)) w.feed o (told_in es n) }
     ensures reported { (o : FollowOptions) (text : List ℕ) (ms : List Message) → TakesAll o text ms → ReportsAll o text ms }
+{}
+
+/// A consumer that is called by text takes each line of its feed's polls. If it began as the feed's consumer is to begin, and
+/// has taken the messages that the feed told before, it takes the line of the next one as that message, and refuses it only
+/// when out of memory. `law_of_replicas` has which rows it then has.
+pub fn law_of_consumers()
+    ensures { (es : List Event) (n : ℕ) (r : Replica) (m : Message) → ComesNext es n r m → TakesLine r m }
 {}
 
 /// The lines of rows, as a scan's answer has them and a consumer shows them, are read as these rows by a consumer that begins

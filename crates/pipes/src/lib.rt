@@ -25,6 +25,9 @@
 //! [`laws::law_of_followers`]: `mvfeed follow --initial 10 --feed 1 --view --format 2` takes the two messages of this text,
 //! and no other line. It writes `resolved 10 1` and `row a%0A 1`, the rows of the map at 10.
 //!
+//! [`laws::law_of_consumers`]: a consumer that began by `0 openinitial - - 10` takes the line of each of the two messages,
+//! or is out of memory.
+//!
 //! [`laws::law_of_going_on`]: a consumer that shows `row a%0A 1` and was told all through 10 is gone on with by one that
 //! begins by `0 open - - 10` and this row.
 //!

@@ -1,0 +1,44 @@
+-- Which consumers take the lines of a feed's polls (this project's own).
+use Rattle.std.specs.Prelude.{ℕ, List, ◌∷◌, ◌++◌, ◌≡◌, Some, reverse}
+use Rattle.text_format.specs.declared.Format.TheVariants.{Two}
+use Rattle.json_lines.specs.Messages.{message_line}
+use Rattle.json_lines.specs.declared.fault.MessageFault.TheVariants as lines
+use Rattle.spans.specs.declared.calls.events.Event.{Event}
+use Rattle.spans.specs.declared.calls.messages.Message.{Message}
+use Rattle.spans.specs.declared.calls.messages.Message.TheVariants as messages
+use Rattle.spans.specs.Effects.{effects_of}
+use Rattle.spans.specs.Feeds.{Feed, feed_of}
+use Rattle.replica.specs.Replicas.{Follows, Takes}
+use Rattle.replica.specs.Starts.{IsStartOf, Start}
+use Rattle.replica.specs.declared.fault.Fault.TheVariants as faults
+use Rattle.replica.specs.declared.replica.Replica.{Replica}
+use Rattle.embedded_replica.specs.Consumers.{HasTaken, IsRefused}
+use Rattle.embedded_replica.specs.declared.consumer.TakeError.{TakeError}
+use Rattle.embedded_replica.specs.declared.consumer.TakeError.TheVariants as takes
+use Rattle.pipes.specs.Followers.{told_in}
+use Rattle.pipes.specs.Texts.{IsWritable}
+
+-- The replica began as the consumer of feed n is to begin, and has taken the first of the messages that the history told the
+-- feed. This one comes next. A message of another feed would contradict the law, and so would one that was taken before
+pub record ComesNext (es : List Event) (n : ℕ) (r : Replica) (m : Message) : Type 0 where
+  pub first : ℕ
+  pub writable : IsWritable Two first es
+  pub feed : Feed
+  pub opened : feed_of (effects_of (reverse es)) n ≡ Some feed
+  pub start : Start
+  pub starts : IsStartOf (effects_of (reverse es)) feed start
+  pub before : List Message
+  pub behind : List Message
+  pub told : told_in es n ≡ before ++ m ∷ behind
+  pub follows : Follows r start before
+
+-- it is out of memory, which it never is at a resolved message
+abbrev pub IsOutOfMemoryAt : Message → TakeError → Type 0
+IsOutOfMemoryAt (messages.Row r) (takes.Line lines.NoMemory) = Unit {0}
+IsOutOfMemoryAt (messages.Row r) (takes.Message faults.NoMemory) = Unit {0}
+IsOutOfMemoryAt _ _ = ⊥
+
+-- the line of the message is taken as this message, and refused for want of memory alone
+pub record TakesLine (r : Replica) (m : Message) : Type 0 where
+  pub taken : (new : Replica) → HasTaken (message_line m) r new → Takes r new m
+  pub refused : (error : TakeError) → IsRefused (message_line m) r error → IsOutOfMemoryAt m error
