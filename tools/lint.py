@@ -12,9 +12,8 @@ import subprocess
 import sys
 from collections import defaultdict
 
-sys.dont_write_bytecode = True
-sys.path.insert(0, os.path.dirname(os.path.abspath(__file__)))
-import body_page  # noqa: E402
+import body_page
+import git
 
 TOP = os.path.dirname(os.path.dirname(os.path.abspath(__file__)))
 LONGEST_CLAUSE = 160
@@ -45,12 +44,7 @@ class House:
 
     def __init__(self, top, version=None):
         self.top = top
-        listed = subprocess.run(
-            ["git", "-C", top, "ls-files", "-z", "--cached", "--others", "--exclude-standard"],
-            capture_output=True,
-            check=True,
-            text=True,
-        ).stdout
+        listed = git.said(top, "ls-files", "-z", "--cached", "--others", "--exclude-standard")
         self.paths = sorted({it for it in listed.split("\0") if it and os.path.isfile(os.path.join(top, it))})
         self.read = {}
         self.given_version = version

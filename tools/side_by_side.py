@@ -31,24 +31,16 @@ import time
 from concurrent.futures import FIRST_COMPLETED, ThreadPoolExecutor, wait
 from dataclasses import dataclass
 
-sys.path.insert(0, os.path.dirname(os.path.abspath(__file__)))
-sys.dont_write_bytecode = True
-import origin  # noqa: E402
+import git
+import origin
 
 TOP = os.path.dirname(os.path.dirname(os.path.abspath(__file__)))
 PARTS = ("src", "specs", "proofs")
 # What a note of a built file says which sources it is of.
 SOURCES = ["crates", "crates.txt"]
 MOST_JOBS = 4
-# Runs a command below the priority of others. Where the system groups processes by session, the group has it too.
-LOWER = """
-for _ in 1 2 3; do
-    { echo 10 >/proc/self/autogroup; } 2>/dev/null && break
-    sleep 0.2
-done
-exec nice -n 10 "$@"
-"""
-GENTLY = ("sh", "-c", LOWER, "sh")
+# Runs a command below the priority of others.
+GENTLY = os.path.join(TOP, "tools", "gently.sh")
 # What makes a crate, by its kind.
 MAKERS = {
     "program": ("rt", "run"),
@@ -227,12 +219,12 @@ def locked(path, say=None):
 @contextlib.contextmanager
 def rooms_of(top):
     """The folder of the rooms. In the folder of git it outlasts a run that is broken off."""
-    asked = subprocess.run(["git", "-C", top, "rev-parse", "--absolute-git-dir"], capture_output=True, text=True)
-    if asked.returncode:
+    folder = git.asked(top, "rev-parse", "--absolute-git-dir")
+    if folder is None:
         with tempfile.TemporaryDirectory() as rooms:
             yield rooms
         return
-    rooms = os.path.join(asked.stdout.strip(), "side-by-side")
+    rooms = os.path.join(folder, "side-by-side")
     os.makedirs(rooms, exist_ok=True)
     yield rooms
 
@@ -324,7 +316,7 @@ class Build:
         verb = [*MAKERS[crate.kind], "--jobs", str(start.jobs)]
         verb += ["--", *self.words] if crate.kind == "program" else []
         began, folder = time.monotonic(), os.path.join(room, "crates", crate.name)
-        status, work, told = self.ran(verb if start.is_urgent else [*GENTLY, *verb], folder)
+        status, work, told = self.ran(verb if start.is_urgent else [GENTLY, *verb], folder)
         seconds = time.monotonic() - began
         if not self.is_ending:
             if crate.kind == "library" and not status and is_new(told) and self.is_taken:

@@ -4,17 +4,14 @@ tells it."""
 
 import contextlib
 import io
-import os
 import subprocess
-import sys
 import tempfile
 import unittest
 from unittest import mock
 
-sys.dont_write_bytecode = True
-sys.path.insert(0, os.path.dirname(os.path.abspath(__file__)))
-import body_page  # noqa: E402
-import lint  # noqa: E402
+import body_page
+import lint
+import testing
 
 lint.MOST_CLAUSES = 0
 
@@ -61,9 +58,7 @@ def house_of(files):
     """The folder of a house of these files."""
     with tempfile.TemporaryDirectory() as top:
         for path, text in files.items():
-            os.makedirs(os.path.dirname(os.path.join(top, path)), exist_ok=True)
-            with open(os.path.join(top, path), "w", encoding="utf-8") as it:
-                it.write(text)
+            testing.put(top, path, text)
         subprocess.run(["git", "-C", top, "init", "-q"], check=True)
         yield top
 

@@ -3,17 +3,13 @@
 plays one."""
 
 import os
-import shutil
 import subprocess
-import sys
 import tempfile
 import unittest
 from typing import Dict, List
 
-HERE = os.path.dirname(os.path.abspath(__file__))
-sys.dont_write_bytecode = True
-sys.path.insert(0, HERE)
-import mutations  # noqa: E402
+import mutations
+import testing
 
 SOURCE = """//! Low, with 7 words.
 pub struct Low {
@@ -49,10 +45,8 @@ TURNED: Dict[str, List[str]] = {
 def results(body: str) -> List[str]:
     """The texts that the mutations of a source with this body make of it."""
     with tempfile.TemporaryDirectory() as folder:
-        os.mkdir(os.path.join(folder, "src"))
         text = SOURCE % body
-        with open(os.path.join(folder, "src", "lib.rt"), "w", encoding="utf-8") as it:
-            it.write(text)
+        testing.put(folder, "src/lib.rt", text)
         mutations.functions_of.cache_clear()
         found = mutations.mutations(folder, "low", "src/lib.rt")
     assert all(it.function == "took" and it.is_lone for it in found)
@@ -70,9 +64,7 @@ class Turns(unittest.TestCase):
 
     def test_a_mutation_says_its_line(self) -> None:
         with tempfile.TemporaryDirectory() as folder:
-            os.mkdir(os.path.join(folder, "src"))
-            with open(os.path.join(folder, "src", "far.rt"), "w", encoding="utf-8") as it:
-                it.write("fn far() {\n    one();\n    two()\n}\n")
+            testing.put(folder, "src/far.rt", "fn far() {\n    one();\n    two()\n}\n")
             mutations.functions_of.cache_clear()
             (only,) = mutations.mutations(folder, "low", "src/far.rt")
         self.assertEqual((only.line, only.what), (2, "`one();` dropped"))
@@ -105,25 +97,16 @@ if verb in ("lib", "check"):
 LOW = "fn one() {\n    return Some(1)\n}\n\nfn two() {\n    a.min(3 + b)\n}\n"
 
 
-class Runs(unittest.TestCase):
+class Runs(testing.Housed):
     def setUp(self) -> None:
-        self.room = tempfile.TemporaryDirectory()
-        self.addCleanup(self.room.cleanup)
-        self.top = os.path.join(self.room.name, "house")
-        files = {"house/crates.txt": "low:\n", "house/crates/low/src/lib.rt": LOW, "bin/rt": PLAYER}
-        for path, text in files.items():
-            whole = os.path.join(self.room.name, path)
-            os.makedirs(os.path.dirname(whole), exist_ok=True)
-            with open(whole, "w", encoding="utf-8") as it:
-                it.write(text)
-        os.chmod(os.path.join(self.room.name, "bin/rt"), 0o755)
-        shutil.copytree(HERE, os.path.join(self.top, "tools"))
-        for words in (["init", "-q"], ["add", "-A"], ["commit", "-q", "-m", "all"]):
-            subprocess.run(["git", "-c", "user.name=a", "-c", "user.email=a@b", *words], cwd=self.top, check=True)
+        super().setUp()
+        for path, text in {"crates.txt": "low:\n", "crates/low/src/lib.rt": LOW, "../bin/rt": PLAYER}.items():
+            self.write(path, text)
+        self.take_tools()
+        self.commit()
 
     def ran(self, *words: str) -> List[str]:
-        path = os.path.join(self.room.name, "bin") + os.pathsep + os.environ["PATH"]
-        how = {"cwd": self.top, "env": {**os.environ, "PATH": path}, "text": True}
+        how = {"cwd": self.top, "env": self.environment(), "text": True}
         return subprocess.run(["tools/mutate", *words], capture_output=True, **how).stdout.splitlines()
 
     def test_each_end_is_counted_and_what_is_still_proved_is_told(self) -> None:

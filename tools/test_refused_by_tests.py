@@ -2,10 +2,7 @@
 """Tests of the script `refused-by-tests`: what of a test's end shows a refusal, and what of a prover's, how an edit is
 planted, and whole runs by an `rt` that only plays one."""
 
-import importlib.machinery
-import importlib.util
 import os
-import shutil
 import signal
 import subprocess
 import sys
@@ -13,16 +10,10 @@ import tempfile
 import time
 import unittest
 
-TOP = os.path.dirname(os.path.dirname(os.path.abspath(__file__)))
-sys.dont_write_bytecode = True
-sys.path.insert(0, os.path.join(TOP, "tools"))
-loader = importlib.machinery.SourceFileLoader("refused_by_tests", os.path.join(TOP, "tools", "refused-by-tests"))
-script = importlib.util.module_from_spec(importlib.util.spec_from_loader("refused_by_tests", loader))
-loader.exec_module(script)
+import still_proved
+import testing
 
-import still_proved  # noqa: E402
-
-PARTS = ("refused-by-tests", "still_proved.py", "library.py", "body_edits.py", "side_by_side.py", "origin.py")
+script = testing.script("refused-by-tests")
 GOAL = "note: `returns-clause-closed` of proofs/closing/Closing/release/Answers.antt must prove:"
 FAILS = "test tests::leases::leases_end ... FAILED\n"
 # Its test fails where the source says `wrong`, isn't run where it says `unread`, and takes long where it says `slow`.
@@ -83,53 +74,37 @@ class Proofs(unittest.TestCase):
         with tempfile.TemporaryDirectory() as room:
             path = os.path.join(room, "lib.rt")
             for old, new, found in (("1;", "4;", ["one"]), ("2;", "4;", ["two"]), ("= 3", "= 5", [])):
-                script.write(path, text.replace(old, new))
+                testing.put(room, "lib.rt", text.replace(old, new))
                 self.assertEqual(still_proved.functions_of({path: text}), found)
 
     def test_libraries_are_laid_in_where_all_are_there(self):
         with tempfile.TemporaryDirectory() as top, tempfile.TemporaryDirectory() as room:
-            script.write(os.path.join(room, "crates.txt"), "low:\nmiddle: low\nhigh: middle\n")
+            testing.put(room, "crates.txt", "low:\nmiddle: low\nhigh: middle\n")
             for name in ("low", "middle"):
                 self.assertFalse(still_proved.lay_in(top, room, "high"))
-                os.makedirs(os.path.join(top, "crates", name, "out", "rlib"))
-                script.write(os.path.join(top, "crates", name, "out", "rlib", "statements"), "one\n")
+                testing.put(top, "crates/%s/out/rlib/statements" % name, "one\n")
             self.assertTrue(still_proved.lay_in(top, room, "high"))
             self.assertTrue(os.path.exists(os.path.join(room, "crates/low/out/rlib/statements")))
 
 
-class Runs(unittest.TestCase):
+class Runs(testing.Housed):
     def setUp(self):
-        self.room = tempfile.TemporaryDirectory()
-        self.top, self.bin = os.path.join(self.room.name, "house"), os.path.join(self.room.name, "bin")
-        self.notes = os.path.join(self.room.name, "notes")
-        for folder in ("tools", "crates/low/src", "crates/low/refused-by-tests", "crates/low_tests"):
-            os.makedirs(os.path.join(self.top, folder))
-        for folder in (self.bin, os.path.join(self.room.name, "rooms")):
-            os.mkdir(folder)
+        super().setUp()
+        self.notes, self.rooms = os.path.join(self.room, "notes"), os.path.join(self.room, "rooms")
+        os.mkdir(self.rooms)
         self.write("crates/low/src/lib.rt", "one two\n")
         self.write("crates/low_tests/lib.rt", "tests\n")
         self.write("../bin/rt", PLAYER)
-        os.chmod(os.path.join(self.bin, "rt"), 0o755)
         self.write("crates.txt", "low:\nlow_tests: low\n")
-        for name in PARTS:
-            shutil.copy2(os.path.join(TOP, "tools", name), os.path.join(self.top, "tools"))
-
-    def tearDown(self):
-        self.room.cleanup()
-
-    def write(self, path, text):
-        script.write(os.path.join(self.top, path), text)
+        self.take_tools()
 
     def started(self, **edits):
         """A run of these edits, each the old and the new word."""
         for name, words in edits.items():
             text = "test: low_tests ends\nfile: src/lib.rt\nold: %s\nnew: %s\n" % tuple(words.split())
             self.write("crates/low/refused-by-tests/%s.edit" % name, text)
-        for words in (["init", "-q"], ["add", "-A"], ["commit", "-q", "-m", "a house"]):
-            git = ["git", "-C", self.top, "-c", "user.name=a", "-c", "user.email=a@b", *words]
-            subprocess.run(git, check=True)
-        env = {**os.environ, "PATH": self.bin + os.pathsep + os.environ["PATH"], "NOTES": self.notes}
-        env.update(TMPDIR=os.path.join(self.room.name, "rooms"), LIBRARY="")
+        self.commit()
+        env = self.environment(NOTES=self.notes, TMPDIR=self.rooms, LIBRARY="")
         words = [sys.executable, os.path.join(self.top, "tools", "refused-by-tests")]
         how = {"stdout": subprocess.PIPE, "stderr": subprocess.STDOUT, "text": True}
         return subprocess.Popen(words, env=env, start_new_session=True, **how)
@@ -138,13 +113,7 @@ class Runs(unittest.TestCase):
         """The status, the last line, and the sources that were tried."""
         it = self.started(**edits)
         told = it.communicate(timeout=50)[0].splitlines()
-        return it.returncode, told[-1], self.noted()
-
-    def noted(self):
-        if not os.path.exists(self.notes):
-            return []
-        with open(self.notes, encoding="utf-8") as it:
-            return it.read().splitlines()
+        return it.returncode, told[-1], self.lines(self.notes)
 
     def test_each_is_tried_alone_after_the_test_as_it_stands(self):
         """What one edit turned is put back before the next."""
@@ -171,34 +140,25 @@ class Runs(unittest.TestCase):
     def test_a_run_that_is_cut_off_ends_its_test_and_leaves_no_copy(self):
         """Whoever cuts the run off ends its process alone, because the test runs in a session of its own."""
         it = self.started(a="one slow")
-        while len(self.noted()) < 2:
+        while len(self.lines(self.notes)) < 2:
             time.sleep(0.05)
         it.send_signal(signal.SIGTERM)
         it.communicate(timeout=50)
         self.assertNotEqual(it.returncode, 0)
-        self.assertEqual(os.listdir(os.path.join(self.room.name, "rooms")), [])
+        self.assertEqual(os.listdir(self.rooms), [])
         time.sleep(4)
         self.assertFalse(os.path.exists(self.notes + ".late"))
 
 
-class Edits(unittest.TestCase):
+class Edits(testing.Housed):
     def setUp(self):
-        self.room = tempfile.TemporaryDirectory()
-        self.path = os.path.join(self.room.name, "crates/low/src/lib.rt")
-        os.makedirs(os.path.dirname(self.path))
-        script.write(self.path, "one\ntwo\ntwo\n")
-
-    def tearDown(self):
-        self.room.cleanup()
-
-    def text(self):
-        with open(self.path, encoding="utf-8") as it:
-            return it.read()
+        super().setUp()
+        self.path = os.path.join(self.top, "crates/low/src/lib.rt")
+        self.write(self.path, "one\ntwo\ntwo\n")
 
     def fields(self, text):
-        path = os.path.join(self.room.name, "a.edit")
-        script.write(path, text)
-        return script.fields(path)
+        self.write("a.edit", text)
+        return script.fields(os.path.join(self.top, "a.edit"))
 
     def test_an_edit_names_a_test_and_what_it_turns(self):
         """An edit without a test, or with nothing to turn, ends the run."""
@@ -212,13 +172,13 @@ class Edits(unittest.TestCase):
     def test_what_stood_there_is_told_and_can_be_put_back(self):
         """The next edit is planted in the sources as they stand, so two pairs of a file give back its first text."""
         pairs = [["src/lib.rt", "one", "three"], ["src/lib.rt", "three", "four"]]
-        self.assertEqual(script.planted(self.room.name, "low", pairs), {self.path: "one\ntwo\ntwo\n"})
-        self.assertEqual(self.text(), "four\ntwo\ntwo\n")
+        self.assertEqual(script.planted(self.top, "low", pairs), {self.path: "one\ntwo\ntwo\n"})
+        self.assertEqual(self.text(self.path), "four\ntwo\ntwo\n")
 
     def test_a_text_that_stands_there_twice_or_never_ends_the_run(self):
         for old in ("two", "gone"):
             with self.assertRaises(SystemExit):
-                script.planted(self.room.name, "low", [["src/lib.rt", old, "three"]])
+                script.planted(self.top, "low", [["src/lib.rt", old, "three"]])
 
 
 if __name__ == "__main__":

@@ -6,16 +6,13 @@ import os
 import signal
 import subprocess
 import sys
-import tempfile
 import time
 import unittest
 
-HERE = os.path.dirname(os.path.abspath(__file__))
-sys.dont_write_bytecode = True
-sys.path.insert(0, HERE)
-import origin  # noqa: E402
-import side_by_side  # noqa: E402
-from side_by_side import Crate, Start  # noqa: E402
+import origin
+import side_by_side
+import testing
+from side_by_side import Crate, Start
 
 # It makes a library only where those below are made, and notes when it began and ended. It takes one that was made of
 # the same text in the last folder that it knows of. A crate `slow` takes long the first time, and one that is `brief`
@@ -92,44 +89,21 @@ class Choice(unittest.TestCase):
         self.assertEqual(side_by_side.seconds_left([], 2), 0)
 
 
-class Builds(unittest.TestCase):
+class Builds(testing.Housed):
     def setUp(self):
-        self.room = tempfile.TemporaryDirectory()
-        self.top = os.path.join(self.room.name, "house")
-        self.notes = os.path.join(self.room.name, "notes")
-        os.makedirs(os.path.join(self.room.name, "bin"))
+        super().setUp()
+        self.notes = os.path.join(self.room, "notes")
         self.write("../bin/rt", PLAYER)
-        os.chmod(os.path.join(self.room.name, "bin", "rt"), 0o755)
-        for script in ("side_by_side.py", "library.py", "origin.py"):
-            with open(os.path.join(HERE, script), encoding="utf-8") as it:
-                self.write("tools/" + script, it.read())
+        self.take_tools()
         self.write("crates.txt", "".join("%s: %s\n" % (name, " ".join(deps)) for name, deps in DEPS.items()))
         for name in DEPS:
             self.write("crates/%s/src/%s.rt" % (name, "main" if name == "top" else "lib"), "as %s\n" % name)
+        self.write(".gitignore", "out/\n")
         subprocess.run(["git", "-C", self.top, "init", "-q"], check=True)
 
-    def commit(self):
-        git = ["git", "-C", self.top, "-c", "user.name=a", "-c", "user.email=a@b"]
-        subprocess.run([*git, "add", "crates.txt", "crates/*.rt"], check=True)
-        subprocess.run([*git, "commit", "-q", "-m", "sources"], check=True)
-
-    def tearDown(self):
-        self.room.cleanup()
-
-    def write(self, path, text):
-        whole = os.path.join(self.top, path)
-        os.makedirs(os.path.dirname(whole), exist_ok=True)
-        with open(whole, "w", encoding="utf-8") as it:
-            it.write(text)
-
     def started(self):
-        path = os.path.join(self.room.name, "bin") + os.pathsep + os.environ["PATH"]
-        return subprocess.Popen(
-            [sys.executable, os.path.join(self.top, "tools/side_by_side.py"), "top", "run"],
-            env={**os.environ, "PATH": path, "NOTES": self.notes},
-            stderr=subprocess.PIPE,
-            text=True,
-        )
+        words = [sys.executable, os.path.join(self.top, "tools/side_by_side.py"), "top", "run"]
+        return subprocess.Popen(words, env=self.environment(NOTES=self.notes), stderr=subprocess.PIPE, text=True)
 
     def build(self):
         """The status, what was told, and which crates were proved, in their order."""
@@ -139,8 +113,7 @@ class Builds(unittest.TestCase):
         return ran.returncode, told, [it.split()[0] for it in self.noted() if " ends" in it]
 
     def noted(self):
-        with open(self.notes, encoding="utf-8") as it:
-            return it.read().splitlines()
+        return self.lines(self.notes)
 
     def rooms(self):
         return os.path.join(self.top, ".git", "side-by-side")
@@ -175,8 +148,8 @@ class Builds(unittest.TestCase):
     def test_the_kit_knows_where_the_work_is_kept_at_last(self):
         self.build()
         for name in ("low", "left", "right"):
-            with open(self.notes + "." + name, encoding="utf-8") as it:
-                self.assertEqual(os.path.realpath(it.read().strip()), os.path.realpath(self.top + "/crates/" + name))
+            noted = self.text(self.notes + "." + name).strip()
+            self.assertEqual(os.path.realpath(noted), os.path.realpath(self.top + "/crates/" + name))
             self.assertEqual(sorted(os.listdir(self.top + "/crates/" + name + "/out")), ["incremental", "rlib"])
 
     def test_a_kit_that_takes_no_library_is_asked_once(self):
@@ -211,7 +184,7 @@ class Builds(unittest.TestCase):
     def test_a_room_has_the_files_of_the_checkout_alone(self):
         """A room stays where a run is broken off. A file that goes from the checkout meanwhile goes from the room too,
         because else the text that is proved is not the one that stands there."""
-        room = os.path.join(self.room.name, "a room")
+        room = os.path.join(self.room, "a room")
         for name in ("left", "low"):
             self.write("crates/%s/proofs/Gone.antt" % name, "gone\n")
         side_by_side.furnish(self.top, room, "left", ["low"])
@@ -227,8 +200,7 @@ class Builds(unittest.TestCase):
         self.build()
         self.write("crates/top/src/main.rt", "as top, anew\n")
         self.assertEqual(self.build()[2], ["top"])
-        with open(os.path.join(self.top, "crates/top/out/incremental/work"), encoding="utf-8") as it:
-            self.assertEqual(it.read(), "begun\nbegun\n")
+        self.assertEqual(self.text("crates/top/out/incremental/work"), "begun\nbegun\n")
 
     def test_of_two_at_once_one_waits_and_finds_all_made(self):
         self.write("crates/left/src/lib.rt", "brief\n")
@@ -264,11 +236,9 @@ class Builds(unittest.TestCase):
         for it in both:
             it.communicate(timeout=50)
         self.assertEqual([it.returncode for it in both], [0, 0])
-        with open(os.path.join(self.top, "crates/left/out/rlib/made"), encoding="utf-8") as it:
-            self.assertEqual(it.read(), "as left, anew\n")
+        self.assertEqual(self.text("crates/left/out/rlib/made"), "as left, anew\n")
 
     def test_what_is_made_is_noted_with_the_sources_that_it_is_of(self):
-        self.write(".gitignore", "out/\n")
         made = os.path.join(self.top, "crates/top/out/top")
         self.commit()
         self.build()
@@ -280,7 +250,6 @@ class Builds(unittest.TestCase):
         self.assertEqual((self.build()[2], origin.fault(self.top, made, ["crates", "crates.txt"])), ([], ""))
 
     def test_what_is_committed_during_a_build_is_not_noted(self):
-        self.write(".gitignore", "out/\n")
         self.write("crates/left/src/lib.rt", "brief\n")
         self.commit()
         open(self.notes, "w").close()
@@ -305,8 +274,7 @@ class Builds(unittest.TestCase):
         self.assertIn("left", os.listdir(self.rooms()))
         status, _, proved = self.build()
         self.assertEqual((status, "low" in proved, "left" in proved), (0, False, True))
-        with open(os.path.join(self.top, "crates/left/out/incremental/work"), encoding="utf-8") as it:
-            self.assertEqual(it.read(), "begun\nbegun\n")
+        self.assertEqual(self.text("crates/left/out/incremental/work"), "begun\nbegun\n")
 
 
 if __name__ == "__main__":

@@ -2,37 +2,25 @@
 """Tests of the script `try`, with a kit that tells where it was asked for what."""
 
 import os
+import shutil
 import subprocess
-import tempfile
 import unittest
 
-TOP = os.path.dirname(os.path.dirname(os.path.abspath(__file__)))
+import testing
 # It tells its folder, its words and its input, and ends with a status of its own.
 KIT = '#!/bin/sh\necho "$(basename "$PWD"): $*"\ncat\nexit 5\n'
 
 
-class Try(unittest.TestCase):
+class Try(testing.Housed):
     def setUp(self):
-        self.room = tempfile.mkdtemp()
-        self.addCleanup(subprocess.run, ["rm", "-rf", self.room], check=True)
-        kit = os.path.join(self.room, "bin", "rt")
-        os.makedirs(os.path.dirname(kit))
-        with open(kit, "w", encoding="utf-8") as it:
-            it.write(KIT)
-        os.chmod(kit, 0o755)
-        self.script = os.path.join(TOP, "try")
+        super().setUp()
+        self.write("../bin/rt", KIT)
+        self.script = os.path.join(testing.TOP, "try")
 
     def tried(self, *words):
         """What the kit told, what standard error was told, and the status."""
-        path = os.path.join(self.room, "bin") + ":" + os.environ["PATH"]
-        ran = subprocess.run(
-            [self.script, *words],
-            cwd=self.room,
-            env=dict(os.environ, PATH=path),
-            input="0 begin 10\n",
-            capture_output=True,
-            text=True,
-        )
+        how = {"cwd": self.top, "env": self.environment(), "input": "0 begin 10\n", "text": True}
+        ran = subprocess.run([self.script, *words], capture_output=True, **how)
         return ran.stdout, ran.stderr, ran.returncode
 
     def test_a_script_alone_is_run_by_the_smallest_program(self):
@@ -46,10 +34,10 @@ class Try(unittest.TestCase):
         self.assertIn("proves nothing, and begins within two minutes", says)
 
     def test_a_file_that_a_word_names_is_lent(self):
-        lent = os.path.join(self.room, "seed")
-        with open(lent, "w", encoding="utf-8"):
-            told = self.tried("follow", "seed")[0]
-        self.assertEqual(told.splitlines()[0], "mvfeed: try --data seed=%s -- follow seed" % os.path.realpath(lent))
+        self.write("seed", "")
+        lent = os.path.realpath(os.path.join(self.top, "seed"))
+        told = self.tried("follow", "seed")[0]
+        self.assertEqual(told.splitlines()[0], "mvfeed: try --data seed=%s -- follow seed" % lent)
 
     def test_help_runs_nothing(self):
         told, _, status = self.tried("--help")
@@ -58,8 +46,7 @@ class Try(unittest.TestCase):
         self.assertEqual(status, 0)
 
     def test_a_checkout_without_its_crates_ends_the_run(self):
-        self.script = os.path.join(self.room, "try")
-        subprocess.run(["cp", os.path.join(TOP, "try"), self.script], check=True)
+        self.script = shutil.copy2(self.script, self.top)
         for words in ([], ["check"]):
             self.assertEqual(self.tried(*words)[::2], ("", 1))
 

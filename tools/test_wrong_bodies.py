@@ -5,17 +5,13 @@
 import os
 import shutil
 import subprocess
-import sys
-import tempfile
 import time
 import unittest
 from types import SimpleNamespace
 
-HERE = os.path.dirname(os.path.abspath(__file__))
-sys.dont_write_bytecode = True
-sys.path.insert(0, HERE)
-import body_edits  # noqa: E402
-import wrong_bodies  # noqa: E402
+import body_edits
+import testing
+import wrong_bodies
 
 # Its check refuses each function whose body says `wrong`, and shows no proof where it says `silent`. It can't read a
 # source that says `unread`. Of edits that are tried alone, it lets those through that say `fine`. A library that says
@@ -112,54 +108,23 @@ class Verdicts(unittest.TestCase):
         self.assertEqual(trial.not_refused(), ["a/y"])
 
 
-class Runs(unittest.TestCase):
+class Runs(testing.Housed):
     def setUp(self):
-        self.room = tempfile.TemporaryDirectory()
-        self.top = os.path.join(self.room.name, "house")
-        self.notes = os.path.join(self.room.name, "notes")
-        self.cache = os.path.join(self.room.name, "cache")
-        for path, text in FILES.items():
+        super().setUp()
+        self.notes, self.cache = os.path.join(self.room, "notes"), os.path.join(self.room, "cache")
+        for path, text in {**FILES, "../bin/rt": PLAYER}.items():
             self.write(path, text)
-        self.write("../bin/rt", PLAYER)
-        os.chmod(os.path.join(self.room.name, "bin/rt"), 0o755)
-        os.mkdir(os.path.join(self.top, "tools"))
-        scripts = ("wrong_bodies", "body_edits", "body_page", "side_by_side", "origin", "still_proved", "library")
-        for path in ("tools/wrong-bodies", *("tools/%s.py" % it for it in scripts)):
-            shutil.copy2(os.path.join(os.path.dirname(HERE), path), os.path.join(self.top, path))
-        self.git("init", "-q")
+        self.take_tools()
         self.commit()
-
-    def tearDown(self):
-        self.room.cleanup()
-
-    def write(self, path, text):
-        whole = os.path.join(self.top, path)
-        os.makedirs(os.path.dirname(whole), exist_ok=True)
-        with open(whole, "w", encoding="utf-8") as it:
-            it.write(text)
-
-    def git(self, *given):
-        subprocess.run(["git", "-c", "user.name=a", "-c", "user.email=a@b", *given], cwd=self.top, check=True)
-
-    def commit(self):
-        self.git("add", "-A")
-        self.git("commit", "-q", "-m", "a change")
 
     def ran(self, *given, forgets=True):
         """The status, what was told, and what was tried: batches of a crate by their functions, and single edits."""
         open(self.notes, "w").close()
         if forgets:
             shutil.rmtree(self.cache, ignore_errors=True)
-        path = os.path.join(self.room.name, "bin") + os.pathsep + os.environ["PATH"]
-        ran = subprocess.run(
-            ["tools/wrong-bodies", *given],
-            cwd=self.top,
-            env={**os.environ, "PATH": path, "NOTES": self.notes, "XDG_CACHE_HOME": self.cache},
-            capture_output=True,
-            text=True,
-        )
-        with open(self.notes, encoding="utf-8") as it:
-            return ran.returncode, (ran.stdout or ran.stderr).splitlines(), sorted(it.read().splitlines())
+        how = {"cwd": self.top, "env": self.environment(NOTES=self.notes, XDG_CACHE_HOME=self.cache)}
+        ran = subprocess.run(["tools/wrong-bodies", *given], capture_output=True, text=True, **how)
+        return ran.returncode, (ran.stdout or ran.stderr).splitlines(), sorted(self.lines(self.notes))
 
     def tried(self, *given):
         """The status, the last line, and what was tried."""
@@ -207,15 +172,14 @@ class Runs(unittest.TestCase):
     def test_the_page_is_written(self):
         os.mkdir(os.path.join(self.top, "docs"))
         self.assertEqual(self.ran("--list")[0], 0)
-        with open(os.path.join(self.top, "docs/WRONG-BODIES.md"), encoding="utf-8") as it:
-            rows = [line for line in it if line.startswith(("#", "| `", "- "))]
-        self.assertEqual(rows[:5], ["# Wrong bodies\n", "## low\n", "| `one` | One is wrong. |\n", "| `two` |  |\n", "- `gate`\n"])
+        rows = [it for it in self.lines("docs/WRONG-BODIES.md") if it.startswith(("#", "| `", "- "))]
+        wanted = ["# Wrong bodies", "## low", "| `one` | One is wrong. |", "| `two` |  |", "- `gate`"]
+        self.assertEqual(rows[:5], wanted)
 
     def test_a_library_that_was_taken_without_its_work_is_checked_once(self):
         for crate in ("low", "middle"):
-            path = os.path.join(self.top, "crates", crate, "src/lib.rt")
-            with open(path, "a", encoding="utf-8") as it:
-                it.write("// taken\n")
+            path = "crates/%s/src/lib.rt" % crate
+            self.write(path, self.text(path) + "// taken\n")
         self.commit()
         self.assertEqual(self.ran()[2], sorted([*ALL, "low anew"]))
 

@@ -31,12 +31,11 @@ import time
 from concurrent.futures import FIRST_COMPLETED, ThreadPoolExecutor, wait
 from contextlib import suppress
 
-sys.dont_write_bytecode = True
-import body_page  # noqa: E402
-import origin  # noqa: E402
-import side_by_side  # noqa: E402
-from body_edits import apply, check_alone, in_batches, read_edit, refusals, text_of  # noqa: E402
-from side_by_side import link_or_copy  # noqa: E402
+import body_page
+import git
+import side_by_side
+from body_edits import apply, check_alone, in_batches, read_edit, refusals, text_of
+from side_by_side import link_or_copy
 
 # A wrong body that the kit refused. A refusal only for a lost name, or only by a limit, shows nothing, and says so.
 REFUSED = re.compile(r"(?m)^rt: must-fail (\S+)\.edit: refused, as it must be(?! \(only )")
@@ -74,7 +73,7 @@ class Trial:
         """Lays the libraries into the copy that are no older than their sources and have all below them. The answer is
         their crates. Where sources aren't committed, the copy is of others, and there are none."""
         found = set()
-        if origin.committed(checkout, side_by_side.SOURCES) is None:
+        if git.committed(checkout, side_by_side.SOURCES) is None:
             return found
         for name in self.waiting:
             lower = side_by_side.below(self.deps, name)
@@ -326,12 +325,7 @@ def sources(folder):
 
 def changed_since(top, commit):
     """The crates that changed since a commit, and those that stand on them, lowest first."""
-    told = subprocess.run(
-        ["git", "-C", top, "diff", "--name-only", commit, "HEAD", "--", "crates"],
-        check=True,
-        stdout=subprocess.PIPE,
-        text=True,
-    ).stdout
+    told = git.said(top, "diff", "--name-only", commit, "HEAD", "--", "crates")
     found = set(re.findall(r"(?m)^crates/([^/]+)/(?:src|specs|proofs|wrong-bodies)/", told))
     deps = side_by_side.listed(text_of(os.path.join(top, "crates.txt")))
     for name in deps:
@@ -377,10 +371,9 @@ def given_words(words):
 def copied(checkout, room):
     """A copy of what is committed, in which nothing was made yet."""
     top = os.path.join(room, "top")
-    for it in (top, os.path.join(top, ".git"), os.path.join(room, "rooms")):
+    for it in (top, os.path.join(room, "rooms")):
         os.mkdir(it)
-    packed = subprocess.run(["git", "-C", checkout, "archive", "HEAD"], check=True, stdout=subprocess.PIPE).stdout
-    subprocess.run(["tar", "-x", "-C", top], check=True, input=packed)
+    git.copy(checkout, top)
     return top
 
 
@@ -398,7 +391,7 @@ def asked_for(checkout, top, given):
 
 def main(words):
     given = given_words(words)
-    checkout = subprocess.check_output(["git", "rev-parse", "--show-toplevel"], text=True).strip()
+    checkout = git.said(".", "rev-parse", "--show-toplevel")
     if given.list:
         return write_page(checkout)
     with tempfile.TemporaryDirectory(prefix="wrong-bodies-") as room:
