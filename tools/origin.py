@@ -12,29 +12,13 @@ there is no note, and an older one goes.
 import argparse
 import hashlib
 import os
-import subprocess
 import sys
-from typing import Dict, List, Optional
+from typing import List, Optional
+
+from git import Places, committed
 
 TOP = os.path.dirname(os.path.dirname(os.path.abspath(__file__)))
 SUM = "sha256"
-Places = Dict[str, str]
-
-
-def _git(top: str, *words: str) -> Optional[str]:
-    try:
-        asked = subprocess.run(["git", "-C", top, *words], capture_output=True, text=True)
-    except FileNotFoundError:
-        return None
-    return None if asked.returncode else asked.stdout.strip()
-
-
-def committed(top: str, places: List[str]) -> Optional[Places]:
-    """What git names each place, or none where one has changes, or there is no git."""
-    if _git(top, "status", "--porcelain", "--", *places) != "":
-        return None
-    found = {place: _git(top, "rev-parse", "--verify", "--quiet", "HEAD:" + place) for place in places}
-    return {place: name for place, name in found.items() if name} if all(found.values()) else None
 
 
 def checksum(path: str) -> str:

@@ -103,9 +103,9 @@ class Commits(testing.Housed):
     def test_without_git_nothing_is_said(self):
         self.commit()
         with tempfile.TemporaryDirectory() as elsewhere:
-            self.assertIsNone(git.asked(elsewhere, "status"))
+            self.assertIsNone(git.committed(elsewhere, ["server"]))
             with mock.patch.dict(os.environ, {"PATH": elsewhere}):
-                self.assertIsNone(git.asked(self.top, "status"))
+                self.assertIsNone(git.committed(self.top, ["server"]))
 
     def test_a_copy_has_what_is_committed(self):
         self.write("server/run", "run\n")

@@ -4,10 +4,9 @@
 import os
 import subprocess
 import sys
-import tempfile
 import unittest
 
-HERE = os.path.dirname(os.path.abspath(__file__))
+import testing
 
 # It tells with what its compiler would make a library, and whether it would look for kept work.
 KIT = """#!/usr/bin/env python3
@@ -44,21 +43,12 @@ if __name__ == "__main__":
 """
 
 
-class Libraries(unittest.TestCase):
+class Libraries(testing.Housed):
     def made_by(self, kit, *words):
         """The status, and what was told, where this is the kit's `rt`."""
-        with tempfile.TemporaryDirectory() as room:
-            path = os.path.join(room, "rt")
-            with open(path, "w", encoding="utf-8") as it:
-                it.write(kit)
-            os.chmod(path, 0o755)
-            ran = subprocess.run(
-                [sys.executable, os.path.join(HERE, "library.py"), *words, "--jobs", "2"],
-                env={**os.environ, "PATH": room + os.pathsep + os.environ["PATH"]},
-                capture_output=True,
-                text=True,
-                timeout=60,
-            )
+        self.write("../bin/rt", kit)
+        words = [sys.executable, os.path.join(testing.HERE, "library.py"), *words, "--jobs", "2"]
+        ran = subprocess.run(words, env=self.environment(), capture_output=True, text=True, timeout=60)
         return ran.returncode, ran.stdout.splitlines()
 
     def test_a_library_has_its_statements_and_takes_no_kept_work(self):
@@ -66,16 +56,13 @@ class Libraries(unittest.TestCase):
         self.assertEqual(self.made_by(KIT), (3, [told]))
 
     def test_libraries_that_the_gate_left_are_taken_and_no_others(self):
-        with tempfile.TemporaryDirectory() as room:
-            paths = [os.path.join(room, it, "one.rlib") for it in ("of_gate", "put_back", "gone")]
-            for it in paths[:2]:
-                os.makedirs(it)
-            with open(os.path.join(room, "put_back", "stamp"), "w", encoding="ascii") as it:
-                it.write("of an older one")
-            asked = "    print(*[Crate(it).is_built() for it in %r])\n" % paths
-            kit = KIT.replace("    print(*words", asked + "    print(*words")
-            told = ["adopts", "True False False", "lib --jobs 2 | a b | a b | True"]
-            self.assertEqual(self.made_by(kit, "--of-gate"), (3, told))
+        for path in ("of_gate/one.rlib/one", "put_back/one.rlib/one", "put_back/stamp"):
+            self.write(path, "")
+        paths = [os.path.join(self.top, it, "one.rlib") for it in ("of_gate", "put_back", "gone")]
+        asked = "    print(*[Crate(it).is_built() for it in %r])\n" % paths
+        kit = KIT.replace("    print(*words", asked + "    print(*words")
+        told = ["adopts", "True False False", "lib --jobs 2 | a b | a b | True"]
+        self.assertEqual(self.made_by(kit, "--of-gate"), (3, told))
 
     def test_another_kit_makes_the_library_in_its_own_way(self):
         itself = (0, ["itself lib --jobs 2"])

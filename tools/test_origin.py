@@ -4,45 +4,20 @@
 import os
 import subprocess
 import sys
-import tempfile
 import unittest
-from unittest import mock
 
-HERE = os.path.dirname(os.path.abspath(__file__))
-sys.dont_write_bytecode = True
-sys.path.insert(0, HERE)
-import origin  # noqa: E402
+import testing
 
 
-class Origins(unittest.TestCase):
+class Origins(testing.Housed):
     def setUp(self):
-        self.room = tempfile.TemporaryDirectory()
-        self.top = self.room.name
-        for path in ("crates/low/src", "embed", "tools", "out"):
-            os.makedirs(os.path.join(self.top, path))
-        with open(os.path.join(HERE, "origin.py"), encoding="utf-8") as it:
-            self.write("tools/origin.py", it.read())
+        super().setUp()
+        self.take_tools()
         self.write(".gitignore", "out/\n")
         self.write("crates/low/src/lib.rt", "one\n")
         self.write("embed/build", "how\n")
         self.write("out/program", "built of one\n")
-        self.git("init", "-q")
         self.commit()
-
-    def tearDown(self):
-        self.room.cleanup()
-
-    def write(self, path, text):
-        with open(os.path.join(self.top, path), "w", encoding="utf-8") as it:
-            it.write(text)
-
-    def git(self, *words):
-        names = ["-c", "user.name=a", "-c", "user.email=a@b"]
-        subprocess.run(["git", "-C", self.top, *names, *words], check=True)
-
-    def commit(self):
-        self.git("add", "-A")
-        self.git("commit", "-q", "-m", "sources")
 
     def asked(self, *words):
         words = [os.path.join(self.top, it) if it.startswith("out/") else it for it in words]
@@ -97,12 +72,6 @@ class Origins(unittest.TestCase):
         self.asked("note", "out/program", "crates")
         self.asked("note", "out/linked", "--from", "out/program", "embed/build")
         self.assertEqual(self.asked("check", "out/linked", "crates", "embed/build"), (0, ""))
-
-    def test_without_git_nothing_is_noted(self):
-        with tempfile.TemporaryDirectory() as elsewhere:
-            self.assertIsNone(origin.committed(elsewhere, ["crates"]))
-            with mock.patch.dict(os.environ, {"PATH": elsewhere}):
-                self.assertIsNone(origin.committed(self.top, ["crates"]))
 
 
 if __name__ == "__main__":

@@ -10,10 +10,8 @@ import sys
 import tempfile
 import unittest
 
-sys.dont_write_bytecode = True
-TOP = os.path.dirname(os.path.dirname(os.path.abspath(__file__)))
-sys.path.insert(0, os.path.join(TOP, "tools"))
-import origin  # noqa: E402
+import origin
+from testing import TOP, put
 
 # What a test says, how it ends, and what it makes.
 SOUND = {
@@ -32,14 +30,6 @@ def script(told, status, making=""):
     return "#!/bin/sh\n%s\nprintf '%%b' '%s\\n'\nexit %d\n" % (making, told, status)
 
 
-def put(house, path, text):
-    path = os.path.join(house, path)
-    os.makedirs(os.path.dirname(path), exist_ok=True)
-    with open(path, "w", encoding="utf-8") as it:
-        it.write(text)
-    os.chmod(path, 0o755)
-
-
 @contextlib.contextmanager
 def house_of(without=(), **changed):
     """A repository in place of this one, whose parts say, end or make something else, and which lacks some commands."""
@@ -54,7 +44,8 @@ def house_of(without=(), **changed):
         put(house, "crates/ripsawbean/lib.rt", "one\n")
         os.makedirs(os.path.join(house, "bin"), exist_ok=True)
         os.symlink(shutil.which("mkdir"), os.path.join(house, "bin", "mkdir"))
-        shutil.copy(os.path.join(TOP, "tools", "origin.py"), os.path.join(house, "tools"))
+        for name in ("origin.py", "git.py"):
+            shutil.copy(os.path.join(TOP, "tools", name), os.path.join(house, "tools"))
         yield house
 
 
@@ -154,15 +145,10 @@ class Packages(unittest.TestCase):
     def status_of(self, **commands):
         """The status and the last line, on a machine whose commands say and end as given."""
         with tempfile.TemporaryDirectory() as room:
-            for name in ("sh", "grep", "seq", "sleep", "timeout"):
-                os.symlink(shutil.which(name), os.path.join(room, name))
             for name, text in {"id": "echo 0", "sleep": ":", "dpkg-query": "exit 1", **commands}.items():
-                path = os.path.join(room, name.replace("_", "-"))
-                if os.path.lexists(path):
-                    os.remove(path)
-                with open(path, "w", encoding="utf-8") as it:
-                    it.write("#!/bin/sh\n%s\n" % text)
-                os.chmod(path, 0o755)
+                put(room, name.replace("_", "-"), "#!/bin/sh\n%s\n" % text)
+            for name in ("sh", "grep", "seq", "timeout"):
+                os.symlink(shutil.which(name), os.path.join(room, name))
             words = [os.path.join(TOP, "tools", "packages"), "one", "other"]
             ran = subprocess.run(words, env={"PATH": room}, capture_output=True, text=True)
             return ran.returncode, (ran.stdout.splitlines() or [""])[-1]
