@@ -10,8 +10,6 @@ changed since, and its status is then 1.
 """
 
 import argparse
-import importlib.machinery
-import importlib.util
 import json
 import re
 import subprocess
@@ -20,11 +18,12 @@ from pathlib import Path
 from typing import Any, Dict, Iterator, List
 
 TOP = Path(__file__).resolve().parent.parent
-sys.dont_write_bytecode = True
 sys.path.insert(0, str(TOP / "tools"))
+import check_table  # noqa: E402
+import git  # noqa: E402
+import last_run  # noqa: E402
 import origin  # noqa: E402
 
-COLUMNS = ("check", "result", "counted", "seconds", "commit", "date", "machine")
 # Checks that say how something is, and not whether a release is right.
 OPTIONAL = ("slow-proofs",)
 OWN = ("build-record.json", "SHA256SUMS")
@@ -36,39 +35,21 @@ def said(*words: str) -> str:
     return subprocess.run(words, cwd=TOP, capture_output=True, check=True, text=True).stdout.strip()
 
 
-def checks_of_house() -> Any:
-    """The script `checks` as a module."""
-    loader = importlib.machinery.SourceFileLoader("checks", str(TOP / "tools" / "checks"))
-    made = importlib.util.module_from_spec(importlib.util.spec_from_loader("checks", loader))
-    sys.modules["checks"] = made
-    loader.exec_module(made)
-    return made
-
-
-def rows(page: str) -> Iterator[Dict[str, str]]:
-    """The rows of LAST-RUN's table."""
-    for line in page.splitlines():
-        cells = [it.strip() for it in line.strip("|").split("|")]
-        if line.startswith("| `") and len(cells) == len(COLUMNS):
-            yield dict(zip(COLUMNS, [cells[0].strip("`"), *cells[1:]]))
-
-
-def faults(found: Dict[str, Dict[str, str]], house: Any) -> Iterator[str]:
+def faults(rows: last_run.Rows) -> Iterator[str]:
     """What speaks against a release: each check that didn't pass for the sources as they are now."""
-    asked = argparse.Namespace(minutes=1, is_bounded=False, since=None)
-    for check in house.checks_of(asked):
-        row = found.get(check.name)
+    for check in check_table.read():
+        row = rows.get(check.name)
         if check.name in OPTIONAL:
             continue
         if not row:
             yield "%s wasn't run" % check.name
-        elif row["result"] != "passed":
-            yield "%s %s" % (check.name, row["result"])
-        elif PART.search(row["counted"]):
-            yield "%s left something out: %s" % (check.name, row["counted"])
-        elif " and changes" in row["commit"]:
+        elif row.result != "passed":
+            yield "%s %s" % (check.name, row.result)
+        elif PART.search(row.counted):
+            yield "%s left something out: %s" % (check.name, row.counted)
+        elif " and changes" in row.commit:
             yield "%s passed with changes that weren't committed" % check.name
-        elif house.marked(row["commit"], check).endswith(house.CHANGED):
+        elif last_run.marked(str(TOP), row, check) != last_run.unmarked(row):
             yield "%s passed before what it checks was changed" % check.name
 
 
@@ -81,7 +62,7 @@ def made_of(name: str, path: Path) -> Dict[str, Any]:
 def statement(its: argparse.Namespace, checked: List[Dict[str, str]]) -> Dict[str, Any]:
     subjects = [it for it in sorted(its.dist.iterdir()) if it.name not in OWN]
     materials = [
-        {"name": "repository", "digest": {"gitCommit": said("git", "rev-parse", "HEAD")}},
+        {"name": "repository", "digest": {"gitCommit": git.said(str(TOP), "rev-parse", "HEAD")}},
         {"name": "toolchain", "annotations": {"rt version": said("rt", "version")}},
         made_of("mvfeed, as proved and built", its.program),
         made_of("libripsawbean.a, as proved and built", its.embed / "libripsawbean.a"),
@@ -111,9 +92,9 @@ def statement(its: argparse.Namespace, checked: List[Dict[str, str]]) -> Dict[st
 
 
 def main() -> None:
-    checked = list(rows(said("git", "show", "HEAD:docs/LAST-RUN.md")))
+    rows = last_run.read(git.said(str(TOP), "show", "HEAD:" + last_run.PAGE))
     if sys.argv[1:] == ["--check"]:
-        against = list(faults({it["check"]: it for it in checked}, checks_of_house()))
+        against = list(faults(rows))
         sys.exit("docs/LAST-RUN.md has no passed check of these sources: " + "; ".join(against) if against else 0)
     parser = argparse.ArgumentParser(description=__doc__, formatter_class=argparse.RawDescriptionHelpFormatter)
     parser.add_argument("--version", required=True)
@@ -123,6 +104,7 @@ def main() -> None:
     parser.add_argument("--draft", action="store_true")
     parser.add_argument("dist", type=Path)
     its = parser.parse_args()
+    checked = [{"check": name, **row._asdict()} for name, row in rows.items()]
     print(json.dumps(statement(its, checked), indent=1))
 
 

@@ -62,7 +62,8 @@ class Checks(testing.Housed):
         self.assertEqual(self.result(Check("one", "a check", ["./gone"], r"(\d+) tests", "tests"))[0], "failed")
 
     def test_a_gate_passes_with_all_that_it_has(self):
-        whole, told = gate_counts.of_the_gate(testing.TOP), next(it.told for it in check_table.read() if it.name == "gate")
+        whole = gate_counts.of_the_gate(testing.TOP)
+        told = next(it.told for it in check_table.read() if it.name == "gate")
         for count, rest, result in [(whole, "", "passed"), (whole - 1, "", "failed"), (whole, " (a alone)", "failed")]:
             script = "echo '%d passed, 0 failed%s'" % (count, rest)
             self.assertEqual(self.result(check_of(script, told, "gate"))[0], result)
@@ -105,7 +106,7 @@ class Checks(testing.Housed):
         self.assertEqual((status, told[-1], row), (0, "checks: 0 passed, 0 failed", last_run.of(other)["one"]))
         self.write("log", "1 passed, 0 failed\n")
         status, told, row = self.ran(check_of("false", name="gate"), "--gate-log", os.path.join(self.top, "log"))
-        self.assertEqual((status, told[-1], row[:2]), (0, "checks: 1 passed, 0 failed", ("passed", "1 passed, 0 failed")))
+        self.assertEqual((status, row[:2]), (0, ("passed", "1 passed, 0 failed")))
 
     def test_a_name_that_is_no_check_s_is_refused(self):
         with contextlib.redirect_stderr(io.StringIO()) as told, self.assertRaises(SystemExit) as ended:

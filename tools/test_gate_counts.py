@@ -8,7 +8,7 @@ import testing
 
 class Logs(testing.Housed):
     def test_the_gate_s_row_is_the_first_count_of_its_log(self):
-        for path in ("low/src/lib.rt", "low/must-fail/one.edit", "high/must-fail/two.edit", "high/wrong-bodies/one.edit"):
+        for path in ("low/must-fail/one.edit", "high/must-fail/two.edit", "high/wrong-bodies/one.edit"):
             self.write("crates/" + path, "")
         count = gate_counts.of_the_gate(self.top)
         self.assertEqual(count, 4)

@@ -33,7 +33,7 @@ class Pages(testing.Housed):
         failed = self.row("failed", " and changes")
         self.put(b=failed)
         row = row._replace(commit=row.commit + ", changed since")
-        self.assertEqual(self.told(), ["| `%s` | %s |" % (name, " | ".join(it)) for name, it in (("a", row), ("b", failed))])
+        self.assertEqual(self.told(), ["| `a` | %s |" % " | ".join(row), "| `b` | %s |" % " | ".join(failed)])
         self.assertEqual(last_run.of(self.top), {"a": row, "b": failed})
 
     def test_a_mark_goes_where_the_sources_are_again_as_they_were(self):
