@@ -413,10 +413,11 @@ def file_length(house):
 
 @rule
 def line_length(house):
-    """A line of a page or script has at most 120 columns, unless it is of a table, or of a block of code in a page."""
+    """A line of a page, a script or a file of tools has at most 120 columns, unless it is of a table, or of a block of
+    code in a page."""
     for path in house.paths:
         is_page, inside = path.endswith(".md"), False
-        if not is_page and not house.text(path).startswith("#!"):
+        if not is_page and not path.startswith("tools/") and not house.text(path).startswith("#!"):
             continue
         for number, line in house.lines(path):
             inside ^= is_page and line.startswith("```")

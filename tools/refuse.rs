@@ -1,6 +1,6 @@
-//! Allocation as the C library has it, but for one growth, which is refused. `refused-growths` beside this builds it as a
-//! library, and lays that under tests. REFUSED_GROWTH counts the growth, from 1, and REFUSED_MARK names a file that is
-//! made where there was one.
+//! Allocation as the C library has it, but for one growth, which is refused. `refused-growths` beside this builds it as
+//! a library, and lays that under tests. REFUSED_GROWTH counts the growth, from 1, and REFUSED_MARK names a file that
+//! is made where there was one.
 
 use std::ffi::{c_char, c_int, c_long, c_void};
 use std::sync::atomic::{AtomicBool, AtomicI64, Ordering};

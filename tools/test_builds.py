@@ -1,7 +1,6 @@
 """Tests of builds.py: what is built, what was built before, and a build that doesn't end."""
 
 import os
-import unittest
 from unittest import mock
 
 import builds
@@ -37,7 +36,3 @@ class Builds(testing.Housed):
             with self.assertRaises(SystemExit) as told:
                 builds.build(self.top, "the program", ["sh", "-c", script], 1)
             self.assertIn(why, str(told.exception))
-
-
-if __name__ == "__main__":
-    unittest.main()

@@ -2,7 +2,6 @@
 
 import os
 import re
-import unittest
 
 import check_table
 import testing
@@ -48,7 +47,3 @@ class Table(testing.Housed):
         self.assertEqual((all_of_them.command[1:], all_of_them.word), ([], ""))
         self.assertEqual(some.command[1:], ["--minutes", "3", "--since", "abc"])
         self.assertEqual(some.word, "of those changed since abc")
-
-
-if __name__ == "__main__":
-    unittest.main()

@@ -1,4 +1,3 @@
-#!/usr/bin/env python3
 """Tests of the script `checks`: what it makes of a check's end, and what its own status says. Then those of the scripts
 that it runs in a fresh clone."""
 
@@ -8,7 +7,6 @@ import os
 import re
 import subprocess
 import sys
-import unittest
 from unittest import mock
 
 import check_table
@@ -179,7 +177,3 @@ class FreshClones(testing.Housed):
             passed, told = self.in_a_clone(self.room + "/first", {"try": PLAYING % {**parts, part: other}})
             self.assertEqual((passed, why in told), (not part, True), (part, other, told))
             self.assertTrue(part or re.search(r"took [12] seconds", told))
-
-
-if __name__ == "__main__":
-    unittest.main()

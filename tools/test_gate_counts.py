@@ -1,6 +1,5 @@
 """Tests of gate_counts.py: what of a log is the gate's."""
 
-import unittest
 
 import gate_counts
 import testing
@@ -40,7 +39,3 @@ class Logs(testing.Housed):
                     continue
                 with self.assertRaises(SystemExit):
                     gate_counts.from_log(self.top, self.top + "/log")
-
-
-if __name__ == "__main__":
-    unittest.main()

@@ -1,6 +1,5 @@
 """Tests of last_run.py: which rows stay, which are marked, and which are taken from another checkout."""
 
-import unittest
 
 import last_run
 import testing
@@ -66,7 +65,3 @@ class Pages(testing.Housed):
         self.assertNotIn("changes", commit)
         self.write("crates.txt", "low:\nhigh:\n")
         self.assertIn("` and changes", last_run.here(self.top)[0])
-
-
-if __name__ == "__main__":
-    unittest.main()

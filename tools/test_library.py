@@ -1,46 +1,12 @@
-#!/usr/bin/env python3
 """Tests of library.py by a kit that only plays one."""
 
 import os
 import subprocess
 import sys
-import unittest
 
 import testing
 
-# It tells with what its compiler would make a library, and whether it would look for kept work.
-KIT = """#!/usr/bin/env python3
-import sys
-import types
-
-
-class Crate:
-    def __init__(self, rlib=""):
-        self.rlib = rlib
-
-    def is_built(self):
-        return False
-
-    def words(self, flags, tests=False, keeps=True, as_source=False):
-        return ["a", *flags]
-
-
-rtlib = types.SimpleNamespace(Crate=Crate, libraries_keep=lambda: True, help_of=lambda verb: "Takes --statements")
-
-
-def adopt(crate, is_alone=True):
-    print("adopts")
-
-
-def main(words):
-    adopt(None, is_alone=False)
-    print(*words, "|", *Crate().words(["b"]), "|", *Crate().words(["b"], as_source=True), "|", rtlib.libraries_keep())
-    return 3
-
-
-if __name__ == "__main__":
-    print("itself", *sys.argv[1:])
-"""
+KIT = testing.player("library_rt.py")
 
 
 class Libraries(testing.Housed):
@@ -69,7 +35,3 @@ class Libraries(testing.Housed):
         for old, new in {"--statements": "", "def adopt": "def other", "libraries_keep=": "other="}.items():
             self.assertEqual(self.made_by(KIT.replace(old, new)), itself)
         self.assertEqual(self.made_by("#!/bin/sh\necho itself \"$@\"\n"), itself)
-
-
-if __name__ == "__main__":
-    unittest.main()

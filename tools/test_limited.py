@@ -40,7 +40,3 @@ class Limits(unittest.TestCase):
         ran.communicate(timeout=50)
         time.sleep(3)
         self.assertFalse(os.path.exists(self.late))
-
-
-if __name__ == "__main__":
-    unittest.main()

@@ -1,4 +1,3 @@
-#!/usr/bin/env python3
 """Plants a breach of each rule of lint.py in a small house that keeps them all, and sees that the rule, and no other,
 tells it."""
 
@@ -156,6 +155,7 @@ PLANTED = {
     "line_length": [
         ("docs/GUIDE.md", "For users.", "For users." + " word" * 30),
         ("tools/run", "Runs it.", "Runs it." + " word" * 30),
+        ("tools/running.py", "", '"""Runs it."""' + "  # word" * 30),
     ],
     "paths_of_machines": [("README.md", "more", "/ho" + "me/me/more")],
     "pictures": [
@@ -217,7 +217,3 @@ class Rules(unittest.TestCase):
     def test_numbers_are_read_in_words(self):
         told = {"12": 12, "twenty": 20, "twenty-one": 21, "Nineteen": 19, "several": None, "and": None}
         self.assertEqual({it: lint.number_of(it) for it in told}, told)
-
-
-if __name__ == "__main__":
-    unittest.main()

@@ -1,8 +1,6 @@
-#!/usr/bin/env python3
 """Tests of the script `mutate`: what it turns of a source, what it leaves alone, and a whole run by an `rt` that only
 plays one."""
 
-import os
 import subprocess
 import tempfile
 import unittest
@@ -70,30 +68,7 @@ class Turns(unittest.TestCase):
         self.assertEqual((only.line, only.what), (2, "`one();` dropped"))
 
 
-# It proves each function, but refuses where a body says `2`, can't read one that says `None`, and names nothing where
-# one says `max`.
-PLAYER = r"""#!/usr/bin/env python3
-import re, sys
-verb, *words = sys.argv[1:]
-if verb in ("lib", "check"):
-    lines, status = open("src/lib.rt").read().split("\n"), 0
-    for at, line in enumerate(lines):
-        name = re.match(r"fn (\w+)", lines[at - 1])
-        if name and "None" in line:
-            print("src/lib.rt:%d:5: error: no value" % (at + 1))
-            sys.exit(1)
-    for at, line in enumerate(lines):
-        name = re.match(r"fn (\w+)", lines[at - 1])
-        if not name:
-            continue
-        wrong = "2" in line or "max" in line
-        status = status or int(wrong)
-        print("fn low::%s: %s" % (name[1], "not proved" if wrong else "proved"))
-        if "2" in line:
-            print("./proofs/%s/Answers.antt:1:1: error: `returns`: they differ" % name[1])
-    print("only=9 proved=8" if "--only" in words else "logic=%sproved" % ("not-" if status else ""))
-    sys.exit(status)
-"""
+PLAYER = testing.player("mutants_rt.py")
 LOW = "fn one() {\n    return Some(1)\n}\n\nfn two() {\n    a.min(3 + b)\n}\n"
 
 
@@ -121,7 +96,3 @@ class Runs(testing.Housed):
         self.assertIn("mutate: 0 of 5 tried in low: ", self.ran("low", "--minutes", "0")[-1])
         self.assertIn("mutate: 5 of 5 tried in low: ", self.ran("low", "--only", "lib.rt")[-1])
         self.assertEqual(self.ran("low", "--only", "far.rt"), [])
-
-
-if __name__ == "__main__":
-    unittest.main()

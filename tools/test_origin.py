@@ -1,10 +1,8 @@
-#!/usr/bin/env python3
 """Tests of origin.py: which files pass as of what is committed, and which don't."""
 
 import os
 import subprocess
 import sys
-import unittest
 
 import testing
 
@@ -72,7 +70,3 @@ class Origins(testing.Housed):
         self.asked("note", "out/program", "crates")
         self.asked("note", "out/linked", "--from", "out/program", "embed/build")
         self.assertEqual(self.asked("check", "out/linked", "crates", "embed/build"), (0, ""))
-
-
-if __name__ == "__main__":
-    unittest.main()

@@ -1,4 +1,3 @@
-#!/usr/bin/env python3
 """Tests of the script `refused-by-tests`: what of a test's end shows a refusal, and what of a prover's, how an edit is
 planted, and whole runs by an `rt` that only plays one."""
 
@@ -16,30 +15,7 @@ import testing
 script = testing.script("refused-by-tests")
 GOAL = "note: `returns-clause-closed` of proofs/closing/Closing/release/Answers.antt must prove:"
 FAILS = "test tests::leases::leases_end ... FAILED\n"
-# Its test fails where the source says `wrong`, isn't run where it says `unread`, and takes long where it says `slow`.
-# Its proof lacks an answer where the source says `refused`, and a name where it says `nameless`. It notes each source
-# that its test saw.
-PLAYER = """#!/usr/bin/env python3
-import os, sys, time
-text, notes = open("../low/src/lib.rt").read(), os.environ["NOTES"]
-if sys.argv[1] == "check":
-    if "refused" in text:
-        print("note: `returns-clause-one` of proofs/one/Answers.antt must prove:")
-    if "nameless" in text:
-        print("./proofs/one/Answers.antt:3:4: error: `two` is not in scope")
-    is_proved = "refused" not in text and "nameless" not in text
-    print("logic=proved functions=1" if is_proved else "logic=not-proved")
-    sys.exit(not is_proved)
-with open(notes, "a") as it:
-    it.write(" ".join(text.split()) + chr(10))
-if "slow" in text:
-    time.sleep(3)
-    open(notes + ".late", "w").close()
-if "unread" in text:
-    sys.exit("src/lib.rt:1:1: error: no word")
-print("test tests::%s ... %s" % (sys.argv[-1], "FAILED" if "wrong" in text else "ok"))
-sys.exit("wrong" in text)
-"""
+PLAYER = testing.player("tests_rt.py")
 
 
 class Refusals(unittest.TestCase):
@@ -179,7 +155,3 @@ class Edits(testing.Housed):
         for old in ("two", "gone"):
             with self.assertRaises(SystemExit):
                 script.planted(self.top, "low", [["src/lib.rt", old, "three"]])
-
-
-if __name__ == "__main__":
-    unittest.main()

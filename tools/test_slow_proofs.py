@@ -31,7 +31,3 @@ class Times(unittest.TestCase):
 
     def test_nothing_was_written(self):
         self.assertEqual(self.told(), [])
-
-
-if __name__ == "__main__":
-    unittest.main()

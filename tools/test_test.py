@@ -1,4 +1,3 @@
-#!/usr/bin/env python3
 """Tests of the script `test`: that its last line counts all that was run, that nothing else is left out than what the
 machine lacks, and that what it built of committed sources is noted."""
 
@@ -174,7 +173,3 @@ class Packages(unittest.TestCase):
             apt = 'case "$*" in *update) [ -f %s ] || { echo "E: Could not get lock"; : >%s; exit 100; } ;; esac'
             self.assertEqual(self.status_of(apt_get=apt % (held, held))[0], 0)
             self.assertTrue(os.path.exists(held))
-
-
-if __name__ == "__main__":
-    unittest.main()

@@ -1,10 +1,8 @@
-#!/usr/bin/env python3
 """Tests of the script `try`, with a kit that tells where it was asked for what."""
 
 import os
 import shutil
 import subprocess
-import unittest
 
 import testing
 # It tells its folder, its words and its input, and ends with a status of its own.
@@ -49,7 +47,3 @@ class Try(testing.Housed):
         self.script = shutil.copy2(self.script, self.top)
         for words in ([], ["check"]):
             self.assertEqual(self.tried(*words)[::2], ("", 1))
-
-
-if __name__ == "__main__":
-    unittest.main()

@@ -25,6 +25,12 @@ def script(name):
     return made
 
 
+def player(name):
+    """What plays a command."""
+    with open(os.path.join(HERE, "players", name), encoding="utf-8") as it:
+        return it.read()
+
+
 def put(top, path, text):
     """Puts a text into a file, which goes where there is none. What begins as a script does can be run."""
     path = os.path.join(top, path)
