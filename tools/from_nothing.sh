@@ -21,8 +21,8 @@ echo "the program took $(($(date +%s) - began)) seconds"
 if grep 'was proved before' told; then exit 1; fi
 cmp first.transcript examples/first.transcript
 cmp crates/mvfeed/out/mvfeed "$PROGRAM"
-"$@" tools/side_by_side.py ripsawbean 2>more || {
-    cat more
+"$@" tools/side_by_side.py ripsawbean 2>rest || {
+    cat rest
     exit 1
 }
 cmp crates/ripsawbean/out/libripsawbean.a "$LIBRARY"

@@ -60,15 +60,19 @@ class Crate:
     memory: float
 
 
+def sources(folder):
+    """The files that the proof of a crate reads, in order."""
+    walks = (os.walk(os.path.join(folder, part)) for part in PARTS)
+    return sorted(os.path.join(at, it) for walk in walks for at, _, names in walk for it in names)
+
+
 def count_of(pattern, folder, ending):
     """How often the files of that ending have the pattern, in a crate's folder."""
     count = 0
-    for part in PARTS:
-        for at, _, names in os.walk(os.path.join(folder, part)):
-            for name in names:
-                if name.endswith(ending):
-                    with open(os.path.join(at, name), "rb") as it:
-                        count += len(re.findall(pattern, it.read()))
+    for path in sources(folder):
+        if path.endswith(ending):
+            with open(path, "rb") as it:
+                count += len(re.findall(pattern, it.read()))
     return count
 
 
@@ -267,11 +271,7 @@ def furnish(top, room, name, lower):
     kept = os.path.join(top, "crates", name, "out")
     if not os.path.isdir(own) and os.path.isdir(kept):
         with locked(os.path.dirname(kept)):
-            os.rename(kept, own) if same_disk(kept, room) else shutil.move(kept, own)
-
-
-def same_disk(one, other):
-    return os.stat(one).st_dev == os.stat(other).st_dev
+            shutil.move(kept, own)
 
 
 def clear(top, room, name):

@@ -284,7 +284,7 @@ class Notes:
             found = hashlib.sha256(self.kit)
             for crate in [*side_by_side.below(deps, name), name]:
                 found.update(("%s: %s\n" % (crate, deps[crate])).encode())
-                for path in sources(os.path.join(self.top, "crates", crate)):
+                for path in side_by_side.sources(os.path.join(self.top, "crates", crate)):
                     found.update(("%s %s\n" % (os.path.relpath(path, self.top), uncommented(path))).encode())
             self.sums[name] = found.digest()
         return self.sums[name]
@@ -312,15 +312,6 @@ def notes_folder():
     """Where it is noted what was refused: in the user's cache, which all checkouts share."""
     cache = os.environ.get("XDG_CACHE_HOME") or os.path.join(os.path.expanduser("~"), ".cache")
     return os.path.join(cache, "ripsawbean", "wrong-bodies")
-
-
-def sources(folder):
-    """The files that a crate's proof reads, in order."""
-    found = []
-    for part in side_by_side.PARTS:
-        for at, _, names in os.walk(os.path.join(folder, part)):
-            found += [os.path.join(at, it) for it in names]
-    return sorted(found)
 
 
 def changed_since(top, commit):
