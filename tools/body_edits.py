@@ -87,6 +87,12 @@ def text_of(path):
         return it.read()
 
 
+def turned(was, now):
+    """Where what differs begins and ends in the old one of two texts."""
+    begin = len(os.path.commonprefix([was, now]))
+    return begin, len(was) - len(os.path.commonprefix([was[begin:][::-1], now[begin:][::-1]]))
+
+
 def read_edit(top, crate, name):
     """A wrong body of the crate, with the function that it changes where that is one."""
     folder = os.path.join(top, "crates", crate)
@@ -94,13 +100,11 @@ def read_edit(top, crate, name):
     if len(found) != 1:
         return Edit(crate, name)
     (path, (was, now)), *_ = found.items()
-    begin = len(os.path.commonprefix([was, now]))
-    behind = len(os.path.commonprefix([was[begin:][::-1], now[begin:][::-1]]))
-    end = len(was) - behind
+    begin, end = turned(was, now)
     for function, first, last in bodies(was):
         if path.startswith("src/") and was != now and first <= begin and end <= last:
             is_lone = functions_of(folder).count(function) == 1
-            return Edit(crate, name, path, function, begin, end, now[begin : len(now) - behind], is_lone)
+            return Edit(crate, name, path, function, begin, end, now[begin : end + len(now) - len(was)], is_lone)
     return Edit(crate, name)
 
 

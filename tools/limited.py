@@ -4,8 +4,9 @@ import contextlib
 import os
 import signal
 import subprocess
+import tempfile
 import time
-from typing import Any, List, Optional
+from typing import Any, List, Optional, Tuple
 
 
 def status_of(command: List[str], limit: Optional[float], **how: Any) -> Optional[int]:
@@ -18,6 +19,14 @@ def status_of(command: List[str], limit: Optional[float], **how: Any) -> Optiona
     finally:
         if ran.poll() is None:
             end(ran)
+
+
+def told_by(command: List[str], folder: str, limit: Optional[float] = None) -> Tuple[Optional[int], str]:
+    """The status of a command in a folder, and what it told."""
+    with tempfile.TemporaryFile("w+", errors="replace") as log:
+        status = status_of(command, limit, cwd=folder, stdout=log, stderr=subprocess.STDOUT)
+        log.seek(0)
+        return status, log.read()
 
 
 def end(ran: "subprocess.Popen[Any]") -> None:

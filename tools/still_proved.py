@@ -11,14 +11,12 @@ With the words of an `rt` this is that `rt`, to which a library counts as built 
 import os
 import re
 import shutil
-import subprocess
 import sys
 
-sys.path.insert(0, os.path.dirname(os.path.abspath(__file__)))
-sys.dont_write_bytecode = True
-import library  # noqa: E402
-from body_edits import SHOWS_NOTHING, UNREAD, bodies, check_alone, text_of  # noqa: E402
-from side_by_side import below, link_or_copy, listed  # noqa: E402
+import library
+import limited
+from body_edits import SHOWS_NOTHING, UNREAD, bodies, check_alone, text_of, turned
+from side_by_side import below, link_or_copy, listed
 
 PROVED = re.compile(r"(?m)^logic=proved|\bonly=([1-9]\d*) proved=\1\b")
 # An answer that is now wrong, or a goal that has none.
@@ -40,10 +38,7 @@ def lay_in(top, room, crate):
 
 def function_of(before, path):
     """The function whose body alone was changed in a file, or none."""
-    now = text_of(path)
-    begin = len(os.path.commonprefix([before, now]))
-    behind = len(os.path.commonprefix([before[begin:][::-1], now[begin:][::-1]]))
-    end = len(before) - behind
+    begin, end = turned(before, text_of(path))
     return next((name for name, first, last in bodies(before) if first <= begin and end <= last), None)
 
 
@@ -60,20 +55,7 @@ def check(top, room, crate, before):
     folder = os.path.join(room, "crates", crate)
     places = [(function_of(text, path), os.path.relpath(path, folder)) for path, text in before.items()]
     places = places if functions_of(before) else []
-    return check_alone(crate, places, lambda only: told_by([*rt, "check", "--jobs", "1", *only], folder))
-
-
-def told_by(words, folder):
-    """The status of a command, and what it told. It ends with this script."""
-    how = {"stdin": subprocess.DEVNULL, "stdout": subprocess.PIPE, "stderr": subprocess.STDOUT, "errors": "replace"}
-    ran = subprocess.Popen(words, cwd=folder, start_new_session=True, **how)
-    try:
-        told = ran.communicate()[0]
-        return ran.returncode, told
-    finally:
-        if ran.poll() is None:
-            ran.terminate()
-            ran.communicate()
+    return check_alone(crate, places, lambda only: limited.told_by([*rt, "check", "--jobs", "1", *only], folder))
 
 
 def is_proved(status, told):

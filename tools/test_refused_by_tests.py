@@ -132,26 +132,24 @@ class Edits(testing.Housed):
         self.path = os.path.join(self.top, "crates/low/src/lib.rt")
         self.write(self.path, "one\ntwo\ntwo\n")
 
-    def fields(self, text):
+    def edit(self, text):
         self.write("a.edit", text)
-        return script.fields(os.path.join(self.top, "a.edit"))
+        return os.path.join(self.top, "a.edit")
 
-    def test_an_edit_names_a_test_and_what_it_turns(self):
-        """An edit without a test, or with nothing to turn, ends the run."""
+    def test_an_edit_names_a_test(self):
         turned = "file: src/lib.rt\nold: one\nnew: three\n"
-        told = self.fields("test: tests leases_end\n" + turned)
-        self.assertEqual(told, (("tests", "leases_end"), [["src/lib.rt", "one", "three"]]))
-        for text in (turned, "test: tests leases_end\n"):
-            with self.assertRaises(SystemExit):
-                self.fields(text)
+        self.assertEqual(script.test_of(self.edit("test: tests leases_end\n" + turned)), ("tests", "leases_end"))
+        with self.assertRaises(SystemExit):
+            script.test_of(self.edit(turned))
 
     def test_what_stood_there_is_told_and_can_be_put_back(self):
         """The next edit is planted in the sources as they stand, so two pairs of a file give back its first text."""
-        pairs = [["src/lib.rt", "one", "three"], ["src/lib.rt", "three", "four"]]
-        self.assertEqual(script.planted(self.top, "low", pairs), {self.path: "one\ntwo\ntwo\n"})
+        both = self.edit("test: tests ends\nfile: src/lib.rt\nold: one\nnew: three\nold: three\nnew: four\n")
+        self.assertEqual(script.planted(self.top, "low", both), {self.path: "one\ntwo\ntwo\n"})
         self.assertEqual(self.text(self.path), "four\ntwo\ntwo\n")
 
-    def test_a_text_that_stands_there_twice_or_never_ends_the_run(self):
-        for old in ("two", "gone"):
+    def test_an_edit_that_cannot_be_planted_ends_the_run(self):
+        """A text that stands there twice or never can't be turned, and an edit without one turns nothing."""
+        for turned in ("old: two\nnew: three\n", "old: gone\nnew: three\n", ""):
             with self.assertRaises(SystemExit):
-                script.planted(self.top, "low", [["src/lib.rt", old, "three"]])
+                script.planted(self.top, "low", self.edit("test: tests ends\nfile: src/lib.rt\n" + turned))
