@@ -102,6 +102,7 @@ class Checks(testing.Housed):
         one = check_of("false")
         status, told, row = self.ran(one, "--rows", other)
         self.assertEqual((status, told[-1], row), (0, "checks: 0 passed, 0 failed", last_run.of(other)["one"]))
+        self.assertEqual(told[0], "rows of %s: one" % other)
         self.write("log", "1 passed, 0 failed\n")
         status, told, row = self.ran(check_of("false", name="gate"), "--gate-log", os.path.join(self.top, "log"))
         self.assertEqual((status, row[:2]), (0, ("passed", "1 passed, 0 failed")))
