@@ -440,11 +440,11 @@ def main(words):
                 return 0
             signal.signal(signal.SIGTERM, build.end)
             signal.signal(signal.SIGINT, build.end)
-            begun, sources = time.time(), origin.committed(TOP, SOURCES)
+            begun, sources = time.time(), git.committed(TOP, SOURCES)
             if not build.run():
                 return 1
             # What is edited meanwhile counts as newer, and what is committed meanwhile as another's.
-            is_of_one = sources == origin.committed(TOP, SOURCES)
+            is_of_one = sources == git.committed(TOP, SOURCES)
             for it in made_of(TOP, words[0]):
                 os.utime(it, (begun, begun))
                 if os.path.isfile(it):

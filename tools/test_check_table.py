@@ -4,6 +4,7 @@ import os
 import re
 
 import check_table
+import side_by_side
 import testing
 
 
@@ -21,11 +22,15 @@ class Table(testing.Housed):
             self.assertLessEqual(set(check.needs), {"program", "library", "named"}, check.name)
 
     def test_what_a_check_is_of_is_there(self):
+        with open(os.path.join(testing.TOP, "crates.txt"), encoding="utf-8") as it:
+            crates = side_by_side.listed(it.read())
         for check in check_table.read():
             self.assertTrue(check.of, check.name)
             for word in check.of:
                 names, colon, parts = word.partition(":")
                 self.assertTrue(colon or os.path.exists(os.path.join(testing.TOP, word)), (check.name, word))
+                for like in [*names.split(","), *("*/" + it for it in parts.split(","))] if colon else ():
+                    self.assertTrue(check_table.crates_like(testing.TOP, crates, like), (check.name, like))
             places = check_table.sources(testing.TOP, check)
             self.assertEqual("crates.txt" in places, ":" in " ".join(check.of))
 

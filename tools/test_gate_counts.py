@@ -1,6 +1,5 @@
 """Tests of gate_counts.py: what of a log is the gate's."""
 
-
 import gate_counts
 import testing
 

@@ -1,6 +1,5 @@
 """Tests of last_run.py: which rows stay, which are marked, and which are taken from another checkout."""
 
-
 import last_run
 import testing
 from check_table import Check
