@@ -273,6 +273,8 @@ fn prepared(core: &Core, session: &mut Session, line: &[u8], is_spoiled: bool) -
         (b"commit" | b"abort", _) if is_spoiled => Ok(dot(session, b"abort", line)),
         _ if is_spoiled => Err(Fault::Skipped),
         (b"begin", _) => begin(core, session, line, rest),
+        (b"get" | b"scan", Some(_)) if !core.may_read() => Err(Fault::Full),
+        (b"del", Some(_)) if !core.may_delete() => Err(Fault::Full),
         (b"close", Some(to)) => bound(core, to).map(|()| None),
         (b"closehard", Some(to)) => bound(core, to).map(|()| None),
         (b"put", Some(_)) if !core.is_full() => Ok(dot(session, command, line)),
@@ -334,6 +336,9 @@ fn begin(core: &Core, session: &mut Session, line: &[u8], rest: Option<&[u8]>) -
     session.last = None;
     if core.limits.is_draining {
         return Err(Fault::Draining);
+    }
+    if !core.may_read() {
+        return Err(Fault::Full);
     }
     if let Some(timestamp) = rest {
         bound(core, timestamp)?;

@@ -39,6 +39,8 @@ const READ: usize = 1 << 16;
 const AHEAD: usize = 1 << 16;
 /// Bytes of answers beyond which they are written before the next message is taken.
 const WRITE: usize = 1 << 16;
+/// What a session has in hand beside a message and its answers: what is read ahead, read, and written.
+pub const BESIDE: usize = 4 * (READ + AHEAD);
 /// A session that waits for others' readers looks so often what its own client does.
 const LOOK: Duration = Duration::from_millis(50);
 
@@ -162,7 +164,7 @@ impl Socket {
     /// Reads what is there already, and lets others in.
     async fn look(&mut self) -> Result<(), End> {
         let first = self.waiting.front().map_or(0, |first| first.bytes);
-        if self.ahead - first >= AHEAD || self.end.is_some() {
+        if self.ahead - first + self.decoder.begun() >= AHEAD || self.end.is_some() {
             tokio::task::yield_now().await;
             return Ok(());
         }

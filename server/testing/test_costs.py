@@ -197,6 +197,10 @@ class Operators(unittest.IsolatedAsyncioTestCase):
             self.assertGreater(int(samples["ripsawbean_bytes_in_total"]), 100)
             self.assertGreater(int(samples["ripsawbean_bytes_out_total"]), 500)
             self.assertIn("ripsawbean_oldest_transaction_seconds", samples)
+            self.assertGreaterEqual(int(samples["ripsawbean_memory_max_bytes"]), 0)
+            self.assertGreater(int(samples["ripsawbean_memory_reserve_bytes"]), 0)
+            self.assertEqual([samples['ripsawbean_memory_growth_bytes{kind="%s"}' % kind] for kind in ("open", "deleted")],
+                             ["0", "0"])
             self.assertIn("ripsawbean_closing_delay_seconds", samples)
             self.assertTrue(any(name.startswith("ripsawbean_build_info{version=") for name in samples))
 

@@ -182,12 +182,13 @@ fn a_session_holds_so_many_of_each() {
 
 #[test]
 fn where_memory_is_full_rows_can_be_deleted_and_not_put() {
-    let mut core = core(&["--max-memory", "1000"]);
+    let mut core = core(&["--max-memory", "10000"]);
     let mut one = session(&mut core);
-    core.watch_memory(1001);
+    core.watch_memory(10_001);
     let told = answers(&mut core, &mut one, "begin\ndel . a\ncommit .\nbegin\nput . a 1\ncommit .\n");
     assert_eq!(told, ["started", "written", "committed 1", "started", "fault 5 67 full", "aborted"]);
-    core.watch_memory(999);
+    // The transaction needs room too.
+    core.watch_memory(9_000);
     assert_eq!(answers(&mut core, &mut one, "begin\nput . a 1\n"), ["started", "written"]);
 }
 
