@@ -8,7 +8,7 @@
 //! get . KEY        `.` is the timestamp that the session began last; so in scan, put, del, commit and abort
 //! begin TS         is refused far ahead of all others, and so are close and closehard: it would end the database
 //! poll, release    are refused for what the server holds for a stream or a name
-//! poll FEED MAX    has a MAX of 128 at most
+//! poll FEED MAX    has a MAX of 63 at most
 //! ```
 //!
 //! Whoever wrote `commit .` into a message hasn't seen what failed before it in that message. So behind a fault, and
@@ -43,7 +43,7 @@ use std::io::Write;
 use std::time::Instant;
 
 const GREATEST_LENGTH: usize = 19; // digits of the greatest timestamp
-const MOST_POLLED: u64 = 128; // messages: at their longest 12 MB of text
+const MOST_POLLED: u64 = 63; // messages: at their longest they have 4 MB, which --max-answer lets through
 
 /// What a session may do.
 #[derive(Clone, Copy, Debug)]

@@ -79,7 +79,7 @@ const TABLE: [Row; 38] = [
     whole("keep-bytes", 64 << 20, 0, MOST, "bytes of text kept for it"),
     whole("max-message", 1 << 20, 1, 1 << 30, "bytes of a message or body"),
     whole("max-reply", 8 << 20, 1, 1 << 30, "bytes of answers to one message beyond which no further call is made"),
-    whole("max-answer", 8 << 20, LONGEST_ROW, 1 << 30, "bytes of rows or messages that no answer is longer than"),
+    whole("max-answer", 4 << 20, LONGEST_ROW, 1 << 30, "bytes of rows or messages that no answer is longer than"),
     whole("max-connections", 512, 8, 1 << 20, "connections at once"),
     whole("max-feeds", 256, 1, 1 << 20, "streams at once"),
     whole("max-consumers", 1024, 1, 1 << 20, "names"),

@@ -2,6 +2,7 @@
 
 use super::*;
 use crate::gate::{Right, Who};
+use crate::options::LONGEST_ROW;
 use crate::testing::{answers, core, end, session, texts, tidy, Dice};
 use ripsawbean::{Command, Span};
 use std::time::Duration;
@@ -306,13 +307,14 @@ fn the_log_says_who_has_ended_what_is_anothers() {
 #[test]
 fn a_poll_asks_for_so_many_at_most() {
     let mut core = core(&[]);
+    assert!(MOST_POLLED * LONGEST_ROW <= core.limits.max_answer as u64, "the longest find room");
     let mut one = session(&mut core);
     answers(&mut core, &mut one, "open - - 0\n");
     for (line, made) in [
-        ("poll 1 18446744073709551615\n", "poll 1 128 => messages 0\n"),
-        ("poll 1 9999999\n", "poll 1 128 => messages 0\n"),
-        ("poll 1 129\n", "poll 1 128 => messages 0\n"),
-        ("poll 1 128\n", "poll 1 128 => messages 0\n"),
+        ("poll 1 18446744073709551615\n", "poll 1 63 => messages 0\n"),
+        ("poll 1 9999999\n", "poll 1 63 => messages 0\n"),
+        ("poll 1 64\n", "poll 1 63 => messages 0\n"),
+        ("poll 1 63\n", "poll 1 63 => messages 0\n"),
         ("poll 1 7\n", "poll 1 7 => messages 0\n"),
     ] {
         assert!(texts(&mut core, &mut one, line).ends_with(made), "{line}");

@@ -30,7 +30,7 @@ fn defaults_are_those_that_operators_know() {
     assert_eq!((options.port, options.address.to_string()), (7077, "127.0.0.1".to_string()));
     assert_eq!((options.ring, options.max_lag, options.ahead), (1024, 1_000_000, 1_000_000));
     assert_eq!((options.keep, options.keep_bytes), (10_000, 67_108_864));
-    assert_eq!((options.max_message, options.max_reply, options.max_answer), (1_048_576, 8_388_608, 8_388_608));
+    assert_eq!((options.max_message, options.max_reply, options.max_answer), (1_048_576, 8_388_608, 4_194_304));
     assert_eq!((options.max_connections, options.max_feeds, options.max_consumers), (512, 256, 1024));
     assert_eq!((options.close_every, options.max_age, options.history), (seconds(0.0), seconds(30.0), seconds(5.0)));
     assert_eq!((options.heartbeat, options.patience), (seconds(20.0), seconds(30.0)));
