@@ -178,8 +178,8 @@ impl Core {
 
     /// How old an undecided transaction may be: less where others press, which it holds up.
     fn most_age(&self) -> Duration {
-        let Grown { open, deleted } = self.growth();
-        match open.max(deleted) {
+        let Grown { open, deleted, held } = self.growth();
+        match open.max(deleted).max(held) {
             Growing::Free => self.closing.max_age,
             Growing::Pressed | Growing::Over => self.closing.max_age.min(SHORT_AGE),
         }
@@ -316,6 +316,11 @@ impl Core {
         self.growth().deleted < Growing::Over
     }
 
+    /// Whether sessions may begin, open feeds, and protect. Where memory is full, they may as far as others have ended.
+    pub fn may_hold(&self) -> bool {
+        self.growth().held < Growing::Over
+    }
+
     /// Whether more was taken since memory was looked at than can wait.
     pub fn has_to_look(&self, now: Instant) -> bool {
         self.closing.memory.is_due(self.taken(), now)
@@ -323,15 +328,16 @@ impl Core {
 
     /// Bytes that were ever taken.
     fn taken(&self) -> u64 {
-        self.ledger.written + self.ledger.growth.of_reads().0
+        self.ledger.written + self.ledger.growth.taken().0
     }
 
     /// Looks at the memory that the server takes.
     pub fn watch_memory(&mut self, resident: u64) {
-        let rows = self.ledger.rows.total;
+        let (rows, growth) = (self.ledger.rows.total, &self.ledger.growth);
         let collected = self.ledger.collected.saturating_mul(ROW + rows.bytes / rows.rows.max(1));
-        let freed = collected + self.ledger.taken_back + self.ledger.growth.of_reads().1;
-        self.closing.memory.look(resident, self.taken(), freed, self.ledger.growth.now());
+        let (_, given_back) = growth.taken();
+        let freed = collected + self.ledger.taken_back + given_back;
+        self.closing.memory.look(resident + growth.rings(), self.taken(), freed, growth.now());
     }
 }
 

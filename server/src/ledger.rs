@@ -144,6 +144,11 @@ pub struct Ledger {
 }
 
 impl Ledger {
+    /// That of a new database, where each feed has a ring of so many rows.
+    pub fn new(ring: u32) -> Ledger {
+        Ledger { growth: Growth::new(ring), ..Ledger::default() }
+    }
+
     /// Notes what an event did, by a call of this owner.
     pub fn note(&mut self, seats: &mut Seats, owner: Owner, outcome: &Outcome) {
         self.calls += 1;
@@ -292,6 +297,7 @@ impl Ledger {
     fn end_of(&mut self, seats: &mut Seats, ts: u64, rows: u64) {
         let Some(transaction) = self.undecided.remove(&ts) else { return };
         self.taken_back += of_writes(transaction.wrote, transaction.wrote.rows.saturating_sub(rows));
+        self.growth.decide();
         self.ages.remove(&(transaction.since, ts));
         self.awaited.remove(&ts);
         if let Some(taken) = seats.taken_mut(transaction.seat) {
@@ -328,8 +334,9 @@ impl Ledger {
         let feed = Feed { owner, opened, floor: cursor, consumer: None, told: 0, waits: false, is_behind: false };
         self.feeds.insert(number, feed);
         self.floors.insert((cursor, number));
-        if owner == Owner::Server {
-            self.streamed.insert(number);
+        match owner {
+            Owner::Server => drop(self.streamed.insert(number)),
+            Owner::Seat(_) => self.growth.open_feed(command.len() as u64),
         }
         if let Some(taken) = seats.of_mut(owner) {
             taken.feeds.insert(number);
@@ -352,6 +359,9 @@ impl Ledger {
         let reason = self.reasons.remove(&number).unwrap_or(Reason::FeedCancelled);
         let Some(feed) = self.feeds.remove(&number) else { return };
         self.floors.remove(&(feed.floor, number));
+        if feed.owner != Owner::Server {
+            self.growth.end_feed(feed.opened.len() as u64);
+        }
         if let Some(taken) = seats.of_mut(feed.owner) {
             taken.feeds.remove(&number);
         }
@@ -365,6 +375,9 @@ impl Ledger {
     fn protected(&mut self, seats: &mut Seats, owner: Owner, id: u64, timestamp: u64) {
         self.protections.insert(id, Protection { owner, timestamp, consumer: None });
         self.protected.insert((timestamp, id));
+        if owner != Owner::Server {
+            self.growth.protect();
+        }
         if let Some(taken) = seats.of_mut(owner) {
             taken.protections.insert(id);
         }
@@ -373,6 +386,9 @@ impl Ledger {
     fn released(&mut self, seats: &mut Seats, id: u64) {
         let Some(protection) = self.protections.remove(&id) else { return };
         self.protected.remove(&(protection.timestamp, id));
+        if protection.owner != Owner::Server {
+            self.growth.release();
+        }
         if let Some(taken) = seats.of_mut(protection.owner) {
             taken.protections.remove(&id);
         }

@@ -280,6 +280,9 @@ fn prepared(core: &Core, session: &mut Session, line: &[u8], is_spoiled: bool) -
         (b"put", Some(_)) if !core.is_full() => Ok(dot(session, command, line)),
         (b"put", Some(_)) => Err(Fault::Full),
         (b"get" | b"scan" | b"del" | b"commit" | b"abort", Some(_)) => Ok(dot(session, command, line)),
+        (b"open" | b"openinitial" | b"openevery" | b"openinitialevery" | b"protect", Some(_)) if !core.may_hold() => {
+            Err(Fault::Full)
+        }
         (b"open" | b"openinitial" | b"openevery" | b"openinitialevery", Some(_)) => has_room(core, session, Kind::Feed),
         (b"protect", Some(_)) => has_room(core, session, Kind::Protection),
         (b"poll", Some(rest)) => poll(core, line, rest),
@@ -337,7 +340,7 @@ fn begin(core: &Core, session: &mut Session, line: &[u8], rest: Option<&[u8]>) -
     if core.limits.is_draining {
         return Err(Fault::Draining);
     }
-    if !core.may_read() {
+    if !core.may_read() || !core.may_hold() {
         return Err(Fault::Full);
     }
     if let Some(timestamp) = rest {

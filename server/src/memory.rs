@@ -10,9 +10,8 @@
 //! 3. Between two looks it becomes full once more was written than there was room for.
 //! 4. Rows are written for `OFTEN` at most until it is looked at again, because each takes more than it counts: its event
 //!    is kept for the transcript, and feeds keep it at hand. What is taken above the limit is `reserve`'s.
-//! 5. While resident memory is above the limit, transactions with their reads, and deletes, are `share_of` it above the
-//!    least that there was of either since. So nobody fills it by what isn't rows, and each goes on as what was before is
-//!    closed and collected.
+//! 5. While resident memory is above the limit, each kind of `growth` is `share_of` it above the least that there was of it
+//!    since. So nobody fills it by what isn't rows, and each goes on as what was before is closed, collected, or ended.
 
 use crate::growth::Grown;
 use std::time::{Duration, Instant};
@@ -21,13 +20,13 @@ use std::time::{Duration, Instant};
 const OFTEN: Duration = Duration::from_millis(20);
 /// Bytes that a version takes beside its key and value, as docs/OPERATING.md measures it.
 pub const ROW: u64 = 164;
-/// What each of the two kinds of growth may have, where a share of the limit is less.
+/// What each kind of growth may have, where a share of the limit is less.
 const LEAST_SHARE: u64 = 4 << 20;
 /// Parts of the limit: what each kind of growth may have, of which there are so many shares, what one reader may hold
 /// while memory is full, and where deletes wait for it. The last is so much less than the first that a reader is let go
 /// before deletes are refused.
-const GROWTH: u64 = 24;
-const SHARES: u64 = 3;
+const GROWTH: u64 = 32;
+const SHARES: u64 = 4;
 const READER: u64 = 8;
 const READER_IN_THE_WAY: u64 = 200;
 
@@ -82,12 +81,11 @@ impl Memory {
     /// How far each kind has grown of what it may.
     pub fn growth(&self, grown: Grown) -> Grown<Growing> {
         let (Some(least), Some(most)) = (self.least, self.most) else { return Grown::default() };
-        let growing = |least: u64, now: u64| match now.saturating_sub(least) {
+        least.zip(grown, |least, now| match now.saturating_sub(least) {
             more if more >= share_of(most) => Growing::Over,
             more if more >= share_of(most) / 2 => Growing::Pressed,
             _ => Growing::Free,
-        };
-        Grown { open: growing(least.open, grown.open), deleted: growing(least.deleted, grown.deleted) }
+        })
     }
 
     /// What there is now: resident bytes, bytes that were taken and given back since the start, and what has grown.
@@ -98,8 +96,7 @@ impl Memory {
             (self.full, self.room, self.least) = (None, Some(most - resident), None);
             return;
         }
-        let least = self.least.unwrap_or(grown);
-        self.least = Some(Grown { open: least.open.min(grown.open), deleted: least.deleted.min(grown.deleted) });
+        self.least = Some(self.least.unwrap_or(grown).zip(grown, u64::min));
         let now = Full { resident, written, freed };
         let since = *self.full.get_or_insert(now);
         if resident > since.resident + most / 64 {
@@ -128,7 +125,7 @@ pub fn share_of(most: u64) -> u64 {
     (most / GROWTH).max(LEAST_SHARE)
 }
 
-/// What both kinds may take. The library keeps what transactions have read until it has doubled, though it is closed.
+/// What all kinds may take. The library keeps what transactions have read until it has doubled, though it is closed.
 pub fn growth_of(most: u64) -> u64 {
     SHARES * share_of(most)
 }
@@ -143,7 +140,7 @@ pub fn within(bytes: u64) -> u64 {
 mod tests {
     use super::*;
 
-    const NOTHING: Grown = Grown { open: 0, deleted: 0 };
+    const NOTHING: Grown = Grown { open: 0, deleted: 0, held: 0 };
 
     #[test]
     fn without_a_limit_it_is_never_full() {
@@ -200,19 +197,19 @@ mod tests {
     #[test]
     fn while_it_is_full_each_kind_grows_by_a_share() {
         let (mut memory, share) = (Memory::new(Some(1000)), share_of(1000));
-        let (before, more) = (Grown { open: 5, deleted: 70 }, Grown { open: 5 + share, deleted: 70 });
-        let free = Grown { open: Growing::Free, deleted: Growing::Free };
+        let before = Grown { open: 5, deleted: 70, held: 9 };
+        let (more, free) = (Grown { open: 5 + share, ..before }, Grown::default());
         memory.look(1000, 0, 0, before);
         assert_eq!(memory.growth(more), free);
         memory.look(1001, 0, 0, before);
         assert_eq!(memory.growth(before), free);
         assert_eq!(memory.growth(more), Grown { open: Growing::Over, ..free });
         assert_eq!(
-            memory.growth(Grown { deleted: 70 + share / 2, ..before }),
-            Grown { deleted: Growing::Pressed, ..free }
+            memory.growth(Grown { deleted: 70 + share / 2, held: 9 + share, ..before }),
+            Grown { deleted: Growing::Pressed, held: Growing::Over, ..free }
         );
         // What was collected meanwhile doesn't grow again.
-        memory.look(1001, 0, 0, Grown { open: 6, deleted: 20 });
+        memory.look(1001, 0, 0, Grown { open: 6, deleted: 20, ..before });
         for _ in 0..2 {
             assert_eq!(memory.growth(Grown { deleted: 19 + share, ..before }).deleted, Growing::Pressed);
             assert_eq!(memory.growth(Grown { deleted: 20 + share, ..before }).deleted, Growing::Over);
@@ -226,7 +223,7 @@ mod tests {
     fn a_reader_that_is_in_the_way_of_deletes_may_hold_less() {
         let mut memory = Memory::new(Some(6400));
         memory.look(6401, 0, 0, NOTHING);
-        let deleted = |deleted| Grown { open: 0, deleted };
+        let deleted = |deleted| Grown { deleted, ..NOTHING };
         assert_eq!(memory.share_while_full(deleted(0)), 800);
         assert_eq!(memory.share_while_full(deleted(share_of(6400) / 2)), 32);
         // Also where rows have room, because others were collected.

@@ -124,9 +124,10 @@ fn of_database(text: &mut Text, core: &Core, server: &Server) {
     text.counter("ripsawbean_shouts_total", "Answers that were not the expected ones.", core.shouts);
     let grown = ledger.growth.now();
     let name = ("ripsawbean_memory_growth_bytes", "gauge");
-    let meaning =
-        "What transactions with their reads take until they are closed, and deletes until they are collected.";
-    text.labelled(name, meaning, "kind", [("open", grown.open), ("deleted", grown.deleted)]);
+    let meaning = "What transactions with their reads take until they are closed, deletes until they are collected, \
+                   and what sessions hold until they end it.";
+    let kinds = [("open", grown.open), ("deleted", grown.deleted), ("held", grown.held)];
+    text.labelled(name, meaning, "kind", kinds);
     let oldest = ledger.eldest().map_or(Duration::ZERO, |(since, _)| since.elapsed());
     let name = "ripsawbean_oldest_transaction_seconds";
     text.gauge(name, "Age of the undecided transaction that began first.", oldest.as_secs_f64());

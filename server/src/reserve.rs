@@ -14,9 +14,11 @@
 //! 1. Each part is a bound that another module keeps. A vector that grows by itself may have twice its bytes.
 //! 2. `serving` warns at its start where a limit is nearer, and `metrics` tells how much the reserve is.
 //! 3. What is committed and waits for the disk is no part: it stands where the transaction had it, which counts as rows.
+//! 4. What `--max-held` allows is no part: it has a share of its own while memory is full, as all that `growth` counts.
 
 use crate::api::pages;
 use crate::budget::FREE;
+use crate::growth::PLACE;
 use crate::journal;
 use crate::memory;
 use crate::options::Options;
@@ -40,6 +42,8 @@ const PIECE: usize = 1 << 19;
 const PIECES: usize = 2;
 /// One that is made takes twice its text, and is laid out as events.
 const MADE: usize = 3;
+/// A consumer's name, with its protection.
+const NAME: usize = 1 << 10;
 /// What is written between two looks at memory, beside what it counts.
 const BETWEEN_LOOKS: usize = 32 << 20;
 /// What an event of the transcript takes beside its text.
@@ -66,9 +70,10 @@ fn beside(options: &Options, workers: usize) -> u64 {
     parts(options, workers).iter().fold(0, |sum: u64, &part| sum.saturating_add(part as u64))
 }
 
-fn parts(options: &Options, workers: usize) -> [usize; 9] {
+fn parts(options: &Options, workers: usize) -> [usize; 10] {
     let Options { max_message, max_reply, max_answer, max_connections, max_feeds, keep, keep_bytes, .. } = *options;
     let (seats, twice) = (usize::from(SEATS), |bytes: usize| bytes.saturating_mul(2));
+    let stream = PIECE * PIECES + PLACE as usize * options.ring as usize;
     let connection = CONNECTION + if options.tls.is_some() { TLS } else { 0 };
     [
         PROGRAM + BETWEEN_LOOKS + STACK * (workers + THREADS),
@@ -78,7 +83,8 @@ fn parts(options: &Options, workers: usize) -> [usize; 9] {
         max_message.saturating_add(socket::BESIDE).saturating_mul(seats),
         answers(max_reply, max_answer, workers),
         twice(reports::UNREAD),
-        max_feeds.saturating_mul(PIECE * PIECES).saturating_add(MADE * PIECE * workers),
+        max_feeds.saturating_mul(stream).saturating_add(MADE * PIECE * workers),
+        options.max_consumers.saturating_mul(NAME),
         journal::MOST_BYTES + journal::MOST * REMEMBERED,
     ]
 }
@@ -146,9 +152,13 @@ mod tests {
     fn each_bound_counts() {
         let usual = reserve(&options(&[]), 4);
         let names = ["max-message", "max-reply", "max-answer", "max-connections", "max-feeds", "keep", "keep-bytes"];
-        for name in names.into_iter().chain(["max-memory"]) {
-            let most = format!("{}", 1u64 << if name.starts_with("keep") { 40 } else { 19 });
-            let more = reserve(&options(&[&format!("--{name}"), &most]), 4);
+        for name in names.into_iter().chain(["max-memory", "max-consumers", "ring"]) {
+            let most = match name {
+                "keep" | "keep-bytes" => 1 << 40,
+                "ring" => 1 << 16,
+                _ => 1_u64 << 19,
+            };
+            let more = reserve(&options(&[&format!("--{name}"), &most.to_string()]), 4);
             assert!(more != usual, "--{name}");
         }
         assert!(reserve(&options(&["--tls-cert", "a", "--tls-key", "b"]), 4) > usual);

@@ -1,4 +1,4 @@
-"""What transactions, reads and deletes take, beside what the server counts for them.
+"""What transactions, reads, deletes, feeds and protections take, beside what the server counts for them.
 
 While memory is full each kind may grow by a share of `--max-memory`, as it is counted. So no kind may take more than it
 counts, and what counts far more than it takes is refused too early.
@@ -20,9 +20,12 @@ ROWS = 1 << 16  # that stand there before
 EACH = 200  # lines of a transaction
 BEGINNING = 4096  # lines that are made before it is measured, for what is laid out once
 SIZES = [100_000, 140_000, 200_000, 280_000]  # lines at which it is compared
+FEEDS = [size // 10 for size in SIZES]
+THERE = [ROWS // 2, ROWS - EACH]
 LONG = "x" * 200
 OPTIONS = ("--keep", "0", "--keep-bytes", "0", "--max-memory", "0", "--max-age", "86400", "--seat-age", "0",
-           "--max-lag", "1000000000")
+           "--max-lag", "1000000000", "--max-held", "1000000", "--history", "86400",
+           "--ring", "8")
 
 
 @dataclasses.dataclass(frozen=True)
@@ -31,6 +34,8 @@ class Kind:
     line: str  # with the number of each
     each: int = EACH  # in one transaction
     most: float = 2.0  # times that more may be counted than it takes
+    is_held: bool = False  # by the session, beside its transactions
+    sizes: list[int] = dataclasses.field(default_factory=lambda: SIZES)
 
 
 KINDS = [
@@ -45,8 +50,12 @@ KINDS = [
     Kind("deletes of long keys that aren't there", "del . gone/%07d" + LONG + "\n"),
     Kind("one delete in each transaction", "del . gone/%07d\n", 1),
     # What is there already is read and deleted for less, and how often each comes isn't known.
-    Kind("reads of keys that are there", "get . r%07d\n", most=1000),
-    Kind("deletes of keys that are there", "del . r%07d\n", most=1000),
+    Kind("reads of keys that are there", "get . r%07d\n", most=1000, sizes=THERE),
+    Kind("deletes of keys that are there", "del . r%07d\n", most=1000, sizes=THERE),
+    Kind("undecided transactions", "begin\n", is_held=True),
+    Kind("protections", "protect 0\n", is_held=True),
+    Kind("feeds", "open - - 0\n", is_held=True, sizes=FEEDS),
+    Kind("feeds of spans with long bounds", "open span/%07d" + LONG + " span/%07d" + LONG + "0 0\n", is_held=True, sizes=FEEDS),
 ]
 
 
@@ -57,6 +66,8 @@ def counted(server: Server) -> int:
 
 def message(kind: Kind, at: int) -> tuple[str, int]:
     """A message of some transactions behind so many lines, and how many lines stand behind it."""
+    if kind.is_held:
+        return "".join(kind.line.replace("%07d", "%07d" % one) for one in range(at, at + EACH)), at + EACH
     if not kind.each:
         return "begin\ncommit .\n" * EACH, at + EACH
     text = ""
@@ -85,7 +96,7 @@ def compare(room: Room, kind: Kind) -> tuple[str, bool]:
         old.call("begin\n")
         at = first = grow(session, kind, 0, BEGINNING)
         taken, count, told, is_well = resident(server), counted(server), [], True
-        for size in SIZES if "that are there" not in kind.name else [ROWS // 2, ROWS - EACH]:
+        for size in kind.sizes:
             at = grow(session, kind, at, size)
             each = (resident(server) - taken) / (at - first), (counted(server) - count) / (at - first)
             told.append("%.0f of %.0f" % each)

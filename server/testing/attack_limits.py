@@ -11,7 +11,8 @@ along. In the end
 
 A server with `--max-memory` below its limit may not end either. Where the limit lies above it by the reserve that the
 server itself tells, it may not end whatever clients hold meanwhile: answers, reports and streams that they don't read,
-bodies and messages that they don't end, deletes that aren't collected, and reads that aren't closed.
+bodies and messages that they don't end, deletes that aren't collected, reads that aren't closed, and feeds and
+protections that sessions hold.
 
 Then comes a control: events are taken from the transcript that is read, and that has to be noticed.
 """
@@ -29,7 +30,7 @@ from collections.abc import Callable, Iterator
 from typing import Any
 
 from attack_beside import Scale
-from handmade import TEXT, Session, Wire, fill, framed
+from handmade import TEXT, Session, Wire, fill, framed, is_all_taken
 from machine import LONGEST, Room, Server, wait_for
 
 MEGABYTE = 1 << 20
@@ -430,17 +431,38 @@ class Growing(threading.Thread):
             self.full += answer.count(" 67 full ")
 
 
+class Holding(Growing):
+    """Opens feeds and protects, five hundred of each, and ends them with its session, again and again."""
+
+    def __hash__(self) -> int:
+        return id(self)
+
+    def run(self) -> None:
+        while not self.over.is_set():
+            with contextlib.suppress(OSError):
+                session = Session(self.server.port)
+                closed = session.call("stats\n").split(" ")[-2]
+                answer = session.call("".join(self.line % (at, closed, closed) for at in range(500)))
+                self.made += answer.count(" => opened ") + answer.count(" => protected ")
+                self.full += answer.count(" 67 full ")
+                session.close()
+
+
 def test_what_is_no_row_has_a_bound_too(room: Room, scale: Scale) -> str:
-    """While memory is full, deletes that aren't collected and reads that aren't closed are refused beyond the reserve, and
-    made again once what holds them up has gone, which is soon."""
+    """While memory is full, deletes that aren't collected, reads that aren't closed, and what sessions hold are refused
+    beyond the reserve, and made again once what holds them up has gone, which is soon."""
     options = [*SMALL, "--max-memory", str(MOST), "--max-age", "3600"]
     reserve = reserve_of(room, options)
     server = room.start(limited(room, MOST + reserve, options))
     session, over = Session(server.port), threading.Event()
+    early = [Session(server.port) for _ in range(6)]  # whose feeds have rings, to which nothing has come yet
+    assert all(is_all_taken(one.call("open - - 0\n" * 1000)) for one in early)
     for at in itertools.count():
         if " 67 full " in session.call("begin\nput . row/%d %s\ncommit .\n" % (at, VALUE)):
             break
     clients = [Growing(server, line, over) for line in ("del . gone/%09d\n", "get . absent/%09d\n") for _ in range(3)]
+    held = "openinitial low/%09d - %s\nprotect %s\n"
+    clients += [Holding(server, held, over) for _ in range(3)]
     threads = [threading.Thread(target=hold_up, args=(server, over), daemon=True), *clients]
     for one in threads:
         one.start()
@@ -450,9 +472,9 @@ def test_what_is_no_row_has_a_bound_too(room: Room, scale: Scale) -> str:
     over.set()
     for one in threads:
         one.join(LONGEST)
-    deletes, reads = (sum(one.made for one in some) for some in (clients[:3], clients[3:]))
-    figures = "%d deletes, %d reads, %d refused; %d MB of addresses at most, of %d MB" % (
-        deletes, reads, sum(one.full for one in clients), peak_of_addresses(server) >> 20, MOST + reserve >> 20)
+    deletes, reads, holds = (sum(one.made for one in clients[at : at + 3]) for at in (0, 3, 6))
+    figures = "%d deletes, %d reads, %d feeds and protections, %d refused; %d MB of addresses at most, of %d MB" % (
+        deletes, reads, holds, sum(one.full for one in clients), peak_of_addresses(server) >> 20, MOST + reserve >> 20)
     assert not server.has_ended() and peak_of_addresses(server) < MOST + reserve, figures
     return figures
 

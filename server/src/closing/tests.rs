@@ -4,7 +4,7 @@
 use super::*;
 use crate::seats::Session;
 use crate::testing::{answers, core, core_and_log, end, say, session, tidy, Dice};
-use ripsawbean::Database;
+use ripsawbean::{Database, Span};
 
 const COMMANDS: [&str; 22] = [
     "begin",
@@ -145,8 +145,9 @@ fn what_lags_in_bytes_is_let_go() {
 
 #[test]
 fn while_memory_is_full_those_that_hold_an_eighth_of_it_are_let_go() {
-    for (size, resident, left) in [(2000, 8000, 1), (500, 8001, 1), (2000, 8001, 0)] {
-        let mut core = core(&["--max-memory", "8000"]);
+    // The feed's ring has eight bytes more.
+    for (size, resident, left) in [(2000, 7992, 1), (500, 7993, 1), (2000, 7993, 0)] {
+        let mut core = core(&["--max-memory", "8000", "--ring", "1"]);
         let mut one = session(&mut core);
         let value = "x".repeat(size);
         answers(&mut core, &mut one, &format!("open - - 0\nprotect 0\nbegin\nput . k {value}\ncommit .\n"));
@@ -210,6 +211,51 @@ fn while_memory_is_full_keys_are_deleted_as_far_as_others_are_collected() {
     assert_eq!((core.ledger.protections.len(), core.ledger.horizon), (0, core.ledger.closed));
     assert_eq!(say(&mut core, &mut one, &delete(0)), ["started", "written", "committed 1"]);
     assert_eq!(core.shouts, 0);
+}
+
+#[test]
+fn while_memory_is_full_sessions_hold_as_much_as_others_have_ended() {
+    let mut core = core(&["--max-memory", "1000", "--max-held", "100000"]);
+    let (mut one, mut two) = (session(&mut core), session(&mut core));
+    say(&mut core, &mut one, &"open - - 0\n".repeat(1_000));
+    core.watch_memory(1001);
+    // What there was before it was full counts no more.
+    let count = until_full(&mut core, &mut two, |_| "open - - 0\nprotect 0\n".into());
+    assert!((100..1_000).contains(&count), "{count} messages");
+    for (line, told) in [
+        ("open a b 0\n", "fault"),
+        ("openinitial - - 0\n", "fault"),
+        ("openevery - - 0 7\n", "fault"),
+        ("openinitialevery - - 0 7\n", "fault"),
+        ("protect 0\n", "fault"),
+        ("poll 1 7\n", "messages"),
+        ("begin\n", "fault"),
+        ("readat 0 a\n", "none"),
+    ] {
+        let answer = answers(&mut core, &mut one, line).concat();
+        assert!(answer.starts_with(told), "{line} {answer}");
+    }
+    // A stream's feed and a name's protection have bounds of their own.
+    for command in [Command::Open { span: Span::ALL, cursor: 0 }, Command::Protect { t: 0 }] {
+        assert!(matches!(core.ask(Owner::Server, command), Ok(Outcome::Opened { .. } | Outcome::Protected { .. })));
+    }
+    end(&mut core, &two);
+    let told = say(&mut core, &mut one, "begin\ncommit .\nopen - - 0\nprotect 0\n");
+    assert!(told.iter().all(|answer| !answer.starts_with("fault")), "{told:?}");
+    end(&mut core, &one);
+    assert_eq!(core.ledger.growth.now().held, 0);
+    assert_eq!(core.shouts, 0);
+}
+
+#[test]
+fn the_ring_of_a_sessions_feed_counts_before_rows_come_to_it() {
+    let mut core = core(&["--max-memory", "20000"]);
+    let mut one = session(&mut core);
+    for (line, is_full) in [("open - - 0\n", false), ("open - - 0\n", true), ("cancel 1\n", false)] {
+        answers(&mut core, &mut one, line);
+        core.watch_memory(4_000);
+        assert_eq!(core.is_full(), is_full, "{line}");
+    }
 }
 
 #[test]
