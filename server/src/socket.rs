@@ -18,7 +18,7 @@ mod end;
 
 use crate::budget::Held;
 use crate::connections::Connection;
-use crate::door::Turn;
+use crate::door::{self, Turn};
 use crate::http::Stream;
 use crate::journal::Ticket;
 use crate::lines::{Lines, Lost};
@@ -218,7 +218,8 @@ impl Socket {
     /// Answers all messages that wait, in turns.
     async fn answer_all(&mut self) -> Result<(), End> {
         while !self.waiting.is_empty() {
-            let turn = self.turn().map_err(|Lost| End::UNWRITTEN)?;
+            let (turn, rest) = self.turn();
+            let turn = turn.map_err(|Lost| End::UNWRITTEN)?;
             if self.out.len() >= WRITE || matches!(turn, Turn::Done | Turn::Crowded) {
                 self.write().await?;
             }
@@ -229,7 +230,11 @@ impl Socket {
             match turn {
                 Turn::Until(ticket) => self.until(ticket).await?,
                 Turn::Crowded => self.room().await?,
-                Turn::Done | Turn::More => self.crowded = None,
+                Turn::Done => self.crowded = None,
+                Turn::More => {
+                    self.crowded = None;
+                    door::rest(rest).await;
+                }
             }
         }
         self.write().await
@@ -259,11 +264,11 @@ impl Socket {
         }
     }
 
-    /// Answers messages until the turn is over, or there is enough to write.
-    fn turn(&mut self) -> Result<Turn, Lost> {
+    /// Answers messages until the turn is over, or there is enough to write, and says how long to rest then.
+    fn turn(&mut self) -> (Result<Turn, Lost>, Duration) {
         let Socket { seated, waiting, ahead, out, unread, rests, .. } = self;
         let Seated { server, session } = seated;
-        server.door.turn(|core, until| {
+        server.door.turn_and_rest(|core, until| {
             core.seats.hears(session.seat);
             while let Some(first) = waiting.front_mut() {
                 first.lines.has_room = unread.has_room();
