@@ -18,7 +18,8 @@ const FAULTS = {
   ahead: "The timestamp lies more than --ahead above all others: it would end the database for everyone.",
   replytoolong: "The answers to this message are longer than --max-reply. This line made no call.",
   answertoolong: "The answers to this message would be longer than --max-answer. Ask for a part of the span.",
-  full: "The server's memory has reached --max-memory, so a put makes no call. Delete, or collect first.",
+  full: "The server's memory has reached --max-memory, so a put makes no call. Delete rows. A line of another kind waits " +
+    "until others of its kind are closed, collected or ended.",
   skipped: "A line before it in this message failed, so commit . aborts. It made no call.",
   toomany: "The session holds as many transactions, protections or feeds as it may. End some first.",
   noright: "Your token has no right to this, or isn't for these keys.",

@@ -83,8 +83,10 @@ function memoryTile({ metrics, state }) {
   if (bytes === null) return { name: "memory", value: "–" };
   const [value, unit] = bytes < 1e9 ? [Math.round(bytes / 1e6), "MB"] : [(bytes / 1e9).toFixed(2), "GB"];
   const versions = /"versions":"(\d+)"/.exec(state ?? "")?.[1];
-  const note = versions && counted(countText(Number(versions)), "version");
-  return { name: "memory", value: `${value}`, unit, note, measure: bytes };
+  const most = metrics.value("memory_max_bytes") ?? 0;
+  const isFull = most > 0 && bytes > most;
+  const note = isFull ? "as much as it may" : versions && counted(countText(Number(versions)), "version");
+  return { name: "memory", value: `${value}`, unit, note, isLate: isFull, measure: bytes };
 }
 
 function lagTile({ holders, metrics }) {

@@ -48,8 +48,9 @@ class Load:
         await ask(session, "begin\nget . %s\n%scommit .\n" % (other, puts))
 
     async def run(self, rate):
-        """As many transactions in each tick as make so many events a second, whatever the server adds of its own."""
-        a_tick, owed, began, calls = 5.0, 0.0, time.monotonic(), await self.calls()
+        """As many transactions in each tick as make so many events a second, whatever the server adds of its own. A
+        machine that was busy for a while gets no more of them afterwards."""
+        a_tick, owed, began, calls, made = 5.0, 0.0, time.monotonic(), await self.calls(), self.made
         while True:
             tick_ends = time.monotonic() + TICK
             owed += a_tick
@@ -59,8 +60,8 @@ class Load:
             if time.monotonic() - began > 1:
                 now = await self.calls()
                 self.rate = (now - calls) / (time.monotonic() - began)
-                a_tick *= min(2, max(0.5, rate / self.rate))
-                began, calls = time.monotonic(), now
+                a_tick = rate * TICK * max(self.made - made, 1) / max(now - calls, 1)
+                began, calls, made = time.monotonic(), now, self.made
             await asyncio.sleep(max(0, tick_ends - time.monotonic()))
 
 

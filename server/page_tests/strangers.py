@@ -95,7 +95,8 @@ async def from_a_name_of_the_network(make_server):
             own = "http://anyone:%s@data.example:%s/" % (TOKEN, port)
             async with page_of_another_site() as other, tab_of(own, NAMES) as tab:
                 await tab.until("document.title !== '' && location.host === 'data.example:%s'" % port)
-                known = await tab.value("fetch('/metrics').then((reply) => reply.status)")
+                # By the whole address, because Chromium takes no relative one where the page's own has a password.
+                known = await tab.value("fetch(location.origin + '/metrics').then((reply) => reply.status)")
                 expect("the browser has shown the token", known == 200)
                 await tab.ask("Page.navigate", url="http://evil.example:%d/" % other)
                 await tab.until("document.title === 'a stranger'")

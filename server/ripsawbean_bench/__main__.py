@@ -1,33 +1,19 @@
-"""Runs all measurements once, and writes them as tables. The word `durable` asks for those that wait for the disk."""
+"""Runs all measurements once, and writes them as tables. The word `durable` asks for those that wait for the disk, and
+`heaps` for what one heap costs."""
 
 import os
 import sys
 from collections.abc import Callable
 
-from . import durable
+from . import durable, heaps
 from .figures import Found
 from .loaded import Etcd, Ours, Redis, build_load
 from .postgres import Postgres
+from .works import FIRST, FLOOD, WORKS, scaled
 
-# What is sent: the words for it, the way to ask, clients, transactions in all, transactions a message, messages ahead.
-WORKS = (
-    ("16 clients, a request at a time (`POST /call`)", "requests", 16, 40_000, 1, 1),
-    ("the same by `POST /transact`", "transactions", 16, 40_000, 1, 1),
-    ("the same, each with an Idempotency-Key", "keyed", 16, 40_000, 1, 1),
-    ("64 clients, a request at a time", "requests", 64, 40_000, 1, 1),
-    ("1 client, a transaction at a time in one message", "messages", 1, 5_000, 1, 1),
-    ("64 clients, the same", "messages", 64, 40_000, 1, 1),
-    ("1 client, a line at a time", "lines", 1, 2_500, 1, 1),
-    ("1 client, single lines, 64 ahead", "lines", 1, 10_000, 1, 64),
-    ("1 client, a transaction a message, 16 ahead", "messages", 1, 20_000, 1, 16),
-    ("1 client, 25 transactions (100 lines) a message, 16 ahead", "messages", 1, 100_000, 25, 16),
-)
 PUSHES = ((1, 400, 0.005), (100, 100, 0.05))  # readers, rows, seconds between two
-FLOOD = (100, 10_000)  # readers, rows
-FIRST = 100_000  # rows
 PAGES = ((1, 1000), (1, 10_000), (4, 1000))  # readers, rows of a page
 WALKS = 5  # times that all rows are walked for one figure
-LEAST = 100  # rows, however small a part is asked for
 HEAD_OF_WORKS = """
 | Transactions a second | Ripsawbean | us of its processor | Redis | etcd | PostgreSQL |
 |---|---|---|---|---|---|"""
@@ -64,10 +50,6 @@ def main(scale: float) -> None:
 
 def ask(peers: Peers, measure: Callable[..., Found]) -> list[Found]:
     return [measure(peer, SHORTER.get(peer.name, 1)) for peer in peers]
-
-
-def scaled(count: float, scale: float, shorter: int = 1) -> int:
-    return max(int(count * scale / shorter), LEAST)
 
 
 def works(peers: Peers, scale: float) -> list[tuple[str, list[Found]]]:
@@ -116,6 +98,6 @@ def rows(ours: Ours, scale: float) -> None:
 
 
 words = sys.argv[1:]
-is_durable = words[:1] == ["durable"]
-scale = float(words[is_durable]) if len(words) > is_durable else 1.0
-durable.main(scale) if is_durable else main(scale)
+run = {"durable": durable.main, "heaps": heaps.main}.get(words[0] if words else "", main)
+words = words[run is not main:]
+run(float(words[0]) if words else 1.0)

@@ -34,10 +34,11 @@ class Loaded:
     name = ""
     kinds: dict[str, str] = {}  # a measurement's way to ask, and the word for it that server/load has
 
-    def __init__(self, command: list[str], port: int):
+    def __init__(self, command: list[str], port: int, environment: dict[str, str] | None = None):
         self.port = port
         began = time.monotonic()
-        self.process = subprocess.Popen(command, stdout=subprocess.DEVNULL, stderr=subprocess.DEVNULL)
+        told = {"stdout": subprocess.DEVNULL, "stderr": subprocess.DEVNULL}
+        self.process = subprocess.Popen(command, env={**os.environ, **(environment or {})}, **told)
         while not self._listens():
             if time.monotonic() > began + LONGEST or self.process.poll() is not None:
                 raise SystemExit("bench: %s doesn't start: %s" % (self.name, " ".join(command)))
@@ -97,9 +98,10 @@ class Ours(Loaded):
     name = "Ripsawbean"
     kinds = {"requests": "call", "transactions": "transact", "keyed": "keyed", "messages": "session", "lines": "lines"}
 
-    def __init__(self, *options: str):
+    def __init__(self, *options: str, environment: dict[str, str] | None = None):
         port = free_port()
-        super().__init__([os.environ.get("SERVER") or str(SERVER / "run"), "--port", str(port), *options], port)
+        command = [os.environ.get("SERVER") or str(SERVER / "run"), "--port", str(port), *options]
+        super().__init__(command, port, environment)
 
 
 class Redis(Loaded):

@@ -20,9 +20,10 @@
 
 use crate::core::Core;
 use crate::door::{Door, Turn};
+use crate::growth::Grown;
 use crate::lag::Amount;
 use crate::ledger::Reason;
-use crate::memory::{Memory, ROW};
+use crate::memory::{Growing, Memory, ROW};
 use crate::options::Options;
 use crate::outcome::Outcome;
 use crate::seats::{EndedBy, Owner};
@@ -31,6 +32,8 @@ use std::time::{Duration, Instant};
 
 /// How long a closing waits for streams that are behind.
 const LONGEST_WAIT: Duration = Duration::from_millis(20);
+/// An undecided transaction may be so old while memory is full and others grow above it.
+const SHORT_AGE: Duration = Duration::from_secs(1);
 /// Rows that one collection lets go, as far as closings allow.
 const ROWS_A_COLLECTION: u64 = 20_000;
 
@@ -72,7 +75,7 @@ impl Closing {
             history: options.history,
             seat_age: Some(options.seat_age).filter(|age| !age.is_zero()),
             most: Amount { rows: options.max_lag, bytes: limit(options.max_lag_bytes).unwrap_or(u64::MAX) },
-            memory: Memory::new(limit(options.max_memory)),
+            memory: Memory::new(options.max_memory.and_then(limit)),
             due: None,
             has_failed: false,
             is_told: false,
@@ -82,8 +85,8 @@ impl Closing {
     }
 
     /// What may be closed above a reader: less while memory is full, so that those that hold most of it go first.
-    fn most(&self) -> Amount {
-        let share = self.memory.share_while_full();
+    fn most(&self, grown: Grown) -> Amount {
+        let share = self.memory.share_while_full(grown);
         Amount { rows: self.most.rows.min(share / ROW), bytes: self.most.bytes.min(share) }
     }
 
@@ -159,7 +162,8 @@ impl Core {
     }
 
     fn abort_old(&mut self, until: Instant) -> Turn {
-        while let Some((since, ts)) = self.ledger.eldest().filter(|(since, _)| since.elapsed() > self.closing.max_age) {
+        let most = self.most_age();
+        while let Some((since, ts)) = self.ledger.eldest().filter(|(since, _)| since.elapsed() > most) {
             let Some(transaction) = self.ledger.undecided.get(&ts) else { break };
             self.abort("old_transaction", transaction.seat, ts);
             if self.ledger.eldest() == Some((since, ts)) {
@@ -170,6 +174,23 @@ impl Core {
             }
         }
         Turn::Done
+    }
+
+    /// How old an undecided transaction may be: less where others press, which it holds up.
+    fn most_age(&self) -> Duration {
+        let Grown { open, deleted, held } = self.growth();
+        match open.max(deleted).max(held) {
+            Growing::Free => self.closing.max_age,
+            Growing::Pressed | Growing::Over => self.closing.max_age.min(SHORT_AGE),
+        }
+    }
+
+    fn growth(&self) -> Grown<Growing> {
+        self.closing.memory.growth(self.ledger.growth.now())
+    }
+
+    fn most(&self) -> Amount {
+        self.closing.most(self.ledger.growth.now())
     }
 
     fn abort_idle(&mut self, until: Instant) -> Turn {
@@ -191,7 +212,7 @@ impl Core {
     }
 
     fn let_go_names(&mut self, _until: Instant) -> Turn {
-        match self.let_go_names_beyond(self.closing.most()) {
+        match self.let_go_names_beyond(self.most()) {
             true => Turn::More,
             false => Turn::Done,
         }
@@ -214,7 +235,7 @@ impl Core {
 
     fn feed_beyond(&self) -> Option<u64> {
         let (number, feed) = self.ledger.lowest_feeds().next()?;
-        self.ledger.rows.above(feed.floor).exceeds(self.closing.most()).then_some(number)
+        self.ledger.rows.above(feed.floor).exceeds(self.most()).then_some(number)
     }
 
     fn let_go_protections(&mut self, until: Instant) -> Turn {
@@ -233,7 +254,7 @@ impl Core {
 
     fn protection_beyond(&self) -> Option<u64> {
         let (id, protection) = self.ledger.lowest_protections().find(|(id, _)| self.exempt != Some(*id))?;
-        self.ledger.rows.above(protection.timestamp).exceeds(self.closing.most()).then_some(id)
+        self.ledger.rows.above(protection.timestamp).exceeds(self.most()).then_some(id)
     }
 
     fn collect(&mut self, until: Instant) -> Turn {
@@ -282,19 +303,41 @@ impl Core {
 
     /// Whether there is no memory for more rows.
     pub fn is_full(&self) -> bool {
-        self.closing.memory.is_full(self.ledger.written)
+        self.closing.memory.is_full(self.taken())
     }
 
-    /// Whether more was written since memory was looked at than can wait.
+    /// Whether transactions may begin, and read. Where memory is full, they may as far as others' are closed.
+    pub fn may_read(&self) -> bool {
+        self.growth().open < Growing::Over
+    }
+
+    /// Whether keys may be deleted. Where memory is full, they may as far as others that were deleted are collected.
+    pub fn may_delete(&self) -> bool {
+        self.growth().deleted < Growing::Over
+    }
+
+    /// Whether sessions may begin, open feeds, and protect. Where memory is full, they may as far as others have ended.
+    pub fn may_hold(&self) -> bool {
+        self.growth().held < Growing::Over
+    }
+
+    /// Whether more was taken since memory was looked at than can wait.
     pub fn has_to_look(&self, now: Instant) -> bool {
-        self.closing.memory.is_due(self.ledger.written, now)
+        self.closing.memory.is_due(self.taken(), now)
+    }
+
+    /// Bytes that were ever taken.
+    fn taken(&self) -> u64 {
+        self.ledger.written + self.ledger.growth.taken().0
     }
 
     /// Looks at the memory that the server takes.
     pub fn watch_memory(&mut self, resident: u64) {
-        let rows = self.ledger.rows.total;
-        let freed = self.ledger.collected.saturating_mul(ROW + rows.bytes / rows.rows.max(1));
-        self.closing.memory.look(resident, self.ledger.written, freed);
+        let (rows, growth) = (self.ledger.rows.total, &self.ledger.growth);
+        let collected = self.ledger.collected.saturating_mul(ROW + rows.bytes / rows.rows.max(1));
+        let (_, given_back) = growth.taken();
+        let freed = collected + self.ledger.taken_back + given_back;
+        self.closing.memory.look(resident + growth.rings(), self.taken(), freed, growth.now());
     }
 }
 

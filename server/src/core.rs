@@ -94,7 +94,7 @@ impl Core {
         Core {
             database,
             identity,
-            ledger: Ledger::default(),
+            ledger: Ledger::new(options.ring),
             seats: Seats::default(),
             transcript: Transcript::new(options.keep, options.keep_bytes),
             names: Names::new(options.max_consumers),

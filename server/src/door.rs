@@ -7,6 +7,8 @@
 //! 2. When the lock is given back, closing was done where it is due, or its time is known to `due`.
 //! 3. How full memory is was looked at soon after the last rows were written.
 //! 4. `moved` changes after the lock was given back, so who is woken finds it free.
+//! 5. One call may take far longer than a turn, and several of them one after another would let in one of the others' each.
+//!    So who took too long while others waited rests before its next turn.
 //!
 //! ```text
 //! door.run(|core| core.ledger.closed)                       a short look
@@ -16,12 +18,18 @@
 use crate::core::Core;
 use crate::journal::{Durable, Ticket};
 use crate::process;
-use parking_lot::Mutex;
+use parking_lot::{Mutex, MutexGuard};
+use std::sync::atomic::{AtomicUsize, Ordering::Relaxed};
 use std::time::{Duration, Instant};
 use tokio::sync::{watch, Notify};
+use tokio::time::sleep;
 
 /// After so long others get a turn.
 pub const TURN: Duration = Duration::from_millis(5);
+/// Who took longer rests for this part of what it took too much.
+const REST: u32 = 2;
+/// Shorter rests aren't worth a timer.
+const SHORTEST_REST: Duration = Duration::from_millis(1);
 
 /// Whether work has come to its end in its turn.
 #[derive(Clone, Copy, Debug, PartialEq, Eq)]
@@ -36,6 +44,8 @@ pub enum Turn {
 
 pub struct Door {
     core: Mutex<Core>,
+    /// How many wait for the lock.
+    waiting: AtomicUsize,
     durable: Durable,
     moved: watch::Sender<u64>,
     due: Notify,
@@ -44,13 +54,23 @@ pub struct Door {
 impl Door {
     pub fn new(core: Core) -> Door {
         let durable = core.journal.durable();
-        Door { core: Mutex::new(core), durable, moved: watch::channel(0).0, due: Notify::new() }
+        let (waiting, moved) = (AtomicUsize::new(0), watch::channel(0).0);
+        Door { core: Mutex::new(core), waiting, durable, moved, due: Notify::new() }
+    }
+
+    fn lock(&self) -> MutexGuard<'_, Core> {
+        self.core.try_lock().unwrap_or_else(|| {
+            self.waiting.fetch_add(1, Relaxed);
+            let core = self.core.lock();
+            self.waiting.fetch_sub(1, Relaxed);
+            core
+        })
     }
 
     /// Takes the lock, works, settles (closes where that is due, wakes the streams), and gives the result. Work of more
     /// than 5 ms is to be done in turns, each by a call of its own, with an await between them.
     pub fn run<R>(&self, work: impl FnOnce(&mut Core) -> R) -> R {
-        let mut core = self.core.lock();
+        let mut core = self.lock();
         let result = work(&mut core);
         let now = Instant::now();
         if core.has_to_look(now) {
@@ -71,7 +91,18 @@ impl Door {
 
     /// One turn of work, which looks at the time that it gets.
     pub fn turn<R>(&self, work: impl FnOnce(&mut Core, Instant) -> R) -> R {
-        self.run(|core| work(core, Instant::now() + TURN))
+        self.turn_and_rest(work).0
+    }
+
+    /// The same, and how long to rest before the next one: see `rest`.
+    pub fn turn_and_rest<R>(&self, work: impl FnOnce(&mut Core, Instant) -> R) -> (R, Duration) {
+        self.run(|core| {
+            let until = Instant::now() + TURN;
+            let result = work(core, until);
+            let over = Instant::now().saturating_duration_since(until);
+            let is_alone = self.waiting.load(Relaxed) == 0;
+            (result, if is_alone { Duration::ZERO } else { over / REST })
+        })
     }
 
     /// Work in turns, to its end.
@@ -92,7 +123,7 @@ impl Door {
 
     /// What rests on all that was done until now.
     pub fn all(&self) -> Ticket {
-        self.core.lock().journal.all()
+        self.lock().journal.all()
     }
 
     /// Changes after closed has moved or a feed of the server's own has ended, and each second. Who takes
@@ -109,5 +140,42 @@ impl Door {
     /// Waits until a closing has to be done later than now.
     pub async fn due(&self) {
         self.due.notified().await;
+    }
+}
+
+/// Lets others in between two turns.
+pub async fn rest(time: Duration) {
+    match time < SHORTEST_REST {
+        true => tokio::task::yield_now().await,
+        false => sleep(time).await,
+    }
+}
+
+#[cfg(test)]
+mod tests {
+    use crate::testing::server;
+    use std::sync::atomic::Ordering::Relaxed;
+    use std::time::Duration;
+
+    const LONG: Duration = Duration::from_millis(45);
+
+    #[test]
+    fn who_takes_too_long_rests_where_others_wait() {
+        let server = server(&[]);
+        let door = &server.door;
+        let (_, alone) = door.turn_and_rest(|_, _| std::thread::sleep(LONG));
+        assert_eq!(alone, Duration::ZERO);
+        std::thread::scope(|scope| {
+            let (_, rest) = door.turn_and_rest(|_, _| {
+                scope.spawn(|| door.run(|_| {}));
+                std::thread::sleep(LONG);
+                while door.waiting.load(Relaxed) == 0 {
+                    std::thread::yield_now();
+                }
+            });
+            assert!(rest >= Duration::from_millis(20), "{rest:?}");
+        });
+        let (_, short) = door.turn_and_rest(|_, _| {});
+        assert_eq!((short, door.waiting.load(Relaxed)), (Duration::ZERO, 0));
     }
 }

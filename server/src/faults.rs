@@ -60,7 +60,11 @@ pub fn why(name: &str, line: &[u8]) -> String {
         "answertoolong" => {
             "the answers to this message would be longer than --max-answer: ask for less, or in another message"
         }
-        "full" => "memory is full: keys can be deleted, and not put",
+        "full" if line.starts_with(b"put") => "memory is full: keys can be deleted, and not put",
+        "full" if line.starts_with(b"open") || line.starts_with(b"protect") => {
+            "memory is full, and so is what feeds and protections may take beside it: end others first"
+        }
+        "full" => "memory is full, and so is what transactions and deletes may take beside it: ask again soon",
         "toomany" => "the session holds as many of these as it may",
         "noright" => "the token has no right to this, or is for other keys",
         "draining" => "the server is about to end",
@@ -101,6 +105,12 @@ mod tests {
             ),
             ("unknowncommand", "foo\n", "no command has this name"),
             ("number", "put . a 1\n", "the dot stands for no transaction: begin came to nothing, or wasn't there"),
+            ("full", "put . a 1\n", "memory is full: keys can be deleted, and not put"),
+            (
+                "full",
+                "protect 0\n",
+                "memory is full, and so is what feeds and protections may take beside it: end others first",
+            ),
             ("badbyte", "stats\r\n", "a line ends in a newline alone, without a carriage return"),
         ] {
             assert_eq!(why(name, line.as_bytes()), words, "{line}");

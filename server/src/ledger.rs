@@ -17,6 +17,7 @@
 //! 63 close 7 => closed 7 0   closed 7          rows.close(7)       moved
 //! ```
 
+use crate::growth::Growth;
 use crate::lag::{Amount, ClosedRows};
 use crate::memory::ROW;
 use crate::outcome::{name_of, Outcome};
@@ -35,8 +36,8 @@ pub type Name = Arc<str>;
 pub struct Transaction {
     pub seat: u8,
     pub since: Instant,
-    /// Bytes of the lines that wrote its rows.
-    pub bytes: u64,
+    /// How often it wrote a row, and bytes of the lines that did.
+    pub wrote: Amount,
 }
 
 /// A live feed.
@@ -122,6 +123,10 @@ pub struct Ledger {
     pub closings: VecDeque<Closings>,
     /// Bytes that versions took: those of the lines that wrote them, and `ROW` for each.
     pub written: u64,
+    /// Those of versions that went before they were collected: of transactions that were aborted, or wrote a row again.
+    pub taken_back: u64,
+    /// What grows beside rows.
+    pub growth: Growth,
     /// A transaction has ended since `closing` looked.
     pub decided: bool,
     /// Closed has moved, or a feed of the server's own has ended, since `door` looked.
@@ -139,18 +144,24 @@ pub struct Ledger {
 }
 
 impl Ledger {
+    /// That of a new database, where each feed has a ring of so many rows.
+    pub fn new(ring: u32) -> Ledger {
+        Ledger { growth: Growth::new(ring), ..Ledger::default() }
+    }
+
     /// Notes what an event did, by a call of this owner.
     pub fn note(&mut self, seats: &mut Seats, owner: Owner, outcome: &Outcome) {
         self.calls += 1;
         match *outcome {
             Outcome::Nothing => {}
-            Outcome::Written { ts, bytes } => self.wrote(ts, bytes),
+            Outcome::Read { bounds, bytes } => self.growth.read(self.greatest, bounds, bytes),
+            Outcome::Written { ts, bytes, is_delete } => self.wrote(ts, bytes, is_delete),
             Outcome::Started { ts } => self.started(seats, owner, ts),
             Outcome::Committed { ts, rows } => self.committed(seats, ts, rows),
-            Outcome::Aborted { ts } => self.end_of(seats, ts),
+            Outcome::Aborted { ts } => self.end_of(seats, ts, 0),
             Outcome::TooLate { ts } => {
                 self.refused("toolate");
-                self.end_of(seats, ts);
+                self.end_of(seats, ts, 0);
             }
             Outcome::Closed { at, aborted } => self.close(seats, at, aborted),
             Outcome::Opened { feed, cursor, ref command } => self.opened(seats, owner, feed, cursor, command),
@@ -161,6 +172,7 @@ impl Ledger {
             Outcome::Collected { horizon, versions } => {
                 self.horizon = horizon;
                 self.collected += versions;
+                self.growth.collect(horizon);
             }
             Outcome::Refused(refusal) => self.refused(name_of(refusal)),
         }
@@ -254,31 +266,38 @@ impl Ledger {
 
     // ---- one rule for each outcome
 
-    fn wrote(&mut self, ts: u64, bytes: u64) {
+    fn wrote(&mut self, ts: u64, bytes: u64, is_delete: bool) {
         self.written += bytes + ROW;
+        if is_delete {
+            self.growth.delete(self.greatest, bytes);
+        }
         if let Some(transaction) = self.undecided.get_mut(&ts) {
-            transaction.bytes += bytes;
+            transaction.wrote += Amount { rows: 1, bytes };
         }
     }
 
     fn started(&mut self, seats: &mut Seats, owner: Owner, ts: u64) {
         let since = Instant::now();
-        self.undecided.insert(ts, Transaction { seat: owner.seat(), since, bytes: 0 });
+        self.undecided.insert(ts, Transaction { seat: owner.seat(), since, wrote: Amount::default() });
         self.ages.insert((since, ts));
         self.greatest = self.greatest.max(ts);
+        self.growth.begin(self.greatest);
         if let Some(taken) = seats.of_mut(owner) {
             taken.begun.insert(ts);
         }
     }
 
     fn committed(&mut self, seats: &mut Seats, ts: u64, rows: u64) {
-        let bytes = self.undecided.get(&ts).map_or(0, |transaction| transaction.bytes);
+        let bytes = self.undecided.get(&ts).map_or(0, |transaction| transaction.wrote.bytes);
         self.rows.commit(ts, Amount { rows, bytes });
-        self.end_of(seats, ts);
+        self.end_of(seats, ts, rows);
     }
 
-    fn end_of(&mut self, seats: &mut Seats, ts: u64) {
+    /// A transaction is decided, of which so many rows stay.
+    fn end_of(&mut self, seats: &mut Seats, ts: u64, rows: u64) {
         let Some(transaction) = self.undecided.remove(&ts) else { return };
+        self.taken_back += of_writes(transaction.wrote, transaction.wrote.rows.saturating_sub(rows));
+        self.growth.decide();
         self.ages.remove(&(transaction.since, ts));
         self.awaited.remove(&ts);
         if let Some(taken) = seats.taken_mut(transaction.seat) {
@@ -290,11 +309,12 @@ impl Ledger {
     fn close(&mut self, seats: &mut Seats, at: u64, aborted: u64) {
         if aborted > 0 {
             let ended: Vec<u64> = self.undecided.range(..=at).map(|(&ts, _)| ts).collect();
-            ended.into_iter().for_each(|ts| self.end_of(seats, ts));
+            ended.into_iter().for_each(|ts| self.end_of(seats, ts, 0));
         }
         if at > self.closed {
             self.closed = at;
             self.rows.close(at);
+            self.growth.close(at);
             self.note_closing(at);
             self.moved = true;
             self.leave_behind();
@@ -314,8 +334,9 @@ impl Ledger {
         let feed = Feed { owner, opened, floor: cursor, consumer: None, told: 0, waits: false, is_behind: false };
         self.feeds.insert(number, feed);
         self.floors.insert((cursor, number));
-        if owner == Owner::Server {
-            self.streamed.insert(number);
+        match owner {
+            Owner::Server => drop(self.streamed.insert(number)),
+            Owner::Seat(_) => self.growth.open_feed(command.len() as u64),
         }
         if let Some(taken) = seats.of_mut(owner) {
             taken.feeds.insert(number);
@@ -338,6 +359,9 @@ impl Ledger {
         let reason = self.reasons.remove(&number).unwrap_or(Reason::FeedCancelled);
         let Some(feed) = self.feeds.remove(&number) else { return };
         self.floors.remove(&(feed.floor, number));
+        if feed.owner != Owner::Server {
+            self.growth.end_feed(feed.opened.len() as u64);
+        }
         if let Some(taken) = seats.of_mut(feed.owner) {
             taken.feeds.remove(&number);
         }
@@ -351,6 +375,9 @@ impl Ledger {
     fn protected(&mut self, seats: &mut Seats, owner: Owner, id: u64, timestamp: u64) {
         self.protections.insert(id, Protection { owner, timestamp, consumer: None });
         self.protected.insert((timestamp, id));
+        if owner != Owner::Server {
+            self.growth.protect();
+        }
         if let Some(taken) = seats.of_mut(owner) {
             taken.protections.insert(id);
         }
@@ -359,6 +386,9 @@ impl Ledger {
     fn released(&mut self, seats: &mut Seats, id: u64) {
         let Some(protection) = self.protections.remove(&id) else { return };
         self.protected.remove(&(protection.timestamp, id));
+        if protection.owner != Owner::Server {
+            self.growth.release();
+        }
         if let Some(taken) = seats.of_mut(protection.owner) {
             taken.protections.remove(&id);
         }
@@ -382,6 +412,11 @@ impl Ledger {
             feed.is_behind = false;
         }
     }
+}
+
+/// Bytes that so many of some writes took.
+fn of_writes(wrote: Amount, rows: u64) -> u64 {
+    rows * (ROW + wrote.bytes / wrote.rows.max(1))
 }
 
 impl Reason {

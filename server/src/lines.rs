@@ -8,7 +8,7 @@
 //! get . KEY        `.` is the timestamp that the session began last; so in scan, put, del, commit and abort
 //! begin TS         is refused far ahead of all others, and so are close and closehard: it would end the database
 //! poll, release    are refused for what the server holds for a stream or a name
-//! poll FEED MAX    has a MAX of 128 at most
+//! poll FEED MAX    has a MAX of 63 at most
 //! ```
 //!
 //! Whoever wrote `commit .` into a message hasn't seen what failed before it in that message. So behind a fault, and
@@ -43,7 +43,7 @@ use std::io::Write;
 use std::time::Instant;
 
 const GREATEST_LENGTH: usize = 19; // digits of the greatest timestamp
-const MOST_POLLED: u64 = 128; // messages: at their longest 12 MB of text
+const MOST_POLLED: u64 = 63; // messages: at their longest they have 4 MB, which --max-answer lets through
 
 /// What a session may do.
 #[derive(Clone, Copy, Debug)]
@@ -273,11 +273,16 @@ fn prepared(core: &Core, session: &mut Session, line: &[u8], is_spoiled: bool) -
         (b"commit" | b"abort", _) if is_spoiled => Ok(dot(session, b"abort", line)),
         _ if is_spoiled => Err(Fault::Skipped),
         (b"begin", _) => begin(core, session, line, rest),
+        (b"get" | b"scan", Some(_)) if !core.may_read() => Err(Fault::Full),
+        (b"del", Some(_)) if !core.may_delete() => Err(Fault::Full),
         (b"close", Some(to)) => bound(core, to).map(|()| None),
         (b"closehard", Some(to)) => bound(core, to).map(|()| None),
         (b"put", Some(_)) if !core.is_full() => Ok(dot(session, command, line)),
         (b"put", Some(_)) => Err(Fault::Full),
         (b"get" | b"scan" | b"del" | b"commit" | b"abort", Some(_)) => Ok(dot(session, command, line)),
+        (b"open" | b"openinitial" | b"openevery" | b"openinitialevery" | b"protect", Some(_)) if !core.may_hold() => {
+            Err(Fault::Full)
+        }
         (b"open" | b"openinitial" | b"openevery" | b"openinitialevery", Some(_)) => has_room(core, session, Kind::Feed),
         (b"protect", Some(_)) => has_room(core, session, Kind::Protection),
         (b"poll", Some(rest)) => poll(core, line, rest),
@@ -334,6 +339,9 @@ fn begin(core: &Core, session: &mut Session, line: &[u8], rest: Option<&[u8]>) -
     session.last = None;
     if core.limits.is_draining {
         return Err(Fault::Draining);
+    }
+    if !core.may_read() || !core.may_hold() {
+        return Err(Fault::Full);
     }
     if let Some(timestamp) = rest {
         bound(core, timestamp)?;

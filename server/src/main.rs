@@ -23,8 +23,8 @@
 //! stored, held while they are down), `lag` (rows closed above a timestamp), `transcript` (the events kept), `reports`,
 //! `metrics`, `dump`, `connections` (how many, and which are silent or stuck), `budget` (bytes that wait), `ws`, `query`,
 //! `refusal`, `options`, `tokens`, `tls`, `notify`, `log`, `page`, `before` (values before a feed's rows), `cuts` (where
-//! a long walk may be cut), `faults` (their words), `heap` (one for all threads), `memory` (how full it is), `reserve`
-//! (what is taken beside the database).
+//! a long walk may be cut), `faults` (their words), `heap` (one for all threads), `memory` (how full it is), `growth`
+//! (what grows though it is full), `reserve` (what is taken beside the database).
 //!
 //! Three rules hold everywhere. All calls are made under one lock, which no one holds over an await. The database alone
 //! decides: the ledger only follows its answers, and where an answer isn't as the ledger foretells, the server says so
@@ -44,6 +44,7 @@ mod dump;
 mod faults;
 mod form;
 mod gate;
+mod growth;
 #[cfg(test)]
 mod guide;
 mod heap;

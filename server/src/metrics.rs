@@ -122,6 +122,12 @@ fn of_database(text: &mut Text, core: &Core, server: &Server) {
     text.counter("ripsawbean_rows_total", "Committed rows that are closed.", ledger.rows.total.rows);
     text.counter("ripsawbean_collected_total", "Versions that a collection let go.", ledger.collected);
     text.counter("ripsawbean_shouts_total", "Answers that were not the expected ones.", core.shouts);
+    let grown = ledger.growth.now();
+    let name = ("ripsawbean_memory_growth_bytes", "gauge");
+    let meaning = "What transactions with their reads take until they are closed, deletes until they are collected, \
+                   and what sessions hold until they end it.";
+    let kinds = [("open", grown.open), ("deleted", grown.deleted), ("held", grown.held)];
+    text.labelled(name, meaning, "kind", kinds);
     let oldest = ledger.eldest().map_or(Duration::ZERO, |(since, _)| since.elapsed());
     let name = "ripsawbean_oldest_transaction_seconds";
     text.gauge(name, "Age of the undecided transaction that began first.", oldest.as_secs_f64());
@@ -165,6 +171,8 @@ fn of_server(text: &mut Text, server: &Server) {
     let (messages, bytes) = server.streams.told();
     text.counter("ripsawbean_stream_messages_total", "Messages that streams were told.", messages);
     text.counter("ripsawbean_stream_bytes_total", "Bytes of messages that streams were told.", bytes);
+    let most = server.options.max_memory.unwrap_or(0);
+    text.gauge("ripsawbean_memory_max_bytes", "Resident memory above which rows are refused; 0: no limit.", most);
     let reserve = reserve(&server.options, serving::workers());
     text.gauge("ripsawbean_memory_reserve_bytes", "What may be taken above --max-memory, at most.", reserve);
     let name = "ripsawbean_call_seconds";

@@ -65,6 +65,7 @@ const fn file(name: &'static str, meaning: &'static str) -> Row {
 }
 
 const MOST: u64 = 1 << 62;
+const AUTO: &str = "auto";
 /// Bytes of the longest row: its key and its value, and 17 more.
 pub const LONGEST_ROW: u64 = 17 + 256 + 65_536;
 
@@ -77,13 +78,17 @@ const TABLE: [Row; 38] = [
     whole("keep", 10_000, 0, MOST, "events kept for GET /transcript"),
     whole("keep-bytes", 64 << 20, 0, MOST, "bytes of text kept for it"),
     whole("max-message", 1 << 20, 1, 1 << 30, "bytes of a message or body"),
-    whole("max-reply", 16 << 20, 1, 1 << 30, "bytes of answers to one message beyond which no further call is made"),
-    whole("max-answer", 16 << 20, LONGEST_ROW, 1 << 30, "bytes of rows or messages that no answer is longer than"),
-    whole("max-connections", 1000, 8, 1 << 20, "connections at once"),
+    whole("max-reply", 8 << 20, 1, 1 << 30, "bytes of answers to one message beyond which no further call is made"),
+    whole("max-answer", 4 << 20, LONGEST_ROW, 1 << 30, "bytes of rows or messages that no answer is longer than"),
+    whole("max-connections", 512, 8, 1 << 20, "connections at once"),
     whole("max-feeds", 256, 1, 1 << 20, "streams at once"),
     whole("max-consumers", 1024, 1, 1 << 20, "names"),
     whole("max-held", 1000, 1, 1 << 20, "transactions, protections and feeds that one session may hold, of each"),
-    whole("max-memory", 0, 0, MOST, "resident bytes above which puts are refused; 0: no limit"),
+    Row {
+        name: "max-memory",
+        kind: Kind::Word(AUTO),
+        meaning: "resident bytes above which puts are refused; auto: as the system's limit allows; 0: no limit",
+    },
     whole(
         "checkpoint-bytes",
         64 << 20,
@@ -141,8 +146,8 @@ pub struct Options {
     pub max_feeds: usize,
     pub max_consumers: usize,
     pub max_held: usize,
-    /// Bytes; 0: no limit.
-    pub max_memory: u64,
+    /// Bytes, 0 for no limit. None where the system's limit says it.
+    pub max_memory: Option<u64>,
     pub checkpoint_bytes: u64,
     pub data: Option<PathBuf>,
     pub restore: Option<PathBuf>,
@@ -291,7 +296,7 @@ fn options(given: &Given) -> Result<Options, Fault> {
         max_feeds: given.whole("max-feeds")?,
         max_consumers: given.whole("max-consumers")?,
         max_held: given.whole("max-held")?,
-        max_memory: given.whole("max-memory")?,
+        max_memory: max_memory(given)?,
         checkpoint_bytes: given.whole("checkpoint-bytes")?,
         data: given.file("data")?,
         restore: given.file("restore")?,
@@ -322,6 +327,23 @@ fn address(given: &Given) -> Result<IpAddr, Fault> {
     match given.one("address") {
         None => Ok(IpAddr::V4(Ipv4Addr::LOCALHOST)),
         Some((_, word)) => IpAddr::from_str(word).map_err(|_| Fault::NoAddress(word.to_string())),
+    }
+}
+
+fn max_memory(given: &Given) -> Result<Option<u64>, Fault> {
+    match given.one("max-memory") {
+        None | Some((_, AUTO)) => Ok(None),
+        Some(_) => given.word::<MaxMemory>("max-memory", "auto or a number of bytes").map(|MaxMemory(most)| Some(most)),
+    }
+}
+
+struct MaxMemory(u64);
+
+impl FromStr for MaxMemory {
+    type Err = ();
+
+    fn from_str(word: &str) -> Result<MaxMemory, ()> {
+        word.parse().ok().filter(|most| *most <= MOST).map(MaxMemory).ok_or(())
     }
 }
 

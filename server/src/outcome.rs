@@ -7,18 +7,24 @@
 //! 3 0 get 12 a => blocked 11        Refused(Blocked(11))
 //! ```
 
-use ripsawbean::{Closed, Command, Database, Outcome as Answer, Refusal};
+use ripsawbean::{Closed, Command, CommandKind, Database, Outcome as Answer, Refusal};
 use std::fmt;
 
 /// What one event did.
 #[derive(Clone, Debug, PartialEq, Eq)]
 pub enum Outcome {
-    /// Nothing that the ledger follows: a read, or `stats`.
+    /// Nothing that the ledger follows: a read of a snapshot, or `stats`.
     Nothing,
+    /// A transaction read a key, or a span of two bounds, by so many bytes.
+    Read {
+        bounds: u64,
+        bytes: u64,
+    },
     /// A transaction wrote a row by a line of so many bytes.
     Written {
         ts: u64,
         bytes: u64,
+        is_delete: bool,
     },
     Started {
         ts: u64,
@@ -90,6 +96,17 @@ impl Words<'_> {
         };
         bytes as u64
     }
+
+    /// Bytes that name the keys of a read, at most.
+    fn keys(self) -> u64 {
+        let bytes = match self {
+            Words::Line(line) => line.len(),
+            Words::Command(Command::Get { key, .. }) => key.len(),
+            Words::Command(Command::Scan { span, .. }) => span.lo.len() + span.hi.map_or(0, <[u8]>::len),
+            Words::Command(_) => 0,
+        };
+        bytes as u64
+    }
 }
 
 impl Outcome {
@@ -98,8 +115,16 @@ impl Outcome {
         let record = database.last().expect("a call was made");
         let at = record.at;
         match record.outcome {
-            Answer::None | Answer::Value(_) | Answer::Rows(_) | Answer::Stats { .. } => Outcome::Nothing,
-            Answer::Written => Outcome::Written { ts: at, bytes: words.bytes() },
+            Answer::None | Answer::Value(_) | Answer::Rows(_) => match record.command {
+                CommandKind::Get => Outcome::Read { bounds: 1, bytes: words.keys() },
+                CommandKind::Scan => Outcome::Read { bounds: 2, bytes: words.keys() },
+                _ => Outcome::Nothing,
+            },
+            Answer::Stats { .. } => Outcome::Nothing,
+            Answer::Written => {
+                let is_delete = record.command == CommandKind::Del;
+                Outcome::Written { ts: at, bytes: words.bytes(), is_delete }
+            }
             Answer::Started => Outcome::Started { ts: at },
             Answer::Committed(rows) => Outcome::Committed { ts: at, rows },
             Answer::Aborted => Outcome::Aborted { ts: at },
@@ -122,7 +147,7 @@ impl Outcome {
 impl fmt::Display for Outcome {
     fn fmt(&self, f: &mut fmt::Formatter<'_>) -> fmt::Result {
         match self {
-            Outcome::Nothing => f.write_str("a value"),
+            Outcome::Nothing | Outcome::Read { .. } => f.write_str("a value"),
             Outcome::Written { .. } => f.write_str("written"),
             Outcome::Started { .. } => f.write_str("started"),
             Outcome::Committed { rows, .. } => write!(f, "committed {rows}"),
@@ -164,7 +189,7 @@ pub fn name_of(refusal: Refusal) -> &'static str {
 #[cfg(test)]
 mod tests {
     use super::*;
-    use ripsawbean::Database;
+    use ripsawbean::{Database, Span};
 
     /// The outcome of the last of some lines.
     fn last_of(lines: &[&str]) -> Outcome {
@@ -187,13 +212,15 @@ mod tests {
     #[test]
     fn transactions() {
         assert_eq!(last_of(&WRITTEN[..1]), Outcome::Started { ts: 7 });
-        assert_eq!(last_of(&WRITTEN[..2]), Outcome::Written { ts: 7, bytes: 9 });
-        assert_eq!(last_of(&WRITTEN[..3]), Outcome::Written { ts: 7, bytes: 11 });
+        assert_eq!(last_of(&WRITTEN[..2]), Outcome::Written { ts: 7, bytes: 9, is_delete: false });
+        assert_eq!(last_of(&WRITTEN[..3]), Outcome::Written { ts: 7, bytes: 11, is_delete: false });
+        assert_eq!(last_of(&["0 begin 7", "0 del 7 a"]), Outcome::Written { ts: 7, bytes: 7, is_delete: true });
         assert_eq!(last_of(&WRITTEN), Outcome::Committed { ts: 7, rows: 2 });
         assert_eq!(last_of(&["0 begin 7", "0 abort 7"]), Outcome::Aborted { ts: 7 });
         assert_eq!(last_of(&["0 begin 7", "0 begin 9", "0 get 9 a", "0 put 7 a 1"]), Outcome::TooLate { ts: 7 });
-        assert_eq!(last_of(&["0 begin 7", "0 get 7 =>"]), Outcome::Nothing);
-        assert_eq!(after_writing(&["0 begin 9", "0 get 9 =>"]), Outcome::Nothing);
+        assert_eq!(last_of(&["0 begin 7", "0 get 7 =>"]), Outcome::Read { bounds: 1, bytes: 8 });
+        assert_eq!(after_writing(&["0 begin 9", "0 scan 9 - =>"]), Outcome::Read { bounds: 2, bytes: 11 });
+        assert_eq!(after_writing(&["0 close 9", "0 readat 9 a"]), Outcome::Nothing);
     }
 
     #[test]
@@ -224,6 +251,8 @@ mod tests {
             words.map(|words| (words.text(), words.bytes())),
             [("put 7 a%20b 1".to_string(), 13), ("put 7 a%20b 1".to_string(), 13)]
         );
+        let scan = Command::Scan { ts: 7, span: Span { lo: b"a b", hi: Some(b"c") } };
+        assert_eq!([Words::Command(scan), Words::Line(b"scan 7 a%20b c")].map(Words::keys), [4, 14]);
     }
 
     #[test]

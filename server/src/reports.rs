@@ -30,7 +30,7 @@ use std::sync::Arc;
 use std::time::Instant;
 
 /// Bytes that all reports may have which their readers haven't taken.
-pub const UNREAD: usize = 64 << 20;
+pub const UNREAD: usize = 32 << 20;
 /// Lines of each kind: those that stand lowest.
 const MOST_LINES: usize = 1000;
 /// Bytes of a transcript that are taken at a time: two pieces wait for a slow reader.
@@ -371,7 +371,7 @@ mod tests {
         let report = |last: u8| {
             let client = [192, 0, 2, last].into();
             let mut report = Report { text: String::new(), held: server.reports.begin(client) };
-            report.add("x".repeat(10 << 20)).map(|()| report.told())
+            report.add("x".repeat(5 << 20)).map(|()| report.told())
         };
         let held: Vec<_> = [1, 1, 1, 2, 2, 2].map(report).into_iter().map(|it| it.expect("there is room")).collect();
         let refused = |last| report(last).map_err(|refusal| (refusal.status, refusal.error)).err();

@@ -9,16 +9,23 @@
 //!      .. and the reserve          all else, whatever clients do
 //! ```
 //!
+//! Where nobody has said what `--max-memory` is, it is what the system's limit leaves beside the reserve.
+//!
 //! 1. Each part is a bound that another module keeps. A vector that grows by itself may have twice its bytes.
 //! 2. `serving` warns at its start where a limit is nearer, and `metrics` tells how much the reserve is.
+//! 3. What is committed and waits for the disk is no part: it stands where the transaction had it, which counts as rows.
+//! 4. What `--max-held` allows is no part: it has a share of its own while memory is full, as all that `growth` counts.
 
 use crate::api::pages;
 use crate::budget::FREE;
+use crate::growth::PLACE;
 use crate::journal;
+use crate::memory;
 use crate::options::Options;
 use crate::reports;
 use crate::seats::SEATS;
 use crate::session;
+use crate::socket;
 
 /// The program itself, its tables, and what the C library keeps between its pieces.
 const PROGRAM: usize = 48 << 20;
@@ -26,43 +33,59 @@ const PROGRAM: usize = 48 << 20;
 const STACK: usize = 2 << 20;
 /// Threads beside those that work for connections: the first one, the journal's, checkpoints'.
 const THREADS: usize = 4;
-/// What a connection has in hand: 64 kB in each direction, as much of a body and of an answer that don't count, and TLS.
-const CONNECTION: usize = 5 << 16;
-/// A piece of a stream, with values before. One is made, one waits, and one is written.
+/// What a connection has in hand: 64 kB in each direction, and as much of a body and of an answer that don't count.
+const CONNECTION: usize = 4 << 16;
+/// The same of TLS, in both directions.
+const TLS: usize = 1 << 16;
+/// A piece of a stream, with values before. One waits, and one is written.
 const PIECE: usize = 1 << 19;
-const PIECES: usize = 3;
+const PIECES: usize = 2;
+/// One that is made takes twice its text, and is laid out as events.
+const MADE: usize = 3;
+/// A consumer's name, with its protection.
+const NAME: usize = 1 << 10;
+/// What is written between two looks at memory, beside what it counts.
+const BETWEEN_LOOKS: usize = 32 << 20;
 /// What an event of the transcript takes beside its text.
 const EVENT: usize = 32;
 /// What an answer that is remembered takes beside its text.
 const REMEMBERED: usize = 200;
 /// Bytes of text for a byte of a row: each may be spelled `%00`.
 const SPELLED: usize = 3;
-/// Messages of a session: one comes, one waits, one is answered, and a line of it is spelled anew.
-const MESSAGES: usize = 4;
-/// Copies of what is committed that wait for the disk: one gathers, and one is written.
-const BATCHES: usize = 2;
 
-/// The reserve in bytes, for so many threads that work for connections.
+/// The reserve in bytes, for so many threads that work for connections: beside rows, and what grows while they are full.
 pub fn reserve(options: &Options, workers: usize) -> u64 {
+    let growth = options.max_memory.filter(|&most| most > 0).map_or(0, memory::growth_of);
+    beside(options, workers).saturating_add(growth)
+}
+
+/// Bytes above which rows are refused, 0 for no limit: what was asked for, or what a limit of the system's leaves. Where
+/// it leaves little, it is a half of the limit: then rows may be refused too late.
+pub fn max_memory(options: &Options, workers: usize, limit: Option<u64>) -> u64 {
+    let left = |limit: u64| memory::within(limit.saturating_sub(beside(options, workers))).max(limit / 2);
+    options.max_memory.unwrap_or_else(|| limit.map_or(0, left))
+}
+
+fn beside(options: &Options, workers: usize) -> u64 {
     parts(options, workers).iter().fold(0, |sum: u64, &part| sum.saturating_add(part as u64))
 }
 
-fn parts(options: &Options, workers: usize) -> [usize; 9] {
+fn parts(options: &Options, workers: usize) -> [usize; 10] {
     let Options { max_message, max_reply, max_answer, max_connections, max_feeds, keep, keep_bytes, .. } = *options;
     let (seats, twice) = (usize::from(SEATS), |bytes: usize| bytes.saturating_mul(2));
-    let messages = max_message.saturating_mul(seats * MESSAGES);
-    let bodies = max_message.saturating_mul(seats);
-    let waiting = messages.saturating_add(bodies).saturating_mul(SPELLED * BATCHES);
+    let stream = PIECE * PIECES + PLACE as usize * options.ring as usize;
+    let connection = CONNECTION + if options.tls.is_some() { TLS } else { 0 };
     [
-        PROGRAM + STACK * (workers + THREADS),
+        PROGRAM + BETWEEN_LOOKS + STACK * (workers + THREADS),
         keep_bytes.saturating_add(keep.saturating_mul(EVENT + EVENT / 8)),
-        max_connections.saturating_mul(CONNECTION),
-        twice(bodies),
-        messages,
+        max_connections.saturating_mul(connection),
+        twice(max_message.saturating_mul(seats)),
+        max_message.saturating_add(socket::BESIDE).saturating_mul(seats),
         answers(max_reply, max_answer, workers),
         twice(reports::UNREAD),
-        max_feeds.saturating_mul(PIECE * PIECES),
-        journal::MOST_BYTES + journal::MOST * REMEMBERED + if options.data.is_some() { waiting } else { 0 },
+        max_feeds.saturating_mul(stream).saturating_add(MADE * PIECE * workers),
+        options.max_consumers.saturating_mul(NAME),
+        journal::MOST_BYTES + journal::MOST * REMEMBERED,
     ]
 }
 
@@ -103,20 +126,42 @@ mod tests {
     #[test]
     fn what_is_bounded_lower_needs_less() {
         let (usual, small) = (reserve(&options(&[]), 4), reserve(&options(&SMALL), 4));
-        assert!(usual < 2 << 30 && small < 640 << 20, "{} MB, {} MB", usual >> 20, small >> 20);
+        assert!(usual < 1400 << 20 && small < 640 << 20, "{} MB, {} MB", usual >> 20, small >> 20);
         assert!(reserve(&options(&SMALL), 8) > small);
+    }
+
+    #[test]
+    fn rows_have_what_a_limit_leaves() {
+        let (usual, small) = (options(&[]), options(&SMALL));
+        assert_eq!(max_memory(&usual, 4, None), 0);
+        for (options, limit) in [(&usual, 4 << 30), (&usual, 3 << 30), (&small, 2 << 30)] {
+            let most = max_memory(options, 4, Some(limit));
+            let with = Options { max_memory: Some(most), ..options.clone() };
+            let all = most + reserve(&with, 4);
+            assert!(all <= limit && all > limit - (1 << 20), "{} of {} MB", all >> 20, limit >> 20);
+            assert!(most >= limit / 2);
+        }
+        // A limit that leaves less is told of.
+        assert_eq!(max_memory(&usual, 4, Some(1 << 30)), 1 << 29);
+        for (word, most) in [("0", 0), ("77", 77)] {
+            assert_eq!(max_memory(&options(&["--max-memory", word]), 4, Some(4 << 30)), most);
+        }
     }
 
     #[test]
     fn each_bound_counts() {
         let usual = reserve(&options(&[]), 4);
         let names = ["max-message", "max-reply", "max-answer", "max-connections", "max-feeds", "keep", "keep-bytes"];
-        for name in names {
-            let most = format!("{}", 1u64 << if name.starts_with("keep") { 40 } else { 19 });
-            let more = reserve(&options(&[&format!("--{name}"), &most]), 4);
+        for name in names.into_iter().chain(["max-memory", "max-consumers", "ring"]) {
+            let most = match name {
+                "keep" | "keep-bytes" => 1 << 40,
+                "ring" => 1 << 16,
+                _ => 1_u64 << 19,
+            };
+            let more = reserve(&options(&[&format!("--{name}"), &most.to_string()]), 4);
             assert!(more != usual, "--{name}");
         }
-        assert!(reserve(&options(&["--data", "kept"]), 4) > usual);
+        assert!(reserve(&options(&["--tls-cert", "a", "--tls-key", "b"]), 4) > usual);
     }
 
     #[test]

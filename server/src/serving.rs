@@ -23,7 +23,7 @@ use crate::options::Options;
 use crate::process;
 use crate::refusal::Refusal;
 use crate::reports;
-use crate::reserve::reserve;
+use crate::reserve::{max_memory, reserve};
 use crate::routes::Server;
 use crate::seats::SEATS;
 use crate::session;
@@ -103,7 +103,7 @@ pub fn serve(options: Options) -> Result<(), Failure> {
 async fn run(mut options: Options) -> Result<(), Failure> {
     let log = Arc::new(Log::new(options.log_level, options.log_json));
     allow_files(&mut options, &log);
-    warn_of_near_limit(&options, &log);
+    limit_memory(&mut options, &log);
     let opened = open(&options, log.clone()).await?;
     let kept = opened.kept.clone();
     let listener = listener(SocketAddr::new(options.address, options.port))?;
@@ -220,10 +220,14 @@ pub fn workers() -> usize {
     std::thread::available_parallelism().map_or(1, usize::from)
 }
 
-/// A limit of memory that may be reached before rows are refused, or by what isn't rows.
-fn warn_of_near_limit(options: &Options, log: &Log) {
-    let (most, reserve) = (options.max_memory, reserve(options, workers()));
-    let Some(limit) = process::memory_limit().filter(|_| most > 0) else { return };
+/// Says above how much memory rows are refused, and warns where a limit of the system's may be reached before, or by what
+/// isn't rows.
+fn limit_memory(options: &mut Options, log: &Log) {
+    let limit = process::memory_limit();
+    let most = max_memory(options, workers(), limit);
+    options.max_memory = Some(most);
+    let reserve = reserve(options, workers());
+    let Some(limit) = limit.filter(|_| most > 0) else { return };
     if limit < most.saturating_add(reserve) {
         let fields = [("limit", limit.into()), ("max_memory", most.into()), ("reserve", reserve.into())];
         log.warn("memory_limit_near", &fields);

@@ -11,7 +11,7 @@
 
 use crate::budget::Held;
 use crate::connections::Connection;
-use crate::door::Turn;
+use crate::door::{self, Turn};
 use crate::gate::{Right, Who};
 use crate::http::{Request, Response};
 use crate::journal::Ticket;
@@ -140,7 +140,7 @@ async fn answer(seated: &mut Seated, lines: &mut Lines, unread: &mut Held) -> Re
     let refused = |error, why| Err(Refusal::new(500, error, why));
     let mut crowded: Option<tokio::time::Instant> = None;
     loop {
-        let turn = server.door.turn(|core, until| {
+        let (turn, rest) = server.door.turn_and_rest(|core, until| {
             core.seats.hears(session.seat);
             lines.has_room = unread.has_room();
             let turn = lines.turn(core, session, until);
@@ -154,7 +154,7 @@ async fn answer(seated: &mut Seated, lines: &mut Lines, unread: &mut Held) -> Re
             }
             Ok(Turn::More) => {
                 crowded = None;
-                tokio::task::yield_now().await;
+                door::rest(rest).await;
             }
             Ok(Turn::Until(ticket)) => server.door.until(ticket).await,
             Ok(Turn::Crowded)

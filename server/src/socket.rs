@@ -18,7 +18,7 @@ mod end;
 
 use crate::budget::Held;
 use crate::connections::Connection;
-use crate::door::Turn;
+use crate::door::{self, Turn};
 use crate::http::Stream;
 use crate::journal::Ticket;
 use crate::lines::{Lines, Lost};
@@ -39,6 +39,8 @@ const READ: usize = 1 << 16;
 const AHEAD: usize = 1 << 16;
 /// Bytes of answers beyond which they are written before the next message is taken.
 const WRITE: usize = 1 << 16;
+/// What a session has in hand beside a message and its answers: what is read ahead, read, and written.
+pub const BESIDE: usize = 4 * (READ + AHEAD);
 /// A session that waits for others' readers looks so often what its own client does.
 const LOOK: Duration = Duration::from_millis(50);
 
@@ -162,7 +164,7 @@ impl Socket {
     /// Reads what is there already, and lets others in.
     async fn look(&mut self) -> Result<(), End> {
         let first = self.waiting.front().map_or(0, |first| first.bytes);
-        if self.ahead - first >= AHEAD || self.end.is_some() {
+        if self.ahead - first + self.decoder.begun() >= AHEAD || self.end.is_some() {
             tokio::task::yield_now().await;
             return Ok(());
         }
@@ -216,7 +218,8 @@ impl Socket {
     /// Answers all messages that wait, in turns.
     async fn answer_all(&mut self) -> Result<(), End> {
         while !self.waiting.is_empty() {
-            let turn = self.turn().map_err(|Lost| End::UNWRITTEN)?;
+            let (turn, rest) = self.turn();
+            let turn = turn.map_err(|Lost| End::UNWRITTEN)?;
             if self.out.len() >= WRITE || matches!(turn, Turn::Done | Turn::Crowded) {
                 self.write().await?;
             }
@@ -227,7 +230,11 @@ impl Socket {
             match turn {
                 Turn::Until(ticket) => self.until(ticket).await?,
                 Turn::Crowded => self.room().await?,
-                Turn::Done | Turn::More => self.crowded = None,
+                Turn::Done => self.crowded = None,
+                Turn::More => {
+                    self.crowded = None;
+                    door::rest(rest).await;
+                }
             }
         }
         self.write().await
@@ -257,11 +264,11 @@ impl Socket {
         }
     }
 
-    /// Answers messages until the turn is over, or there is enough to write.
-    fn turn(&mut self) -> Result<Turn, Lost> {
+    /// Answers messages until the turn is over, or there is enough to write, and says how long to rest then.
+    fn turn(&mut self) -> (Result<Turn, Lost>, Duration) {
         let Socket { seated, waiting, ahead, out, unread, rests, .. } = self;
         let Seated { server, session } = seated;
-        server.door.turn(|core, until| {
+        server.door.turn_and_rest(|core, until| {
             core.seats.hears(session.seat);
             while let Some(first) = waiting.front_mut() {
                 first.lines.has_room = unread.has_room();

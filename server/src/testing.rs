@@ -193,10 +193,13 @@ impl Dice {
         (0..self.below(most)).flat_map(|_| self.of(pieces).to_vec()).collect()
     }
 
-    /// Tries again and again: for as many seconds as FUZZ_SECONDS says, or for two.
+    /// Tries again and again: for as many seconds as FUZZ_SECONDS says, or for two. With FUZZ_SEED other numbers are drawn.
     pub fn each(&mut self, mut attempt: impl FnMut(&mut Dice)) {
-        let seconds = std::env::var("FUZZ_SECONDS").ok().and_then(|word| word.parse().ok()).unwrap_or(2);
-        let end = Instant::now() + Duration::from_secs(seconds);
+        let said = |name| std::env::var(name).ok().and_then(|word| word.parse().ok());
+        if let Some(seed) = said("FUZZ_SEED") {
+            *self = Dice::new(self.0 ^ seed);
+        }
+        let end = Instant::now() + Duration::from_secs(said("FUZZ_SECONDS").unwrap_or(2));
         while Instant::now() < end {
             (0..100).for_each(|_| attempt(self));
         }

@@ -11,11 +11,15 @@ along. In the end
 
 A server with `--max-memory` below its limit may not end either. Where the limit lies above it by the reserve that the
 server itself tells, it may not end whatever clients hold meanwhile: answers, reports and streams that they don't read,
-bodies and messages that they don't end.
+bodies and messages that they don't end, deletes that aren't collected, reads that aren't closed, and feeds and
+protections that sessions hold.
+
+Then comes a control: events are taken from the transcript that is read, and that has to be noticed.
 """
 
 import contextlib
 import dataclasses
+import itertools
 import json
 import random
 import re
@@ -26,7 +30,7 @@ from collections.abc import Callable, Iterator
 from typing import Any
 
 from attack_beside import Scale
-from handmade import TEXT, Session, Wire, fill, framed
+from handmade import TEXT, Session, Wire, fill, framed, is_all_taken
 from machine import LONGEST, Room, Server, wait_for
 
 MEGABYTE = 1 << 20
@@ -35,7 +39,8 @@ VALUE = "x" * 16_000
 LONG = 200  # characters of a line beyond which a digest stands for it
 Report = dict[str, Any]
 COUNTED = re.compile(r"(?:rows|messages) (\d+)")  # an answer with so many lines behind it
-SECONDS_AT_LIMIT = 2.5  # how long the writers go on once they were told that there is no memory
+SECONDS_AT_LIMIT = 2.5  # how long the writers go on at least, once they were told that there is no memory
+MESSAGES_AT_LIMIT = 40  # how many more they send at least
 
 
 def heads_of(text: str) -> list[str]:
@@ -93,6 +98,9 @@ class Writer(threading.Thread):
                 self.limit.set()
                 time.sleep(0.05)
 
+    def messages(self) -> int:
+        return len(self.told) + len(self.lost)
+
     def ask(self, session: Session, lines: list[str]) -> None:
         try:
             answer = session.call("".join(line + "\n" for line in lines))
@@ -106,10 +114,11 @@ class Writer(threading.Thread):
 
 @dataclasses.dataclass
 class Reader(threading.Thread):
-    """Reads the transcript along."""
+    """Reads the transcript along. A control loses one event in `loses`."""
 
     server: Server
     over: threading.Event
+    loses: int = 0
     events: dict[int, str] = dataclasses.field(default_factory=dict)
     next: int = 0
     faults: list[str] = dataclasses.field(default_factory=list)
@@ -117,6 +126,7 @@ class Reader(threading.Thread):
 
     def __post_init__(self) -> None:
         super().__init__(daemon=True)
+        self.dice = random.Random(1)
 
     def __hash__(self) -> int:
         return id(self)
@@ -138,13 +148,15 @@ class Reader(threading.Thread):
             self.next = first
         if status != 200:
             return False
-        places = [int(one.split(" ", 1)[0]) for one in heads_of(text.removeprefix("mvfeed 2\n"))]
+        heads = [one for one in heads_of(text.removeprefix("mvfeed 2\n"))
+                 if not self.loses or self.dice.randrange(self.loses)]
+        places = [int(one.split(" ", 1)[0]) for one in heads]
         wanted = list(range(self.next, int(headers["ripsawbean-next"])))
         if places != wanted:
             missing = sorted(set(wanted) - set(places))
             self.faults.append("of %d to Ripsawbean-Next %s, %d events are missing, first %s; %d are there" % (
                 self.next, headers["ripsawbean-next"], len(missing), missing[:5], len(places)))
-        self.events.update(zip(places, heads_of(text.removeprefix("mvfeed 2\n"))))
+        self.events.update(zip(places, heads))
         self.next = max(int(headers["ripsawbean-next"]), self.next)
         return True
 
@@ -222,9 +234,9 @@ Crowd = Callable[[Server], contextlib.AbstractContextManager[object]]
 
 def run_at(room: Room, megabytes: int, has_own_limit: bool) -> tuple[str, list[str]]:
     """How a run ended, and what was wrong."""
+    most = megabytes * MEGABYTE // 3 if has_own_limit else 0
     options = ["--keep", "10000000", "--keep-bytes", str(megabytes * MEGABYTE // 3), "--history", "1"]
-    if has_own_limit:
-        options += ["--max-memory", str(megabytes * MEGABYTE // 3)]
+    options += ["--max-memory", str(most)]
     server = room.start(limited(room, megabytes * MEGABYTE, options))
     return run_on(server, has_own_limit)
 
@@ -233,20 +245,41 @@ def limited(room: Room, addresses: int, options: list[str]) -> Server:
     return Server(room.path, *options, before=("prlimit", "--as=%d" % addresses))
 
 
-def run_on(server: Server, has_own_limit: bool, crowd: Crowd = contextlib.nullcontext) -> tuple[str, list[str]]:
+def messages_of(writers: list[Writer]) -> int:
+    return sum(one.messages() for one in writers)
+
+
+def has_come(at_limit: threading.Event, writers: list[Writer]) -> bool:
+    """Waits for the limit as long as the writers get on, however slow a busy machine makes them."""
+    before = -1
+    while not at_limit.wait(LONGEST) and messages_of(writers) > before:
+        before = messages_of(writers)
+    return at_limit.is_set()
+
+
+def go_on(writers: list[Writer]) -> None:
+    """Gives the writers some time, and on a busy machine some messages too."""
+    before = messages_of(writers)
+    time.sleep(SECONDS_AT_LIMIT)
+    with contextlib.suppress(TimeoutError):
+        wait_for(lambda: messages_of(writers) >= before + MESSAGES_AT_LIMIT, "more messages")
+
+
+def run_on(server: Server, has_own_limit: bool, crowd: Crowd = contextlib.nullcontext,
+           loses: int = 0) -> tuple[str, list[str]]:
     """The same of a server that has begun. The crowd comes once there is no memory for more rows."""
     at_limit, over, read_over = threading.Event(), threading.Event(), threading.Event()
     writers = [Writer(server, number, at_limit, over) for number in range(WRITERS)]
-    reader = Reader(server, read_over)
+    reader = Reader(server, read_over, loses)
     for one in (*writers, reader):
         one.start()
-    has_come = at_limit.wait(LONGEST)
+    is_reached = has_come(at_limit, writers)
     with crowd(server):
-        time.sleep(SECONDS_AT_LIMIT)
+        go_on(writers)
     over.set()
     for one in writers:
         one.join(LONGEST)
-    faults = [] if has_come else ["no limit was reached"]
+    faults = [] if is_reached else ["no limit was reached"]
     if not server.has_ended():
         try:
             wait_for(lambda: server.has_ended() or is_quiet(server), "the server to answer")
@@ -360,6 +393,101 @@ def test_a_reserve_is_enough(room: Room, scale: Scale) -> str:
     return figures
 
 
+def hold_up(server: Server, over: threading.Event) -> None:
+    """A transaction that nobody decides, and a snapshot that nobody reads, again and again."""
+    while not over.is_set():
+        with contextlib.suppress(OSError):
+            session = Session(server.port)
+            while not over.is_set():
+                session.call("begin\n")
+                session.call("protect %s\n" % session.call("stats\n").split(" ")[-2])
+                time.sleep(1)
+
+
+@dataclasses.dataclass
+class Growing(threading.Thread):
+    """Says a line again and again, of another key each time, in transactions of two hundred."""
+
+    server: Server
+    line: str
+    over: threading.Event
+    made: int = 0
+    full: int = 0
+
+    def __post_init__(self) -> None:
+        super().__init__(daemon=True)
+
+    def __hash__(self) -> int:
+        return id(self)
+
+    def run(self) -> None:
+        session = Session(self.server.port)
+        for at in itertools.count(step=200):
+            if self.over.is_set():
+                return
+            lines = "".join(self.line % one for one in range(at, at + 200))
+            answer = session.call("begin\n%scommit .\n" % lines)
+            self.made += answer.count(" => written\n") + answer.count(" => none\n")
+            self.full += answer.count(" 67 full ")
+
+
+class Holding(Growing):
+    """Opens feeds and protects, five hundred of each, and ends them with its session, again and again."""
+
+    def __hash__(self) -> int:
+        return id(self)
+
+    def run(self) -> None:
+        while not self.over.is_set():
+            with contextlib.suppress(OSError):
+                session = Session(self.server.port)
+                closed = session.call("stats\n").split(" ")[-2]
+                answer = session.call("".join(self.line % (at, closed, closed) for at in range(500)))
+                self.made += answer.count(" => opened ") + answer.count(" => protected ")
+                self.full += answer.count(" 67 full ")
+                session.close()
+
+
+def test_what_is_no_row_has_a_bound_too(room: Room, scale: Scale) -> str:
+    """While memory is full, deletes that aren't collected, reads that aren't closed, and what sessions hold are refused
+    beyond the reserve, and made again once what holds them up has gone, which is soon."""
+    options = [*SMALL, "--max-memory", str(MOST), "--max-age", "3600"]
+    reserve = reserve_of(room, options)
+    server = room.start(limited(room, MOST + reserve, options))
+    session, over = Session(server.port), threading.Event()
+    early = [Session(server.port) for _ in range(6)]  # whose feeds have rings, to which nothing has come yet
+    assert all(is_all_taken(one.call("open - - 0\n" * 1000)) for one in early)
+    for at in itertools.count():
+        if " 67 full " in session.call("begin\nput . row/%d %s\ncommit .\n" % (at, VALUE)):
+            break
+    clients = [Growing(server, line, over) for line in ("del . gone/%09d\n", "get . absent/%09d\n") for _ in range(3)]
+    held = "openinitial low/%09d - %s\nprotect %s\n"
+    clients += [Holding(server, held, over) for _ in range(3)]
+    threads = [threading.Thread(target=hold_up, args=(server, over), daemon=True), *clients]
+    for one in threads:
+        one.start()
+    wait_for(lambda: all(one.full for one in clients), "each kind to be refused")
+    before = [one.made for one in clients]
+    wait_for(lambda: all(one.made > made + 2000 for one, made in zip(clients, before)), "each kind to go on")
+    over.set()
+    for one in threads:
+        one.join(LONGEST)
+    deletes, reads, holds = (sum(one.made for one in clients[at : at + 3]) for at in (0, 3, 6))
+    figures = "%d deletes, %d reads, %d feeds and protections, %d refused; %d MB of addresses at most, of %d MB" % (
+        deletes, reads, holds, sum(one.full for one in clients), peak_of_addresses(server) >> 20, MOST + reserve >> 20)
+    assert not server.has_ended() and peak_of_addresses(server) < MOST + reserve, figures
+    return figures
+
+
+def test_a_lost_event_is_noticed(room: Room, scale: Scale) -> str:
+    """The control: the same run, whose reader loses one event in five hundred."""
+    options = ["--keep", "10000000", "--keep-bytes", str(80 * MEGABYTE), "--history", "1", "--max-memory", str(80 * MEGABYTE)]
+    _, faults = run_on(room.start(Server(room.path, *options)), True, loses=500)
+    lost = sum("events are missing" in one for one in faults)
+    assert lost and len(faults) > lost, "it isn't noticed: %s" % faults[:6]
+    return "%d faults" % len(faults)
+
+
 def test_threads_lay_no_addresses_aside(room: Room, scale: Scale) -> str:
     """A server of few rows takes few addresses, however many of its threads work."""
     server = room.start(Server(room.path))
@@ -371,4 +499,5 @@ def test_threads_lay_no_addresses_aside(room: Room, scale: Scale) -> str:
 
 
 TESTS: list[Callable[[Room, Scale], str]] = [
-    test_limits, test_a_reserve_is_enough, test_threads_lay_no_addresses_aside]
+    test_limits, test_a_lost_event_is_noticed, test_a_reserve_is_enough, test_what_is_no_row_has_a_bound_too,
+    test_threads_lay_no_addresses_aside]

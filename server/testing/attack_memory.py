@@ -62,7 +62,7 @@ def commit_large(session: Session, rows: int, prefix: str) -> None:
 
 def test_a_large_transaction_and_sixty_readers(room: Room, scale: Scale) -> str:
     """Thirty readers that stop and thirty that read on cost no buffers, and a small call doesn't wait for them."""
-    server = started(room)
+    server = started(room, "--max-age", "3600")  # a busy machine may take longer for the transaction than it may be old
     with stopped_feeds(server, 30), running(room, server, "readers", "30") as fast, Session(server.port).socket:
         session = Session(server.port)
         for at in range(40):  # small changes, after which a server may believe that it can ask for many messages
@@ -264,7 +264,9 @@ def test_memory_has_a_limit(room: Room, scale: Scale) -> str:
     assert held < most + 128 * MEGABYTE, "%d MB" % (held >> 20)
 
     def has_room() -> bool:
-        fill(session, "full/", rows, delete=True)
+        for at in range(0, rows, 500):  # more than may wait to be collected are asked for again
+            lines = "".join("del . full/%07d\n" % row for row in range(at, at + 500))
+            wait_for(lambda: " 67 full " not in session.call("begin\n%scommit .\n" % lines), "deletes to be made")
         time.sleep(1.5)
         return "fault " not in session.call("begin\nput . full/again x\ncommit .\n")
     end = time.monotonic() + LONGEST

@@ -13,6 +13,7 @@ import traceback
 from collections.abc import Callable
 
 import attack_beside
+import attack_growth
 import attack_http
 import attack_limits
 import attack_memory
@@ -24,7 +25,7 @@ from attack_beside import Scale
 from machine import Program, Room
 from tally import Tally
 
-THEMES = (attack_beside, attack_memory, attack_slow, attack_wire, attack_http, attack_limits, attack_tokens,
+THEMES = (attack_beside, attack_memory, attack_growth, attack_slow, attack_wire, attack_http, attack_limits, attack_tokens,
           attack_operating)
 Test = Callable[[Room, Scale], str]
 

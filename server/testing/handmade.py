@@ -190,7 +190,8 @@ class Session(Wire):
 
 def is_all_taken(answer: str) -> bool:
     """Whether no line was refused: a load whose lines are refused is no load."""
-    return not any(word in answer for word in ("fault ", "=> toolate", "=> ended", "=> blocked", "=> nomemory"))
+    refusals = ("fault ", "=> toolate", "=> ended", "=> blocked", "=> nomemory", "=> belowhorizon")
+    return not any(word in answer for word in refusals)
 
 
 def fill(session: Session, prefix: str, count: int, value: str = "v", delete: bool = False) -> None:

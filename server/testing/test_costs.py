@@ -14,7 +14,7 @@ import time
 import unittest
 
 sys.path[:0] = [os.path.dirname(os.path.abspath(__file__))]
-from test_served import ROW, refusal, served  # noqa: E402  it adds the folders of what follows
+from test_served import ROW, call, refusal, served  # noqa: E402  it adds the folders of what follows
 
 READERS, ROWS, LONG = 30, 400, 65536
 MEGABYTE = 1 << 20
@@ -93,7 +93,8 @@ class Memory(unittest.IsolatedAsyncioTestCase):
 
     async def test_rows_that_grow_longer_take_little(self):
         async with served() as client:
-            await client.post("/call", data="begin\n%scommit .\n" % "".join("put . a%d x\n" % row for row in range(9000)))
+            puts = "".join("put . a%d x\n" % row for row in range(9000))
+            self.assertIn("=> committed 9000", await call(client, "begin\n%scommit .\n" % puts))
             async with client.ws_connect("/session") as session:
                 for at in range(0, 300, 10):
                     await session.send_str("begin\n%scommit .\n" % "".join(
@@ -134,7 +135,7 @@ class Turns(unittest.IsolatedAsyncioTestCase):
         async with served("--keep", "1000000", "--max-reply", str(64 * MEGABYTE)) as client:
             for at in range(40):
                 lines = "".join("put . k%d %s\n" % (row, "v" * 400) for row in range(2000))
-                await client.post("/call", data="begin\n%scommit .\n" % lines)
+                await call(client, "begin\n%scommit .\n" % lines)
             await asyncio.sleep(0.1)
             async with asked_meanwhile(client) as took:
                 reply = await client.get("/transcript")
@@ -154,7 +155,7 @@ class Ends(unittest.IsolatedAsyncioTestCase):
             slow = stopped_reader(client, b"/feed")
             for at in range(20):
                 lines = "".join("put . k%d %s\n" % (row, "v" * 1000) for row in range(900))
-                await client.post("/call", data="begin\n%scommit .\n" % lines)
+                await call(client, "begin\n%scommit .\n" % lines)
             await asyncio.sleep(1)
             feeds = [json.loads(line) for line in (await (await client.get("/holders")).text()).splitlines()[1:]]
             self.assertEqual([one["waits"] for one in feeds], [True])
@@ -197,6 +198,10 @@ class Operators(unittest.IsolatedAsyncioTestCase):
             self.assertGreater(int(samples["ripsawbean_bytes_in_total"]), 100)
             self.assertGreater(int(samples["ripsawbean_bytes_out_total"]), 500)
             self.assertIn("ripsawbean_oldest_transaction_seconds", samples)
+            self.assertGreaterEqual(int(samples["ripsawbean_memory_max_bytes"]), 0)
+            self.assertGreater(int(samples["ripsawbean_memory_reserve_bytes"]), 0)
+            self.assertEqual([samples['ripsawbean_memory_growth_bytes{kind="%s"}' % kind] for kind in ("open", "deleted")],
+                             ["0", "0"])
             self.assertIn("ripsawbean_closing_delay_seconds", samples)
             self.assertTrue(any(name.startswith("ripsawbean_build_info{version=") for name in samples))
 

@@ -55,13 +55,19 @@ async def refusal(reply):
     return reply.status, (await reply.json())["error"]
 
 
+async def call(client, lines):
+    """The answers to lines, read to their end. Where nobody reads a long one, aiohttp may stop reading its connection, and
+    send a later request there all the same: that one's answer is never read."""
+    return await (await client.post("/call", data=lines)).text()
+
+
 async def delete_many_rows(client):
     """Leaves nothing to be seen, and much to look through: a name holds the horizon."""
     identity = (await (await client.get("/consumer/c")).json(content_type=None))["identity"]
     await client.post("/consumer/c?identity=%s&generation=0&stored=0" % identity)
     for command in ("put . %d x\n", "del . %d\n"):
         rows = "".join(command % row for row in range(20000))
-        await client.post("/call", data="begin\n%scommit .\n" % rows)
+        await call(client, "begin\n%scommit .\n" % rows)
 
 
 class Streams(unittest.IsolatedAsyncioTestCase):
@@ -108,7 +114,7 @@ class Streams(unittest.IsolatedAsyncioTestCase):
             count = asyncio.ensure_future(told(fast, lambda message: message.get("resolved") == "160"))
             for _ in range(160):
                 rows = "".join("put . k%d %s\n" % (row, "v" * 1000) for row in range(100))
-                await client.post("/call", data="begin\n%scommit .\n" % rows)
+                await call(client, "begin\n%scommit .\n" % rows)
             self.assertEqual(sum("key" in message for message in await count), 16000)
             await asyncio.sleep(2.5)
             holders = [json.loads(line) for line in (await (await client.get("/holders")).text()).splitlines()]
@@ -281,7 +287,7 @@ class Lines(unittest.IsolatedAsyncioTestCase):
         async with served("--keep", "0", "--max-age", "1000") as client:
             for command in ("put . %d x\n", "del . %d\n"):
                 rows = "".join(command % row for row in range(20000))
-                await client.post("/call", data="protect 0\nbegin\n%scommit .\n" % rows)
+                await call(client, "protect 0\nbegin\n%scommit .\n" % rows)
             socket = await client.ws_connect("/session")
             await socket.send_str("begin\nprotect 0\n" + "scan . - -\n" * 3000)
             longest, count = 0, 0

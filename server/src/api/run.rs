@@ -97,6 +97,8 @@ pub enum Stop {
     BelowHorizon(u64),
     NoMemory,
     Full,
+    /// Memory is full, and so is what transactions or deletes may take beside it.
+    Overfull,
     /// Unread answers leave no room for a long one.
     Crowded,
     Draining,
@@ -125,6 +127,10 @@ impl Stop {
             }
             Stop::NoMemory => Refusal::busy("nomemory", "there is no memory for it: nothing was changed"),
             Stop::Full => Refusal::busy("full", "the server's memory is full: keys can be deleted, and not put"),
+            Stop::Overfull => {
+                let why = "the server's memory is full, and so is what transactions and deletes may take beside it";
+                Refusal::busy("full", why)
+            }
             Stop::Crowded => Refusal::crowded(),
             Stop::Draining => Refusal::busy("draining", "the server is about to end"),
             Stop::TooMuch => Refusal::new(
@@ -168,6 +174,9 @@ pub fn run<'p>(core: &mut Core, plan: &'p Plan<'_>, keep: Option<&Keep<'_>>) -> 
 fn check(core: &Core, plan: &Plan<'_>) -> Result<(), Stop> {
     if core.limits.is_draining {
         return Err(Stop::Draining);
+    }
+    if !core.may_read() {
+        return Err(Stop::Overfull);
     }
     for condition in &plan.conditions {
         match *condition {
@@ -280,6 +289,7 @@ impl<'p> Running<'_, 'p> {
         let ts = self.timestamp;
         match step {
             Step::Put { .. } if self.core.is_full() => Err(Stop::Full),
+            Step::Del { .. } if !self.core.may_delete() => Err(Stop::Overfull),
             Step::Put { key, value } => self.write("put", key, Command::Put { ts, key, value }),
             Step::Del { key } => self.write("del", key, Command::Del { ts, key }),
             Step::Get { key } => Ok(Told::Row(self.get(key)?)),
@@ -301,7 +311,7 @@ impl<'p> Running<'_, 'p> {
         let mut value = None;
         let command = Command::Get { ts: self.timestamp, key };
         match self.core.show(Owner::Server, command, &mut |event| value = event.value()) {
-            Ok(Outcome::Nothing) => {}
+            Ok(Outcome::Read { .. }) => {}
             other => return Err(self.stop("get", other)),
         }
         self.count(length_of(key) + value.as_deref().map_or(0, length_of))?;

@@ -4,7 +4,7 @@
 use super::*;
 use crate::seats::Session;
 use crate::testing::{answers, core, core_and_log, end, say, session, tidy, Dice};
-use ripsawbean::Database;
+use ripsawbean::{Database, Span};
 
 const COMMANDS: [&str; 22] = [
     "begin",
@@ -145,14 +145,145 @@ fn what_lags_in_bytes_is_let_go() {
 
 #[test]
 fn while_memory_is_full_those_that_hold_an_eighth_of_it_are_let_go() {
-    for (size, resident, left) in [(2000, 8000, 1), (500, 8001, 1), (2000, 8001, 0)] {
-        let mut core = core(&["--max-memory", "8000"]);
+    // The feed's ring has eight bytes more.
+    for (size, resident, left) in [(2000, 7992, 1), (500, 7993, 1), (2000, 7993, 0)] {
+        let mut core = core(&["--max-memory", "8000", "--ring", "1"]);
         let mut one = session(&mut core);
         let value = "x".repeat(size);
         answers(&mut core, &mut one, &format!("open - - 0\nprotect 0\nbegin\nput . k {value}\ncommit .\n"));
         core.watch_memory(resident);
         tidy(&mut core);
         assert_eq!((core.ledger.feeds.len(), core.ledger.protections.len()), (left, left), "{size} {resident}");
+    }
+}
+
+/// Says lines of a message of its own again and again, until one of them is answered `full`: how many were not.
+fn until_full(core: &mut Core, one: &mut Session, line: impl Fn(usize) -> String) -> usize {
+    let mut count = 0;
+    while answers(core, one, &line(count)).iter().all(|answer| !answer.ends_with(" 67 full")) {
+        count += 1;
+        assert!(count < 100_000, "it goes on and on");
+    }
+    count
+}
+
+#[test]
+fn while_memory_is_full_transactions_read_as_far_as_others_are_closed() {
+    let mut core = core(&["--max-memory", "1000"]);
+    let (mut old, mut one) = (session(&mut core), session(&mut core));
+    let read = |at: usize| format!("begin\nget . absent/{at:06}\nscan . span/{at:06} span/{at:06}0\ncommit .\n");
+    answers(&mut core, &mut old, "begin\n");
+    (0..1_000).for_each(|at| drop(say(&mut core, &mut one, &read(at))));
+    core.watch_memory(1001);
+    // What there was before it was full counts no more.
+    let count = until_full(&mut core, &mut one, read);
+    assert!((2_000..20_000).contains(&count), "{count} messages");
+    for (line, told) in [
+        ("begin\n", "fault"),
+        ("begin 1000000\n", "fault"),
+        ("readat 0 a\n", "none"),
+        ("scanat 0 - -\n", "rows"),
+        ("stats\n", "stats"),
+        ("protect 0\n", "protected"),
+    ] {
+        let answer = answers(&mut core, &mut one, line).concat();
+        assert!(answer.starts_with(told), "{line} {answer}");
+    }
+    assert_eq!(say(&mut core, &mut old, "get . a\n"), ["fault 2 67 full"]);
+    assert_eq!(say(&mut core, &mut old, "abort 1\n"), ["aborted"]);
+    assert_eq!(say(&mut core, &mut one, "begin\nget . a\ncommit .\n"), ["started", "none", "committed 0"]);
+    assert_eq!(core.shouts, 0);
+}
+
+#[test]
+fn while_memory_is_full_keys_are_deleted_as_far_as_others_are_collected() {
+    let mut core = core(&["--max-memory", "64000000", "--history", "0"]);
+    let (mut reader, mut one) = (session(&mut core), session(&mut core));
+    answers(&mut core, &mut reader, "protect 0\n");
+    core.watch_memory(64_000_001);
+    let delete = |at: usize| format!("begin\ndel . gone/{at}\ncommit .\n");
+    let count = until_full(&mut core, &mut one, delete);
+    assert!((5_000..20_000).contains(&count), "{count} messages");
+    assert_eq!(say(&mut core, &mut one, "get . gone/0\nabort .\n").len(), 2);
+    assert_eq!(say(&mut core, &mut one, "begin\nget . gone/0\nabort .\n"), ["started", "none", "aborted"]);
+    // A reader in their way is let go where it would hold an eighth otherwise.
+    tidy(&mut core);
+    assert_eq!((core.ledger.protections.len(), core.ledger.horizon), (0, core.ledger.closed));
+    assert_eq!(say(&mut core, &mut one, &delete(0)), ["started", "written", "committed 1"]);
+    assert_eq!(core.shouts, 0);
+}
+
+#[test]
+fn while_memory_is_full_sessions_hold_as_much_as_others_have_ended() {
+    let mut core = core(&["--max-memory", "1000", "--max-held", "100000"]);
+    let (mut one, mut two) = (session(&mut core), session(&mut core));
+    say(&mut core, &mut one, &"open - - 0\n".repeat(1_000));
+    core.watch_memory(1001);
+    // What there was before it was full counts no more.
+    let count = until_full(&mut core, &mut two, |_| "open - - 0\nprotect 0\n".into());
+    assert!((100..1_000).contains(&count), "{count} messages");
+    for (line, told) in [
+        ("open a b 0\n", "fault"),
+        ("openinitial - - 0\n", "fault"),
+        ("openevery - - 0 7\n", "fault"),
+        ("openinitialevery - - 0 7\n", "fault"),
+        ("protect 0\n", "fault"),
+        ("poll 1 7\n", "messages"),
+        ("begin\n", "fault"),
+        ("readat 0 a\n", "none"),
+    ] {
+        let answer = answers(&mut core, &mut one, line).concat();
+        assert!(answer.starts_with(told), "{line} {answer}");
+    }
+    // A stream's feed and a name's protection have bounds of their own.
+    for command in [Command::Open { span: Span::ALL, cursor: 0 }, Command::Protect { t: 0 }] {
+        assert!(matches!(core.ask(Owner::Server, command), Ok(Outcome::Opened { .. } | Outcome::Protected { .. })));
+    }
+    end(&mut core, &two);
+    let told = say(&mut core, &mut one, "begin\ncommit .\nopen - - 0\nprotect 0\n");
+    assert!(told.iter().all(|answer| !answer.starts_with("fault")), "{told:?}");
+    end(&mut core, &one);
+    assert_eq!(core.ledger.growth.now().held, 0);
+    assert_eq!(core.shouts, 0);
+}
+
+#[test]
+fn the_ring_of_a_sessions_feed_counts_before_rows_come_to_it() {
+    let mut core = core(&["--max-memory", "20000"]);
+    let mut one = session(&mut core);
+    for (line, is_full) in [("open - - 0\n", false), ("open - - 0\n", true), ("cancel 1\n", false)] {
+        answers(&mut core, &mut one, line);
+        core.watch_memory(4_000);
+        assert_eq!(core.is_full(), is_full, "{line}");
+    }
+}
+
+#[test]
+fn while_memory_is_full_a_transaction_that_holds_others_up_is_aborted_soon() {
+    let mut core = core(&["--max-memory", "1000"]);
+    let (mut old, mut one) = (session(&mut core), session(&mut core));
+    answers(&mut core, &mut old, "begin\n");
+    std::thread::sleep(Duration::from_millis(1050));
+    core.watch_memory(1001);
+    tidy(&mut core);
+    assert_eq!(core.ledger.undecided.len(), 1);
+    until_full(&mut core, &mut one, |at| format!("begin\nget . {at}\ncommit .\n"));
+    answers(&mut core, &mut one, "abort .\n");
+    tidy(&mut core);
+    assert_eq!(core.ledger.undecided.len(), 0);
+    core.settle(Instant::now());
+    assert_eq!(say(&mut core, &mut one, "begin\n"), ["started"]);
+}
+
+#[test]
+fn what_is_aborted_or_written_again_gives_its_room_back() {
+    let mut core = core(&["--max-memory", "1000"]);
+    let mut one = session(&mut core);
+    for lines in ["put . a 1\nput . a 2\nput . a 3\nabort .\n", "put . a 1\nput . a 2\nput . a 3\ncommit .\n"] {
+        let before = core.ledger.written - core.ledger.taken_back;
+        say(&mut core, &mut one, &format!("begin\n{lines}"));
+        let stays = core.ledger.written - core.ledger.taken_back - before;
+        assert_eq!(stays, if lines.contains("commit") { ROW + 9 } else { 0 });
     }
 }
 

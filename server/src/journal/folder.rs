@@ -129,7 +129,7 @@ impl Store for Folder {
         self.files.sync()
     }
 
-    fn append(&mut self, series: Series, bytes: &[u8]) -> Result<(), Failure> {
+    fn append(&mut self, series: Series, pieces: &[&[u8]]) -> Result<(), Failure> {
         let path = self.files.path(series);
         let of_path = |error| Failure::file(&path, error);
         let (mut file, is_new) = match self.last.take() {
@@ -140,7 +140,7 @@ impl Store for Folder {
                 Err(error) => return Err(of_path(error)),
             },
         };
-        file.write_all(bytes).and_then(|()| file.sync_data()).map_err(of_path)?;
+        pieces.iter().try_for_each(|piece| file.write_all(piece)).and_then(|()| file.sync_data()).map_err(of_path)?;
         if is_new {
             self.files.sync()?;
         }
@@ -212,11 +212,11 @@ mod tests {
         let mut one = Folder::take(&path).expect("it is free");
         let (first, second) = (Series::journal(1), Series::journal(2));
         for (series, bytes) in [(first, "a"), (first, "bc"), (second, "d"), (first, "e")] {
-            one.append(series, bytes.as_bytes()).expect("it is written");
+            one.append(series, &[bytes.as_bytes()]).expect("it is written");
         }
         assert_eq!((text(&mut one, first), text(&mut one, second)), ("abce".into(), "d".into()));
         one.cut(first, 2).expect("it is cut");
-        one.append(first, b"f").expect("it is written");
+        one.append(first, &[b"f"]).expect("it is written");
         assert_eq!(text(&mut one, first), "abf");
         let mut all = one.all().expect("they are read");
         all.sort();
@@ -227,8 +227,8 @@ mod tests {
     fn a_draft_is_there_once_it_is_finished() {
         let path = folder();
         let mut one = Folder::take(&path).expect("it is free");
-        one.append(Series::journal(1), b"a").expect("it is written");
-        one.append(Series::journal(2), b"b").expect("it is written");
+        one.append(Series::journal(1), &[b"a"]).expect("it is written");
+        one.append(Series::journal(2), &[b"b"]).expect("it is written");
         let mut draft = one.draft(2).expect("it is begun");
         draft.write(b"c").expect("it is written");
         assert_eq!(one.all().expect("they are read").len(), 2);

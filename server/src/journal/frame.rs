@@ -51,12 +51,18 @@ impl Chain {
 
     /// Puts a batch behind `out`.
     pub fn add(&mut self, number: u64, mark: u64, lines: &[u8], out: &mut Vec<u8>) {
-        self.0 = checksum(lines, self.0);
-        let words = format!("batch/{number}/{}/{:08x}/{mark}", lines.len(), self.0);
+        self.head(number, mark, &[lines], out);
+        out.extend_from_slice(lines);
+    }
+
+    /// Puts the head of a batch behind `out`, whose lines come in pieces.
+    pub fn head(&mut self, number: u64, mark: u64, lines: &[&[u8]], out: &mut Vec<u8>) {
+        self.0 = lines.iter().fold(self.0, |before, piece| checksum(piece, before));
+        let length: usize = lines.iter().map(|piece| piece.len()).sum();
+        let words = format!("batch/{number}/{length}/{:08x}/{mark}", self.0);
         out.extend_from_slice(CARRIER);
         // Writing to a vector can't fail.
         let _ = writeln!(out, "{words}/{:08x}", checksum(words.as_bytes(), 0));
-        out.extend_from_slice(lines);
     }
 }
 

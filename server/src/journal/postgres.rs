@@ -162,7 +162,7 @@ impl Store for Postgres {
         Err(Failure::Torn { name: self.name(series), at: length })
     }
 
-    fn append(&mut self, series: Series, bytes: &[u8]) -> Result<(), Failure> {
+    fn append(&mut self, series: Series, pieces: &[&[u8]]) -> Result<(), Failure> {
         let piece = match self.last.filter(|(last, _)| *last == series) {
             Some((_, piece)) => piece + 1,
             None => {
@@ -172,7 +172,7 @@ impl Store for Postgres {
                 last.get::<_, i64>(0) + 1
             }
         };
-        self.session.write(kind_of(series), series.number, piece, bytes)?;
+        self.session.write(kind_of(series), series.number, piece, &pieces.concat())?;
         self.last = Some((series, piece));
         Ok(())
     }

@@ -215,13 +215,15 @@ impl Journal {
         let ticket = match self.writes.remove(&ts) {
             Some(writes) => {
                 let (begin, commit) = (format!("0 begin {ts}\n"), format!("0 commit {ts}\n"));
-                let ticket = writer.add(&[begin.as_bytes(), &writes.lines, commit.as_bytes(), &beside]);
-                self.fresh.add(ticket, &writes.lines);
+                let keys: Vec<Box<[u8]>> = writes.keys().map(Box::from).collect();
+                // What a large transaction wrote is handed over, so it takes no more memory while it waits for the disk.
+                let ticket = writer.add([begin.into(), writes.lines, commit.into(), beside]);
+                self.fresh.add(ticket, keys);
                 ticket
             }
             // The mark covers what has written nothing.
             None if beside.is_empty() => return,
-            None => writer.add(&[&beside]),
+            None => writer.add([beside]),
         };
         self.last = ticket;
         self.need_by(Rule::CommitsWait, ticket);
@@ -259,7 +261,7 @@ impl Journal {
     }
 
     fn added(&self, lines: &str) -> Ticket {
-        self.writer.as_ref().map_or(Ticket::NONE, |writer| writer.add(&[lines.as_bytes()]))
+        self.writer.as_ref().map_or(Ticket::NONE, |writer| writer.add([lines.into()]))
     }
 
     // ---- series
@@ -321,6 +323,10 @@ impl Writes {
             self.most = 2 * self.lines.len();
         }
     }
+
+    fn keys(&self) -> impl Iterator<Item = &[u8]> {
+        self.lines.split_inclusive(|&byte| byte == b'\n').map(key_of)
+    }
 }
 
 /// The key's word in a line `SEAT COMMAND TIMESTAMP KEY ..`.
@@ -337,14 +343,14 @@ struct Fresh {
 }
 
 impl Fresh {
-    fn add(&mut self, ticket: Ticket, lines: &[u8]) {
+    fn add(&mut self, ticket: Ticket, keys: Vec<Box<[u8]>>) {
         if ticket != self.now.0 {
             // What was before this is durable: one batch is on its way at a time.
             std::mem::swap(&mut self.now, &mut self.before);
             self.now.0 = ticket;
             self.now.1.clear();
         }
-        self.now.1.extend(lines.split_inclusive(|&byte| byte == b'\n').map(|line| key_of(line).into()));
+        self.now.1.extend(keys);
     }
 
     fn ticket(&self, writer: &Writer, key: &[u8]) -> Ticket {

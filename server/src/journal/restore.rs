@@ -40,5 +40,5 @@ pub fn restore(store: &mut dyn Store, file: &Path, identity: &str) -> Result<(),
     draft.finish()?;
     let (series, mut bytes) = (Series::journal(1), Vec::new());
     Chain::new(identity, series).add(1, 0, head.as_bytes(), &mut bytes);
-    store.append(series, &bytes)
+    store.append(series, &[&bytes])
 }

@@ -60,8 +60,8 @@ pub trait Store: Send {
     /// Gives up what stands behind so many bytes of a series, and makes the rest durable.
     fn cut(&mut self, series: Series, length: u64) -> Result<(), Failure>;
 
-    /// Appends to a series, which begins here where it isn't there.
-    fn append(&mut self, series: Series, bytes: &[u8]) -> Result<(), Failure>;
+    /// Appends bytes in pieces to a series, which begins here where it isn't there.
+    fn append(&mut self, series: Series, pieces: &[&[u8]]) -> Result<(), Failure>;
 
     /// A checkpoint that isn't there until it is finished.
     fn draft(&mut self, number: u64) -> Result<Box<dyn Draft>, Failure>;

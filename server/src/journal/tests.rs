@@ -401,3 +401,28 @@ fn lines_that_are_overwritten_are_not_kept() {
     let last: Vec<&str> = told.iter().map(|row| row.rsplit('v').next().expect("a number")).collect();
     assert_eq!(last, ["1998", "1999", "1997"]);
 }
+
+#[test]
+fn a_long_transaction_is_there_whole_or_not_at_all() {
+    let place = folder();
+    let mut core = core_in(&place);
+    let mut one = session(&mut core);
+    put(&mut core, &mut one, &[("a", "1")]);
+    sync(&core);
+    let before = fs::metadata(journal_of(&place, 1)).expect("it is there").len() as usize;
+    let value = "v".repeat(60_000);
+    let lines: String = (0..40).map(|number| format!("put . k{number:02} {value}\n")).collect();
+    say(&mut core, &mut one, &format!("begin\n{lines}commit .\n"));
+    sync(&core);
+    let copy = crashed(&place);
+    let bytes = fs::read(journal_of(&copy, 1)).expect("it is there");
+    for (length, wanted) in [(before + 100_000, 1), (bytes.len() - 1, 1), (bytes.len(), 41)] {
+        let cut_off = folder();
+        fs::write(journal_of(&cut_off, 1), &bytes[..length]).expect("it is written");
+        let mut after = core_in(&cut_off);
+        let mut two = session(&mut after);
+        let told = rows(&mut after, &mut two);
+        assert_eq!(told.len(), wanted, "of {length} bytes");
+        assert!(told[1..].iter().all(|row| row.ends_with(&value)));
+    }
+}

@@ -8,22 +8,24 @@
 //!
 //! 1. One batch is on its way at a time. So what isn't durable is one batch, at the end of the last series.
 //! 2. Where a batch can't be written the process ends at once, before anyone is told of it.
+//! 3. What a large transaction wrote is handed on from `recorder` to the disk, and never copied. So however much waits for
+//!    a slow disk, it takes the memory that it took before its commit.
 
 #[cfg(test)]
 pub mod by_hand;
+mod pieces;
 
 use super::frame::Chain;
 use super::rules::{holds, Rule};
 use super::store::{Draft, Series, Store};
 use super::Failure;
 use parking_lot::{Condvar, Mutex};
+use pieces::{Pieces, ROOM};
 use std::sync::atomic::{AtomicU64, Ordering::Relaxed};
 use std::sync::{mpsc, Arc};
 use std::time::{Duration, Instant};
 use tokio::sync::watch;
 
-/// Room that is kept for the lines of a batch.
-const ROOM: usize = 1 << 20;
 /// A batch that takes so long is told of.
 const STUCK: Duration = Duration::from_secs(10);
 /// Where nothing is to be written it is asked so often whether that is possible.
@@ -93,14 +95,14 @@ pub type Drafted = Result<Box<dyn Draft>, Failure>;
 
 /// What follows goes to a new series, which begins with this head.
 struct Switch {
-    /// Where it came, in the lines of the batch.
+    /// Behind how many pieces of the batch it came.
     at: usize,
     head: Vec<u8>,
     draft: mpsc::Sender<Drafted>,
 }
 
 struct Queue {
-    lines: Vec<u8>,
+    lines: Pieces,
     /// The number of the batch that gathers.
     number: u64,
     mark: u64,
@@ -146,9 +148,9 @@ impl Writer {
         let (number, mark) = (position.number + 1, position.mark);
         let counts = Arc::new(Counts::default());
         counts.since_checkpoint.store(position.bytes, Relaxed);
-        write(&mut *store, &mut position, number, mark, lines, &counts)?;
+        write(&mut *store, &mut position, number, mark, &[lines], &counts)?;
         let queue = Queue {
-            lines: Vec::with_capacity(ROOM),
+            lines: Pieces::with_room(),
             number: number + 1,
             mark,
             is_raised: false,
@@ -193,14 +195,12 @@ impl Writer {
     }
 
     /// Adds lines to the batch that gathers. Behind the last one nothing is added.
-    pub fn add(&self, parts: &[&[u8]]) -> Ticket {
+    pub fn add<const PARTS: usize>(&self, parts: [Vec<u8>; PARTS]) -> Ticket {
         let mut queue = self.shared.queue.lock();
         if queue.is_over && holds(Rule::NothingIsCalledBehindTheEnd) {
             return Ticket::NEVER;
         }
-        for part in parts {
-            queue.lines.extend_from_slice(part);
-        }
+        parts.into_iter().for_each(|part| queue.lines.add(part));
         self.shared.gathered.notify_one();
         Ticket(queue.number)
     }
@@ -237,7 +237,8 @@ impl Writer {
         if queue.switch.is_some() || queue.is_over {
             return None;
         }
-        queue.switch = Some(Switch { at: queue.lines.len(), head, draft });
+        let at = queue.lines.cut();
+        queue.switch = Some(Switch { at, head, draft });
         self.shared.gathered.notify_one();
         Some(drafts)
     }
@@ -254,7 +255,7 @@ impl Writer {
 
 /// What was taken from the queue.
 struct Work {
-    lines: Vec<u8>,
+    lines: Pieces,
     number: u64,
     mark: u64,
     switch: Option<Switch>,
@@ -280,7 +281,7 @@ impl Thread {
     }
 
     fn run(mut self) {
-        let mut spare = Vec::with_capacity(ROOM);
+        let mut spare = Pieces::with_room();
         loop {
             let mut work = loop {
                 match self.take(&mut spare) {
@@ -295,14 +296,12 @@ impl Thread {
             if work.is_last {
                 return;
             }
-            spare = work.lines;
-            spare.clear();
-            spare.shrink_to(ROOM);
+            spare = work.lines.emptied();
         }
     }
 
     /// Waits for something to write. `None` where nothing came for a while.
-    fn take(&self, spare: &mut Vec<u8>) -> Option<Work> {
+    fn take(&self, spare: &mut Pieces) -> Option<Work> {
         let mut queue = self.shared.queue.lock();
         while !queue.has_work() {
             if self.shared.gathered.wait_for(&mut queue, BEAT).timed_out() {
@@ -325,16 +324,16 @@ impl Thread {
     fn write(&mut self, work: &mut Work) -> Result<(), Failure> {
         let Thread { shared, store, identity, position } = self;
         let counts = &shared.counts;
+        let lines = work.lines.all();
         let Some(switch) = work.switch.take() else {
-            return write(&mut **store, position, work.number, work.mark, &work.lines, counts);
+            return write(&mut **store, position, work.number, work.mark, &lines, counts);
         };
-        let (before, behind) =
-            work.lines.split_at(if holds(Rule::TheSwitchComesFirst) { switch.at } else { work.lines.len() });
+        let (before, behind) = lines.split_at(if holds(Rule::TheSwitchComesFirst) { switch.at } else { lines.len() });
         write(&mut **store, position, work.number, work.mark, before, counts)?;
         position.series.number += 1;
         position.chain = Chain::new(identity, position.series);
         counts.since_checkpoint.store(0, Relaxed);
-        let lines = [&switch.head, behind].concat();
+        let lines = [&[&*switch.head], behind].concat();
         write(&mut **store, position, work.number, work.mark, &lines, counts)?;
         // Who asked for it may have ended.
         let _ = switch.draft.send(store.draft(position.series.number));
@@ -358,18 +357,23 @@ fn write(
     position: &mut Position,
     number: u64,
     mark: u64,
-    lines: &[u8],
+    lines: &[&[u8]],
     counts: &Counts,
 ) -> Result<(), Failure> {
-    let mut bytes = Vec::with_capacity(lines.len() + 160);
-    position.chain.add(number, mark, lines, &mut bytes);
+    let mut head = Vec::new();
+    position.chain.head(number, mark, lines, &mut head);
+    let pieces = [&[&*head], lines].concat();
+    let bytes: usize = pieces.iter().map(|piece| piece.len()).sum();
     let began = Instant::now();
-    store.append(position.series, &bytes)?;
+    match bytes <= ROOM {
+        true => store.append(position.series, &[&pieces.concat()])?,
+        false => store.append(position.series, &pieces)?,
+    }
     let passed = u64::try_from(began.elapsed().as_nanos()).unwrap_or(u64::MAX);
     counts.nanoseconds.fetch_add(passed, Relaxed);
     counts.syncs.fetch_add(1, Relaxed);
-    counts.bytes.fetch_add(bytes.len() as u64, Relaxed);
-    counts.since_checkpoint.fetch_add(bytes.len() as u64, Relaxed);
+    counts.bytes.fetch_add(bytes as u64, Relaxed);
+    counts.since_checkpoint.fetch_add(bytes as u64, Relaxed);
     position.number = number;
     Ok(())
 }

@@ -2,6 +2,7 @@
 
 use super::*;
 use crate::gate::{Right, Who};
+use crate::options::LONGEST_ROW;
 use crate::testing::{answers, core, end, session, texts, tidy, Dice};
 use ripsawbean::{Command, Span};
 use std::time::Duration;
@@ -182,12 +183,13 @@ fn a_session_holds_so_many_of_each() {
 
 #[test]
 fn where_memory_is_full_rows_can_be_deleted_and_not_put() {
-    let mut core = core(&["--max-memory", "1000"]);
+    let mut core = core(&["--max-memory", "10000"]);
     let mut one = session(&mut core);
-    core.watch_memory(1001);
+    core.watch_memory(10_001);
     let told = answers(&mut core, &mut one, "begin\ndel . a\ncommit .\nbegin\nput . a 1\ncommit .\n");
     assert_eq!(told, ["started", "written", "committed 1", "started", "fault 5 67 full", "aborted"]);
-    core.watch_memory(999);
+    // The transaction needs room too.
+    core.watch_memory(9_000);
     assert_eq!(answers(&mut core, &mut one, "begin\nput . a 1\n"), ["started", "written"]);
 }
 
@@ -305,13 +307,14 @@ fn the_log_says_who_has_ended_what_is_anothers() {
 #[test]
 fn a_poll_asks_for_so_many_at_most() {
     let mut core = core(&[]);
+    assert!(MOST_POLLED * LONGEST_ROW <= core.limits.max_answer as u64, "the longest find room");
     let mut one = session(&mut core);
     answers(&mut core, &mut one, "open - - 0\n");
     for (line, made) in [
-        ("poll 1 18446744073709551615\n", "poll 1 128 => messages 0\n"),
-        ("poll 1 9999999\n", "poll 1 128 => messages 0\n"),
-        ("poll 1 129\n", "poll 1 128 => messages 0\n"),
-        ("poll 1 128\n", "poll 1 128 => messages 0\n"),
+        ("poll 1 18446744073709551615\n", "poll 1 63 => messages 0\n"),
+        ("poll 1 9999999\n", "poll 1 63 => messages 0\n"),
+        ("poll 1 64\n", "poll 1 63 => messages 0\n"),
+        ("poll 1 63\n", "poll 1 63 => messages 0\n"),
         ("poll 1 7\n", "poll 1 7 => messages 0\n"),
     ] {
         assert!(texts(&mut core, &mut one, line).ends_with(made), "{line}");

@@ -30,11 +30,11 @@ fn defaults_are_those_that_operators_know() {
     assert_eq!((options.port, options.address.to_string()), (7077, "127.0.0.1".to_string()));
     assert_eq!((options.ring, options.max_lag, options.ahead), (1024, 1_000_000, 1_000_000));
     assert_eq!((options.keep, options.keep_bytes), (10_000, 67_108_864));
-    assert_eq!((options.max_message, options.max_reply, options.max_answer), (1_048_576, 16_777_216, 16_777_216));
-    assert_eq!((options.max_connections, options.max_feeds, options.max_consumers), (1000, 256, 1024));
+    assert_eq!((options.max_message, options.max_reply, options.max_answer), (1_048_576, 8_388_608, 4_194_304));
+    assert_eq!((options.max_connections, options.max_feeds, options.max_consumers), (512, 256, 1024));
     assert_eq!((options.close_every, options.max_age, options.history), (seconds(0.0), seconds(30.0), seconds(5.0)));
     assert_eq!((options.heartbeat, options.patience), (seconds(20.0), seconds(30.0)));
-    assert_eq!((options.max_held, options.max_memory, options.max_lag_bytes), (1000, 0, 1 << 30));
+    assert_eq!((options.max_held, options.max_memory, options.max_lag_bytes), (1000, None, 1 << 30));
     assert_eq!((options.seat_age, options.drain), (seconds(0.0), seconds(0.0)));
     assert_eq!((options.tokens, options.tls, options.host), (None, None, vec![]));
     assert_eq!((options.log_level, options.log_json), (Level::Warn, false));
@@ -70,7 +70,11 @@ fn the_command_line_says_more_than_the_environment_and_that_more_than_the_file()
 fn values_take_each_form() {
     let words = "--port=0 --patience 0.1 --seat-age 2.5 --log-level debug --log-json --max-memory 1000000";
     let options = options_of(&format!("{words} --max-lag 9 --max-lag 8"), &[], "");
-    assert_eq!((options.port, options.max_memory, options.max_lag), (0, 1_000_000, 8));
+    assert_eq!((options.port, options.max_memory, options.max_lag), (0, Some(1_000_000), 8));
+    assert_eq!(
+        ["0", "auto"].map(|word| options_of(&format!("--max-memory {word}"), &[], "").max_memory),
+        [Some(0), None]
+    );
     assert_eq!(options.patience, Duration::from_millis(100));
     assert_eq!(options.seat_age, Duration::from_millis(2500));
     assert_eq!((options.log_level, options.log_json), (Level::Debug, true));
@@ -99,6 +103,7 @@ fn values_out_of_their_range_are_refused_with_it() {
         ("--prot 1", "unrecognized arguments: --prot"),
         ("7077", "unrecognized arguments: 7077"),
         ("--", "unrecognized arguments: --"),
+        ("--max-memory 1G", "argument --max-memory: \"1G\" is not auto or a number of bytes"),
         ("--log-level loud", "argument --log-level: \"loud\" is not error, warn, info or debug"),
         ("--log-json=1", "argument --log-json: \"1\" is not yes or no"),
         ("--host http://a", "argument --host: \"http://a\" is not a name as a browser's Host says it"),

@@ -37,6 +37,19 @@ async fn messages_of_no_bytes_wait_in_the_connection_too() {
 }
 
 #[tokio::test]
+async fn a_long_message_waits_in_the_connection_while_another_is_answered() {
+    let (mut socket, mut client) = socket(&[]);
+    socket.wait(b"stats\n".to_vec());
+    let head = [&[0x81, 0xff][..], &(1_u64 << 20).to_be_bytes(), &[0; 4]].concat();
+    client.write_all(&head).await.expect("there is room");
+    client.write_all(&[b'x'; 1 << 19]).await.expect("there is room");
+    for _ in 0..1000 {
+        socket.look().await.expect("the client is there");
+    }
+    assert!(socket.decoder.begun() < AHEAD + READ, "{}", socket.decoder.begun());
+}
+
+#[tokio::test]
 async fn a_session_whose_client_sends_on_and_on_can_be_ended() {
     let (socket, client) = socket(&[]);
     let (mut answers, mut client) = tokio::io::split(client);

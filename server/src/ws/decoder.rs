@@ -75,6 +75,11 @@ impl Decoder {
         next
     }
 
+    /// Bytes of a message that isn't whole yet.
+    pub fn begun(&self) -> usize {
+        self.text.as_ref().map_or(0, |text| text.bytes.len())
+    }
+
     #[cfg(test)]
     /// Bytes that are kept, here and of a message that isn't whole yet.
     pub fn kept(&self) -> usize {

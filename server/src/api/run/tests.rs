@@ -275,6 +275,38 @@ fn where_memory_is_full_keys_are_deleted_alone() {
     assert_eq!(committed(&mut core, r#"{"then":[{"del":"a"},{"get":"a"}]}"#), "2 Then 1 - a=none");
 }
 
+/// Runs a plan of a thousand such steps again and again, until it is refused: how often it was not.
+fn until_full(core: &mut Core, step: &str) -> usize {
+    let body = format!(r#"{{"then":[{}]}}"#, vec![step; 1000].join(","));
+    let plan = plan(&body);
+    let count = (0..100).take_while(|_| told(core, &plan).is_ok()).count();
+    assert_eq!(stopped(core, &body), (503, "full"));
+    count
+}
+
+#[test]
+fn while_memory_is_full_there_is_a_bound_of_what_is_read_and_isnt_closed() {
+    let mut core = core(&["--max-memory", "1000"]);
+    let mut old = session(&mut core);
+    answers(&mut core, &mut old, "begin\n");
+    core.watch_memory(1001);
+    let count = until_full(&mut core, r#"{"get":"a"}"#);
+    assert!((5..50).contains(&count), "{count} plans");
+    assert_eq!(stopped(&mut core, "{}"), (503, "full"));
+    say(&mut core, &mut old, "abort .\n");
+    assert!(committed(&mut core, r#"{"then":[{"get":"a"}]}"#).ends_with("a=none"));
+}
+
+#[test]
+fn while_memory_is_full_there_is_a_bound_of_what_is_deleted_and_isnt_collected() {
+    let mut core = core(&["--max-memory", "1000"]);
+    core.watch_memory(1001);
+    let count = until_full(&mut core, r#"{"del":"a"}"#);
+    assert!((5..50).contains(&count), "{count} plans");
+    assert!(committed(&mut core, r#"{"then":[{"get":"a"}]}"#).ends_with("a=none"));
+    assert_eq!(core.ledger.undecided.len(), 0);
+}
+
 #[test]
 fn where_the_server_ends_nothing_begins() {
     let mut core = core(&[]);

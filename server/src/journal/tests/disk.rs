@@ -97,7 +97,8 @@ impl Store for Disk {
         Ok(())
     }
 
-    fn append(&mut self, series: Series, bytes: &[u8]) -> Result<(), Failure> {
+    fn append(&mut self, series: Series, pieces: &[&[u8]]) -> Result<(), Failure> {
+        let bytes = pieces.concat();
         let mut state = self.0.lock();
         let left = match &mut state.failing {
             None => None,
@@ -109,8 +110,8 @@ impl Store for Disk {
         };
         let there = state.series.entry(series).or_default();
         match left {
-            None => there.extend_from_slice(bytes),
-            Some(left) => there.extend_from_slice(&left_of(bytes, there.len(), left)),
+            None => there.extend_from_slice(&bytes),
+            Some(left) => there.extend_from_slice(&left_of(&bytes, there.len(), left)),
         }
         left.map_or(Ok(()), |_| Err(failed()))
     }

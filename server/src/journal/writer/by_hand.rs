@@ -7,7 +7,7 @@
 //! finish()                   it is written, and durable, or the disk has failed
 //! ```
 
-use super::{Thread, Work};
+use super::{Pieces, Thread, Work};
 use crate::journal::rules::{holds, Rule};
 use crate::journal::Failure;
 use std::cell::{Cell, RefCell};
@@ -49,7 +49,7 @@ pub fn take() -> bool {
         if held.is_over || !has_work || held.works.len() == most {
             return false;
         }
-        let work = held.thread.take(&mut Vec::new()).expect("there is something to write");
+        let work = held.thread.take(&mut Pieces::default()).expect("there is something to write");
         held.is_over = work.is_last;
         held.works.push_back(work);
         true
