@@ -24,7 +24,7 @@ at_itself x = is_eq-slice_cmp x x ∙ (bytes_eq-Decides x x).1 refl
 no_both : {A : Type 0} (o : Option A) (a : A) → o ≡ None → o ≡ Some a → ⊥
 no_both o a none some = let no : None ≡ Some a = sym none ∙ some in cc
 
-one_of : {A : Type 0} (a b : A) → Some a ≡ Some b → a ≡ b
+pub one_of : {A : Type 0} (a b : A) → Some a ≡ Some b → a ≡ b
 one_of a b e = cc
 
 -- what a map finds once x has what w says

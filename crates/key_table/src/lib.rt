@@ -23,7 +23,7 @@
 //! - `number_of`: O(1) by a hint, and else O(log n), whoever chose the keys
 //! - `key_of`: O(1)
 //! - `add`: O(log n), and O(n) where slab or hints have doubled, which is O(1) an `add`
-//! - `free`: O(log n)
+//! - `free`, `free_at`: O(log n)
 //! - `range_from`: O(log n), and then each key as it is asked for
 //!
 //! `add` alone takes memory, and the room for hints is no part of what it wants: where that is refused, keys go without.

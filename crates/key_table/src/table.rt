@@ -138,4 +138,14 @@ impl KeyTable {
         self.numbers.remove(key);
         self.keys.remove(number);
     }
+
+    /// Takes its number from the key that has it. It takes no memory.
+    pub fn free_at(&mut self, number: usize)
+        requires { (x : List ℕ) × (number_in self.old x ≡ Some number) }
+        ensures { (x : List ℕ) → number_in self.old x ≡ Some number → IsNumberedAt self.old self.new x None }
+    {
+        let key = self.keys.remove(number);
+        self.hints.take(&key, number);
+        self.numbers.remove(&key);
+    }
 }

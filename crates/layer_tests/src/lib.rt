@@ -11,7 +11,7 @@
 //! tables      `key_table`: the numbers of keys, while many come and go
 //! transactions `txn_table`: which stand and how, and those that are undecided
 //! versions    `version_chain`: writes, commits, aborts, collections, and searches
-//! marks       `read_marks`: spans that overlap, neighbours that are joined, pieces, readers that are forgotten
+//! marks       `read_marks`: spans that overlap, neighbours that are joined, a reader a gap, readers that are forgotten
 //! rules       `mvto_rules`: who is blocked, who comes too late, which spans are marked, what is closed and what it ended
 //! script      the reading of a script
 //! ```

@@ -17,7 +17,7 @@ use feeds::Served;
 use key_set::KeySet;
 use key_table::KeyTable;
 use mvto_rules::Rules;
-use read_marks::Marks;
+use read_marks::{Readers, SpanMarks};
 use script::play;
 use txn_table::Txns;
 use version_chain::Store;
@@ -33,9 +33,14 @@ fn layers(rt: HostRuntime) {
     }
     play(&rt, &mut Held::new(rt.alloc()), collections::SCRIPT);
     play(&rt, &mut Served::new(rt.alloc()), feeds::SCRIPT);
-    for script in marks::SCRIPTS {
-        play(&rt, &mut Marks::new(rt.alloc()), script);
+    for script in marks::SPANS {
+        play(&rt, &mut SpanMarks::new(rt.alloc()), script);
     }
+    for script in marks::KEYS {
+        play(&rt, &mut Readers::new(rt.alloc()), script);
+    }
+    assert!(rt; marks::raises_agree(rt.alloc()) == Some(true));
+    assert!(rt; marks::notes_agree(rt.alloc()) == Some(true));
     for script in rules::SCRIPTS {
         play(&rt, &mut Rules::new(rt.alloc()), script);
     }

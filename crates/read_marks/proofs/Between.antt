@@ -1,11 +1,11 @@
 -- Readers between two bounds, by the place where those above the lower one begin.
-use Rattle.std.proofs.Common.{ℕ, List, [], Bool, true, false, not, ◌&&◌, ◌≡◌, ◌<◌, ◌≤◌, ◌-◌, ◌↔◌, length, get_or, leb-false, leb-true, lt-ltb, ltb-false, ltb-true, max, nat_le, nat_lt, arith, Option, None, Some, refl, subst, sym, ◌∙◌, slice_get}
+use Rattle.std.proofs.Common.{ℕ, List, [], Bool, true, false, not, ◌&&◌, ◌≡◌, ◌<◌, ◌≤◌, ◌-◌, ◌↔◌, length, get_or, leb-false, leb-true, lt-ltb, ltb-false, ltb-true, max, nat_le, nat_lt, arith, Option, None, Some, refl, sym, true≢false, ◌∙◌, slice_get}
 use Rattle.std.specs.List.Sorted.{IsNonDecreasing}
 use Rattle.std.proofs.lemmas.List.{get_or_default}
 use Rattle.std.proofs.lemmas.Option.{get_or_from_slice_get, slice_get_within}
 use Rattle.spans.proofs.Steps.{by_test}
 use Rattle.kept.specs.Marks.{AtMost, IsBetween}
-use Rattle.read_marks.specs.Readers.{AreAllBetween, IsBeyond, SplitsAt, is_kept, is_reader}
+use Rattle.read_marks.specs.Readers.{SplitsAt, is_kept, is_reader}
 use Rattle.read_marks.proofs.Splitting.{from_place, reader_is}
 
 -- the latest, where there is one
@@ -46,55 +46,16 @@ first_up_to xs t at to x up p lt is b =
     let top : b.reader ≤ to = b.low in
     omega arith
 
--- one that is kept
-kept-turn : (t j : ℕ) (a b : Bool) → nat_lt t j ≡ a → (a && b) ≡ true → (t < j) × (b ≡ true)
-kept-turn t j true b is h = (ltb-true t j is, h)
-kept-turn t j false b is h = cc
+and-true : (a b : Bool) → (a && b) ≡ true → (a ≡ true) × (b ≡ true)
+and-true true b h = (refl, h)
+and-true false b h = cc
 
-is-kept : (xs : List ℕ) (t j : ℕ) → t < j → is_reader xs j ≡ true → is_kept t xs j ≡ true
-is-kept xs t j above h = rw (lt-ltb t j above) h
-
-beyond_or : (m : ℕ → Bool) (to : Option ℕ) (n : ℕ) → m n ≡ true → (IsBeyond m to → ⊥) → AtMost to n
-beyond_or m None n is none = tt
-beyond_or m (Some to) n is none = by_test (nat_lt to n) (λ on. absurd (none (n, is, ltb-true to n on))) (λ off. ltb-false to n off)
-
-isnt_beyond : (m : ℕ → Bool) (above : ℕ) (to : Option ℕ) → AreAllBetween m above to → IsBeyond m to → ⊥
-isnt_beyond m above None all b = b
-isnt_beyond m above (Some to) all b = let l : b.0 ≤ to = (all b.0 b.1).1 in omega (arith, b.2)
-
--- all that are kept lie between two numbers where none is up to the lower one, and none is beyond the upper one
-pub all_within : (xs : List ℕ) (t above : ℕ) (to : Option ℕ) (below beyond : Bool) → (below ≡ true) ↔ IsBetween (is_reader xs) t (Some above) → (beyond ≡ true) ↔ IsBeyond (is_kept t xs) to
-    → ((not below && not beyond) ≡ true) ↔ AreAllBetween (is_kept t xs) above to
-all_within xs t above to true beyond low high = (
-  λ is. cc,
-  λ all. let b = low.0 refl in let a = all b.reader (is-kept xs t b.reader b.higher b.mark) in let l : b.reader ≤ above = b.low in absurd (omega (arith, a.0)),
+-- none is kept exactly where none is above what is forgotten
+pub none_kept : (xs : List ℕ) (t : ℕ) (b : Bool) → (b ≡ true) ↔ IsBetween (is_reader xs) t None → (not b ≡ true) ↔ ((j : ℕ) → is_kept t xs j ≡ false)
+none_kept xs t true is = (λ no. cc, λ none. let r = is.0 refl in let kept : is_kept t xs r.reader ≡ true = rw (lt-ltb t r.reader r.higher) r.mark in absurd (true≢false (sym kept ∙ none r.reader)))
+none_kept xs t false is = (
+  λ _ j. by_test (is_kept t xs j)
+      (λ on. let both = and-true (nat_lt t j) (is_reader xs j) on in absurd (true≢false (sym (is.1 (record { reader = j; mark = both.1; higher = ltb-true t j both.0; low = tt })))))
+      (λ off. off),
+  λ none. refl,
 )
-all_within xs t above to false true low high = (λ is. cc, λ all. absurd (isnt_beyond (is_kept t xs) above to all (high.0 refl)))
-all_within xs t above to false false low high = (
-  λ is n h. let k = kept-turn t n (nat_lt t n) (is_reader xs n) refl h in (
-    by_test (nat_le n above)
-        (λ on. (let no : false ≡ true = low.1 (record { reader = n; mark = k.1; higher = k.0; low = leb-true n above on }) in cc))
-        (λ off. leb-false n above off),
-    beyond_or (is_kept t xs) to n h (λ b. (let no : false ≡ true = high.1 b in cc)),
-  ),
-  λ all. refl,
-)
-
--- the same where it is known that none is up to the lower one
-pub all_beyond : (xs : List ℕ) (t above : ℕ) (to : Option ℕ) (below beyond : Bool) → below ≡ false → (below ≡ true) ↔ IsBetween (is_reader xs) t (Some above) → (beyond ≡ true) ↔ IsBeyond (is_kept t xs) to
-    → (not beyond ≡ true) ↔ AreAllBetween (is_kept t xs) above to
-all_beyond xs t above to below beyond none low high = subst (λ b. ((not b && not beyond) ≡ true) ↔ AreAllBetween (is_kept t xs) above to) none (all_within xs t above to below beyond low high)
-
--- one that is kept is above a number where one is above both that and what is forgotten
-pub between_is : (xs : List ℕ) (t above : ℕ) (to : Option ℕ) (b : Bool) → (b ≡ true) ↔ IsBetween (is_reader xs) (max above t) to → (b ≡ true) ↔ IsBetween (is_kept t xs) above to
-between_is xs t above to b is = (
-  λ on. let r = is.0 on in let h : max above t < r.reader = r.higher in record { reader = r.reader; mark = is-kept xs t r.reader (omega arith) r.mark; higher = omega arith; low = r.low },
-  λ r. let k = kept-turn t r.reader (nat_lt t r.reader) (is_reader xs r.reader) refl r.mark in let h : above < r.reader = r.higher in is.1 (record { reader = r.reader; mark = k.1; higher = omega (arith, k.0); low = r.low }),
-)
-
--- where there are none, none is anywhere, and all of them are
-pub none_between : (xs : List ℕ) (t above : ℕ) (to : Option ℕ) → xs ≡ [] → IsBetween (is_kept t xs) above to → ⊥
-none_between xs t above to none r = let k = kept-turn t r.reader (nat_lt t r.reader) (is_reader xs r.reader) refl r.mark in (let no : is_reader xs r.reader ≡ false = rw none refl in let e : true ≡ false = sym k.1 ∙ no in cc)
-
-pub none_there : (xs : List ℕ) (t above : ℕ) (to : Option ℕ) → xs ≡ [] → AreAllBetween (is_kept t xs) above to
-none_there xs t above to none n h = let k = kept-turn t n (nat_lt t n) (is_reader xs n) refl h in (let no : is_reader xs n ≡ false = rw none refl in let e : true ≡ false = sym k.1 ∙ no in cc)

@@ -1,27 +1,38 @@
 -- Readers of which some are forgotten.
-use Rattle.std.proofs.Common.{ℕ, List, Bool, true, ◌&&◌, ◌≡◌, ◌⊎◌, inl, inr, sym, ap, ◌∙◌, nat_lt}
+use Rattle.std.proofs.Common.{ℕ, List, Bool, true, ◌&&◌, ◌≡◌, ◌<◌, ◌≤◌, ◌⊎◌, inl, inr, sym, ap, ◌∙◌, arith, nat_lt, lt-ltb}
 use Rattle.std.proofs.Math.Bool.{and_self_left}
+use Rattle.std.proofs.lemmas.Bool.{and_parts}
 use Rattle.std.specs.List.{filter}
 use Rattle.kept.specs.Marks.{IsPiece}
 use Rattle.read_marks.specs.Readers.{is_kept, is_reader}
 use Rattle.read_marks.proofs.Splitting.{filtered_reader}
 
--- the same of readers that were the same before, or are afterwards
-pub piece_alike : (m n m' : ℕ → Bool) (ts low high : ℕ) → ((j : ℕ) → n j ≡ m j) → IsPiece n m' ts low high → IsPiece m m' ts low high
-piece_alike m n m' ts low high same p = record {
-  top = p.top;
-  marked = p.marked;
-  is = which p.is;
-  least = p.least;
-  most = p.most;
-  greatest = λ j h. p.greatest j (same j ∙ h);
-  outside = λ j out. p.outside j out ∙ same j;
-  inside = p.inside;
-}
-  where
-    which : (p.top ≡ ts) ⊎ (n p.top ≡ true) → (p.top ≡ ts) ⊎ (m p.top ≡ true)
-    which (inl e) = inl e
-    which (inr h) = inr (sym (same p.top) ∙ h)
+-- a piece's readers, less those that are forgotten
+module _ (forgotten : ℕ) where
+  abbrev above : (ℕ → Bool) → ℕ → Bool
+  above m j = nat_lt forgotten j && m j
+
+  above-marked : (m : ℕ → Bool) (j : ℕ) → forgotten < j → m j ≡ true → above m j ≡ true
+  above-marked m j lt h = rw (lt-ltb forgotten j lt) h
+
+  pub kept_piece : (m m' : ℕ → Bool) (ts low high : ℕ) → forgotten < ts → IsPiece m m' ts low high → IsPiece (above m) (above m') ts low high
+  kept_piece m m' ts low high lt p = record {
+    top = p.top;
+    marked = above-marked m' p.top late p.marked;
+    is = which p.is;
+    least = p.least;
+    most = p.most;
+    greatest = λ n h. p.greatest n (and_parts (nat_lt forgotten n) (m n) h).1;
+    outside = λ n out. ap (λ b. nat_lt forgotten n && b) (p.outside n out);
+    inside = λ n over up h. p.inside n over up (and_parts (nat_lt forgotten n) (m' n) h).1;
+  }
+    where
+      late : forgotten < p.top
+      late = let l : ts ≤ p.top = p.least in omega arith
+
+      which : (p.top ≡ ts) ⊎ (m p.top ≡ true) → (p.top ≡ ts) ⊎ (above m p.top ≡ true)
+      which (inl e) = inl e
+      which (inr h) = inr (above-marked m p.top (let l : ts ≤ p.top = p.least in omega arith) h)
 
 -- those that are forgotten may go
 pub kept_filter : (forgotten : ℕ) (xs : List ℕ) (j : ℕ) → is_kept forgotten (filter (nat_lt forgotten) xs) j ≡ is_kept forgotten xs j

@@ -1,12 +1,7 @@
-pub mod Lent
 pub mod Splitting
 pub mod Between
 pub mod Merging
-pub mod Steps
-pub mod Editing
-pub mod Picking
 pub mod Keeping
-pub mod Holding
-pub mod OneKey
-pub mod Layering
-pub mod Pieces
+pub mod Steps
+pub mod Raising
+pub mod Walking

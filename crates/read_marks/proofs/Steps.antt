@@ -3,12 +3,12 @@ use Rattle.std.proofs.Common.{List, [], ◌∷◌, ◌++◌, Bool, true, false, 
 use Rattle.std.specs.List.{filter, AllByRecursion}
 use Rattle.std.specs.List.Sorted.{IsStrictlySortedBy}
 use Rattle.std.specs.Map.{keys_of, lookup, remove_entry}
-use Rattle.std.specs.Cmp.{IsTotalOrder, tied_itself}
+use Rattle.std.specs.Cmp.{IsTotalOrder}
 use Rattle.std.specs.Ordering.{is_lt, is_le, is_eq, match_ordering}
 use Rattle.std.specs.BTreeMap.{insert_entry, is_at}
 use Rattle.std.specs.declared.cmp.Ordering.{Ordering}
 use Rattle.std.specs.declared.cmp.Ordering.TheVariants.{Less, Equal, Greater}
-use Rattle.read_marks.specs.Segments.{step_at}
+use Rattle.read_marks.specs.Spans.{step_at}
 
 -- the value of the last entry
 abbrev last_or : {K V : Type 0} → V → List (K × V) → V
@@ -41,14 +41,6 @@ step_at-last p d es r t e first is last = step_at-filter p d es first ∙ ap (la
 
 pub step_at-none : {K V : Type 0} (p : K → Bool) (d : V) (es r : List (K × V)) → ComeFirst p es → r ≡ filter (λ f. p f.0) es → r ≡ [] → step_at p d es ≡ d
 step_at-none p d es r first is last = step_at-filter p d es first ∙ ap (last_or d) (sym is ∙ last)
-
-no-end : {X : Type 0} (t : List X) (e : X) → [] ≡ t ++ e ∷ [] → ⊥
-no-end [] e h = cc
-no-end (x ∷ t) e h = cc
-
-one-end : {X : Type 0} (t s : List X) (e f : X) → e ∷ s ≡ t ++ f ∷ [] → s ≡ [] → t ≡ []
-one-end [] s e f h none = refl
-one-end (x ∷ t) s e f h none = let rest : s ≡ t ++ f ∷ [] = cc in absurd (no-end t f (sym none ∙ rest))
 
 pub less-from : (r : Ordering) → not (is_lt r) ≡ false → r ≡ Less
 less-from Less h = refl
@@ -88,31 +80,6 @@ module _ {K V : Type 0} {R : K → K → Ordering} (o : IsTotalOrder R) where
   unfolding IsStrictlySortedBy
   ComeFirst-before x [] s = tt
   ComeFirst-before x (e ∷ es) s = (λ f. none-before x es (before-turn x e es (R x e.0) refl f s.0), ComeFirst-before x es s.1)
-
-  -- up to a start that is there: those before it, and then it
-  before-turn-last : (b : K) (v : V) (e : K × V) (es t : List (K × V)) (r : Ordering) → R b e.0 ≡ r → AllByRecursion (λ y. R e.0 y ≡ Less) (keys_of es)
-      → cond (not (is_lt r)) (e ∷ filter (λ f. not (is_lt (R b f.0))) es) (filter (λ f. not (is_lt (R b f.0))) es) ≡ t ++ (b, v) ∷ []
-      → ((s : List (K × V)) → filter (λ f. not (is_lt (R b f.0))) es ≡ s ++ (b, v) ∷ [] → filter (λ f. not (is_le (R b f.0))) es ≡ s)
-      → cond (not (is_le r)) (e ∷ filter (λ f. not (is_le (R b f.0))) es) (filter (λ f. not (is_le (R b f.0))) es) ≡ t
-  before-turn-last b v e es t Less is later h ih =
-      let none = none-filter (λ k. not (is_lt (R b k))) es (none-reached b es (above-all b e.0 es is later)) in
-      absurd (no-end t (b, v) (sym none ∙ h))
-  before-turn-last b v e es t Equal is later h ih =
-      let none = none-filter (λ k. not (is_le (R b k))) es (none-before b es (before-turn b e es Equal is refl later)) in
-      none ∙ sym (one-end t _ e (b, v) h (none-filter (λ k. not (is_lt (R b k))) es (none-reached b es (before-turn b e es Equal is refl later))))
-  before-turn-last b v e es [] Greater is later h ih =
-      let same : e ≡ (b, v) = cc in
-      let tied : R b e.0 ≡ Equal = rw same (tied_itself o b) in
-      cc
-  before-turn-last b v e es (g ∷ t) Greater is later h ih =
-      let rest : filter (λ f. not (is_lt (R b f.0))) es ≡ t ++ (b, v) ∷ [] = cc in
-      let more = ih t rest in
-      cc
-
-  pub before_last : (b : K) (v : V) (es t : List (K × V)) → IsStrictlySortedBy R (keys_of es) → filter (λ f. not (is_lt (R b f.0))) es ≡ t ++ (b, v) ∷ [] → filter (λ f. not (is_le (R b f.0))) es ≡ t
-  unfolding IsStrictlySortedBy
-  before_last b v [] t s h = absurd (no-end t (b, v) h)
-  before_last b v (e ∷ es) t s h = before-turn-last b v e es t (R b e.0) refl s.0 h (λ u g. before_last b v es u s.1 g)
 
   -- a key that is below all of them has none
   pub none-found : (b k : K) (es : List (K × V)) → R b k ≡ Less → AllByRecursion (λ q. R k q ≡ Less) (keys_of es) → lookup (is_at (R b)) es ≡ None

@@ -1,8 +1,15 @@
--- Readers of one segment of keys, as a list.
-use Rattle.std.specs.Prelude.{ℕ, List, Bool, None, Option, Some, true, false, nat_eq, nat_le, nat_lt, ◌&&◌, ◌≡◌, ◌<◌}
+-- The readers of one key, as a list.
+use Rattle.std.specs.Prelude.{ℕ, List, Bool, true, false, nat_eq, nat_le, nat_lt, ◌&&◌, ◌≡◌, ◌<◌, vec_len, vec_capacity}
 use Rattle.std.specs.List.Sorted.{IsPartitionPoint}
 use Rattle.std.specs.Set.{is_member}
-use Rattle.kept.specs.Marks.{AtMost}
+use Rattle.read_marks.specs.declared.readers.Readers.{Readers}
+
+abbrev pub readers_of : Readers → List ℕ
+readers_of r = r.list.items
+
+-- one more is noted in place
+abbrev pub has_room : Readers → Type 0
+has_room r = vec_len r.list < vec_capacity r.list
 
 -- the number is one of the readers
 abbrev pub is_reader : List ℕ → ℕ → Bool
@@ -15,12 +22,3 @@ is_kept forgotten xs j = nat_lt forgotten j && is_reader xs j
 -- the readers before the place are at or below t, and those from it on are above t
 abbrev pub SplitsAt : List ℕ → ℕ → ℕ → Type 0
 SplitsAt xs t at = IsPartitionPoint (λ y. nat_le y t ≡ true) (λ y. nat_le y t ≡ false) xs at
-
--- each reader is above a number and, where another is given, at most that
-abbrev pub AreAllBetween : (ℕ → Bool) → ℕ → Option ℕ → Type 0
-AreAllBetween m above to = (n : ℕ) → m n ≡ true → (above < n) × AtMost to n
-
--- some reader is above a number, where one is given
-abbrev pub IsBeyond : (ℕ → Bool) → Option ℕ → Type 0
-IsBeyond m None = ⊥
-IsBeyond m (Some to) = (n : ℕ) × (m n ≡ true) × (to < n)

@@ -1,33 +1,20 @@
-//! The readers of one segment.
-ghost use Rattle.std.specs.Prelude.{◌≡◌, ℕ, List, [], ◌<◌, ◌≤◌, ◌↔◌, IfOk, OnOk, OnErr, IsTrue, length, nat_lt, filter, take, drop, ◌++◌, ◌-◌};
+//! The readers of one key.
+ghost use Rattle.std.specs.Prelude.{◌≡◌, ◌<◌, ◌≤◌, ◌==◌, ◌&&◌, ℕ, List, [], ◌++◌, IfOk, OnOk, OnErr, IsTrue, ◌↔◌, false, length, nat_lt, filter, take, drop, vec_len, vec_capacity};
 ghost use Rattle.std.specs.List.Sorted.{IsNonDecreasing};
 ghost use Rattle.kept.specs.Marks.{IsBetween, IsPiece};
-ghost use Rattle.read_marks.specs.Readers.{AreAllBetween, IsBeyond, SplitsAt, is_kept, is_reader};
 
-use crate::patch::Patch;
 use std::alloc::{AllocError, Global};
-use std::marker::Model;
 use timestamps::binary_search::BinarySearch;
 
-/// Timestamps that rise.
+/// The timestamps of those that read a key.
 #[derive(Drop)]
-pub(crate) struct Readers {
+pub struct Readers {
     list: Vec<u64>,
+    pub ghost rising: { IsNonDecreasing list.items },
 }
 
-impl Model for Readers {
-    ghost use Rattle.std.specs.Prelude.{List, ℕ};
-    ghost use Rattle.std.specs.List.Sorted.{IsNonDecreasing};
-
-    ghost Value = { List ℕ };
-
-    ghost view = { λ r. r.list.items };
-
-    ghost invariant = { λ r. IsNonDecreasing r.list.items };
-}
-
-// Takes out what stands between two places. Mostly that is nothing. The places are compared first, since a
-// drain of nothing costs too.
+/// Takes out what stands between two places. Mostly that is nothing. The places are compared first, since a drain of
+/// nothing costs too.
 #[inline(always)]
 fn cut(list: &mut Vec<u64>, from: usize, to: usize)
     requires rises { from ≤ to }
@@ -40,53 +27,33 @@ fn cut(list: &mut Vec<u64>, from: usize, to: usize)
 }
 
 impl Readers {
+    ghost use Rattle.read_marks.specs.Readers.{SplitsAt, has_room, is_kept, is_reader, readers_of};
+
     /// No readers.
-    pub(crate) fn new(alloc: Global) -> Readers
-        ensures { result ≡ [] }
+    pub fn new(alloc: Global) -> Readers
+        ensures { readers_of result ≡ [] }
     {
         Readers {
             list: Vec::new(alloc),
         }
     }
 
-    /// Whether there is no reader.
-    pub(crate) fn is_empty(&self) -> bool
-        ensures { IsTrue result ↔ (self.now ≡ []) }
+    /// One reader, or none where that is 0.
+    pub fn of(alloc: Global, latest: u64) -> Result<Readers, AllocError>
+        ensures { IfOk result (λ r. (j : ℕ) → is_reader (readers_of r) j ≡ (nat_lt 0 j && (j == latest))) }
     {
-        self.list.is_empty()
-    }
-
-    /// Whether both lists have the same readers.
-    pub(crate) fn is_same(&self, other: &Readers) -> bool
-        ensures { IsTrue result → self.now ≡ other.now }
-    {
-        // most differ in the latest
-        self.list.last() == other.list.last() && self.list.as_slice() == other.list.as_slice()
-    }
-
-    /// The same readers once more.
-    pub(crate) fn copy(&self) -> Result<Readers, AllocError>
-        ensures { IfOk result (λ r. r ≡ self.now) }
-    {
-        let list = self.list.clone()?;
+        let mut list = Vec::new(alloc);
+        if latest > 0 {
+            list.push(latest)?;
+        }
         Ok(Readers { list })
     }
 
-    // A copy with room for one more reader.
-    fn copy_with_room(&self) -> Result<Readers, AllocError>
-        ensures { IfOk result (λ r. r ≡ self.now) }
-    {
-        let mut list = Vec::with_capacity(*self.list.allocator(), self.list.len() + 1)?;
-        list.extend_from_slice(&self.list)?;
-        Ok(Readers { list })
-    }
-
-    // How many readers are at or below a timestamp. The latest is asked first: for a gap without an end it
-    // tells that all are.
+    /// How many readers are at or below a timestamp. The latest is asked first: for a gap without an end it tells that
+    /// all are.
     fn count_through(&self, ts: u64) -> usize
-        ensures splits { SplitsAt self.now ts result }
-        ensures bound { result ≤ length self.now }
-        ensures rises { IsNonDecreasing self.now }
+        ensures splits { SplitsAt (readers_of self.now) ts result }
+        ensures bound { result ≤ length (readers_of self.now) }
     {
         if let Some(latest) = self.list.last() {
             if *latest <= ts {
@@ -100,9 +67,9 @@ impl Readers {
         left.low
     }
 
-    /// Whether a reader is above `above` and, where `to` is given, at most `to`. Mostly the latest tells.
-    pub(crate) fn any_between(&self, above: u64, to: Option<u64>) -> bool
-        ensures { IsTrue result ↔ IsBetween (is_reader self.now) above to }
+    /// Whether a reader is above `above` and, where `to` is given, at most that. Mostly the latest tells.
+    pub fn any_between(&self, above: u64, to: Option<u64>) -> bool
+        ensures { IsTrue result ↔ IsBetween (is_reader (readers_of self.now)) above to }
     {
         let Some(latest) = self.list.last() else {
             return false;
@@ -117,29 +84,28 @@ impl Readers {
         self.list[at] <= top
     }
 
-    // Whether a reader above `forgotten` is above `to`. Where that is not given, none is.
-    fn any_beyond(&self, forgotten: u64, to: Option<u64>) -> bool
-        ensures { IsTrue result ↔ IsBeyond (is_kept forgotten self.now) to }
+    /// Whether each reader is at or below `through`.
+    pub fn are_forgotten(&self, through: u64) -> bool
+        ensures { IsTrue result ↔ ((j : ℕ) → is_kept through (readers_of self.now) j ≡ false) }
     {
-        match to {
-            None => false,
-            Some(to) => self.any_between(forgotten.max(to), None),
-        }
+        !self.any_between(through, None)
     }
 
-    /// Whether all readers above `forgotten` are above `above` and, where `to` is given, at most `to`.
-    pub(crate) fn all_between(&self, forgotten: u64, above: u64, to: Option<u64>) -> bool
-        ensures { IsTrue result ↔ AreAllBetween (is_kept forgotten self.now) above to }
+    /// Makes room for one more reader.
+    pub fn make_room(&mut self) -> Result<(), AllocError>
+        ensures readers { readers_of self.new ≡ readers_of self.old }
+        ensures room { OnOk result (has_room self.new) }
     {
-        !self.any_between(forgotten, Some(above)) && !self.any_beyond(forgotten, to)
+        self.list.reserve(1)
     }
 
-    // The readers above `above` and up to `until`, and `ts`, become one: the greatest of them.
-    fn merge(&mut self, above: u64, until: u64, ts: u64) -> Result<(), AllocError>
+    /// The readers above `above` and up to `until`, and `ts`, become one: the greatest of them.
+    fn merge(&mut self, ts: u64, above: u64, until: u64) -> Result<(), AllocError>
         requires low { above < ts }
         requires high { ts ≤ until }
-        ensures ok { OnOk result (IsPiece (is_reader self.old) (is_reader self.new) ts above until) }
-        ensures err { OnErr result (self.new ≡ self.old) }
+        ensures ok { OnOk result (IsPiece (is_reader (readers_of self.old)) (is_reader (readers_of self.new)) ts above until) }
+        ensures err { OnErr result (readers_of self.new ≡ readers_of self.old) }
+        ensures room { OnErr result (has_room self.old → ⊥) }
     {
         let from = self.count_through(above);
         let to = self.count_through(until);
@@ -153,40 +119,31 @@ impl Readers {
         }
     }
 
-    /// The readers as `ts` leaves them in a patch. Some of those that are forgotten may stay.
-    pub(crate) fn edit(&mut self, patch: &Patch, ts: u64, forgotten: u64) -> Result<(), AllocError>
+    /// Of the readers above `above` and up to `until`, and `ts`, the greatest alone stays. Some of those that are forgotten
+    /// may stay. Where there is room it takes no memory.
+    pub fn note(
+        &mut self,
+        ts: u64,
+        above: u64,
+        until: u64,
+        forgotten: u64,
+    ) -> Result<(), AllocError>
         requires late { forgotten < ts }
-        requires low { patch.now.above < ts }
-        requires high { ts ≤ patch.now.until }
-        ensures ok { OnOk result (IsPiece (is_kept forgotten self.old) (is_kept forgotten self.new) ts patch.now.above patch.now.until) }
-        ensures err { OnErr result (self.new ≡ self.old) }
+        requires low { above < ts }
+        requires high { ts ≤ until }
+        ensures ok { OnOk result (IsPiece (is_kept forgotten (readers_of self.old)) (is_kept forgotten (readers_of self.new)) ts above until) }
+        ensures err { OnErr result (readers_of self.new ≡ readers_of self.old) }
+        ensures room { OnErr result (has_room self.old → ⊥) }
     {
-        self.merge(patch.above, patch.until, ts)?;
+        self.merge(ts, above, until)?;
         self.trim(forgotten);
         Ok(())
     }
 
-    /// A copy of the readers as `ts` leaves them in a patch.
-    pub(crate) fn edited(
-        &self,
-        patch: &Patch,
-        ts: u64,
-        forgotten: u64,
-    ) -> Result<Readers, AllocError>
-        requires late { forgotten < ts }
-        requires low { patch.now.above < ts }
-        requires high { ts ≤ patch.now.until }
-        ensures { IfOk result (λ r. IsPiece (is_kept forgotten self.now) (is_kept forgotten r) ts patch.now.above patch.now.until) }
-    {
-        let mut readers = self.copy_with_room()?;
-        readers.edit(patch, ts, forgotten)?;
-        Ok(readers)
-    }
-
-    // The readers up to `through` go where they are more than half, which the one in the middle tells. They
-    // don't go at each edit, since the others move.
+    /// The readers up to `through` go where they are more than half, which the one in the middle tells. They don't go at
+    /// each note, since the others move.
     fn trim(&mut self, through: u64)
-        ensures { (j : ℕ) → is_kept through self.new j ≡ is_kept through self.old j }
+        ensures { (j : ℕ) → is_kept through (readers_of self.new) j ≡ is_kept through (readers_of self.old) j }
     {
         match self.list.get(self.list.len() / 2) {
             Some(middle) if *middle <= through => self.forget_through(through),
@@ -195,8 +152,8 @@ impl Readers {
     }
 
     /// The readers up to `through` go.
-    pub(crate) fn forget_through(&mut self, through: u64)
-        ensures { self.new ≡ filter (nat_lt through) self.old }
+    pub fn forget_through(&mut self, through: u64)
+        ensures { readers_of self.new ≡ filter (nat_lt through) (readers_of self.old) }
     {
         let count = self.count_through(through);
         cut(&mut self.list, 0, count);

@@ -4,17 +4,19 @@ use Rattle.read_marks.proofs.readers.Readers.any_between.Goals as goal
 
 pub returns-then-latest-above : goal.returns-then-latest-above
 returns-then-latest-above c =
-    let is : slice_get c.args.self.now (length c.args.self.now - 1) ≡ Some c.in-Some.latest.now = rw (← c.self.view_is, ← c.deref.ensures.value) (sym c.in-Some.ensures.value) in
-    (λ f. cc f, λ b. absurd (none_above_latest c.args.self.now c.in-Some.latest.now is c.args.above c.args.to (rw (← c.self.view_is) c.self.invariant) c.if-latest-above.true b))
+    let xs = c.args.self.now.list.items in
+    let is : slice_get xs (length xs - 1) ≡ Some c.in-Some.latest.now = rw (← c.deref.ensures.value) (sym c.in-Some.ensures.value) in
+    (λ f. cc f, λ b. absurd (none_above_latest xs c.in-Some.latest.now is c.args.above c.args.to c.args.self.now.rising c.if-latest-above.true b))
 
 pub returns-in_default-to : goal.returns-in_default-to
 returns-in_default-to c =
-    let is : slice_get c.args.self.now (length c.args.self.now - 1) ≡ Some c.in-Some.latest.now = rw (← c.self.view_is, ← c.deref.ensures.value) (sym c.in-Some.ensures.value) in
-    rw c.in_default-to.is (λ _. has_latest c.args.self.now c.in-Some.latest.now is c.args.above (omega (arith, c.if-latest-above.false)), λ b. search rules)
+    let xs = c.args.self.now.list.items in
+    let is : slice_get xs (length xs - 1) ≡ Some c.in-Some.latest.now = rw (← c.deref.ensures.value) (sym c.in-Some.ensures.value) in
+    rw c.in_default-to.is (λ _. has_latest xs c.in-Some.latest.now is c.args.above (omega (arith, c.if-latest-above.false)), λ b. search rules)
 
 pub returns : goal.returns
 returns c =
-    let latest : slice_get c.args.self.now (length c.args.self.now - 1) ≡ Some c.in-Some.latest.now = rw (← c.self.view_is, ← c.deref.ensures.value) (sym c.in-Some.ensures.value) in
-    let lt : c.count_through-at.result < length c.args.self.now = place_inside c.args.self.now c.in-Some.latest.now latest c.args.above _ c.count_through-at.ensures.splits (omega (arith, c.if-latest-above.false)) in
-    let is : c.index.result.now ≡ get_or c.args.self.now c.count_through-at.result c.index.result.now = rw (← c.self.view_is) c.index.ensures in
-    rw c.in-Some-to.is (λ t. has_first _ _ _ (Some c.in-Some-to.top) c.index.result.now c.count_through-at.ensures.splits lt is (leb-true c.index.result.now c.in-Some-to.top t), λ b. let h : c.index.result.now ≤ c.in-Some-to.top = first_up_to _ _ _ _ _ c.count_through-at.ensures.rises c.count_through-at.ensures.splits lt is b in le-leb c.index.result.now c.in-Some-to.top h)
+    let xs = c.args.self.now.list.items in
+    let latest : slice_get xs (length xs - 1) ≡ Some c.in-Some.latest.now = rw (← c.deref.ensures.value) (sym c.in-Some.ensures.value) in
+    let lt : c.count_through-at.result < length xs = place_inside xs c.in-Some.latest.now latest c.args.above _ c.count_through-at.ensures.splits (omega (arith, c.if-latest-above.false)) in
+    rw c.in-Some-to.is (λ t. has_first _ _ _ (Some c.in-Some-to.top) c.index.result.now c.count_through-at.ensures.splits lt c.index.ensures (leb-true c.index.result.now c.in-Some-to.top t), λ b. let h : c.index.result.now ≤ c.in-Some-to.top = first_up_to _ _ _ _ _ c.args.self.now.rising c.count_through-at.ensures.splits lt c.index.ensures b in le-leb c.index.result.now c.in-Some-to.top h)

@@ -1,15 +1,14 @@
-use Rattle.std.proofs.Common.{get_or, arith, subst, sym, ◌∙◌, ap}
+use Rattle.std.proofs.Common.{get_or, arith, sym, ◌∙◌}
 use Rattle.std.proofs.lemmas.Bool.{le-leb, lt-leb}
 use Rattle.std.proofs.lemmas.List.{get_or_default}
-use Rattle.std.specs.List.Sorted.{IsNonDecreasing}
 use Rattle.read_marks.proofs.readers.Readers.count_through.Goals as goal
 
 pub loop-left-preserved : goal.loop-left-preserved
 loop-left-preserved c = record {
   within = omega arith;
-  left = λ d. c.after-left.ensures.left (λ k. get_or c.args.self.now k d) _
-      (λ i j le lt. (subst IsNonDecreasing c.self.view_is c.self.invariant) i j d le lt)
-      (rw (← c.middle.ensures) (sym (c.index.ensures ∙ ap (λ xs. get_or xs c.middle.result c.index.result.now) c.self.view_is ∙ get_or_default c.args.self.now c.middle.result _ d (omega arith))))
+  left = λ d. c.after-left.ensures.left (λ k. get_or c.args.self.now.list.items k d) _
+      (λ i j le lt. c.args.self.now.rising i j d le lt)
+      (rw (← c.middle.ensures) (sym (c.index.ensures ∙ get_or_default c.args.self.now.list.items c.middle.result _ d (omega arith))))
       (c.loop-left.invariant.left d);
 }
 

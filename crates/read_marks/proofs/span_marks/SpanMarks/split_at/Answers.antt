@@ -1,0 +1,16 @@
+use Rattle.std.proofs.Common.{◌≡◌, sym, ◌∙◌, None}
+use Rattle.std.specs.Cmp.Lexicographic.{nat_list_cmp_total}
+use Rattle.std.specs.Map.{lookup}
+use Rattle.std.specs.BTreeMap.{is_at}
+use Rattle.std.proofs.lemmas.Map.{none_passes_from_lookup}
+use Rattle.timestamps.specs.Bytes.{key_cmp}
+use Rattle.spans.proofs.Steps.{none_of}
+use Rattle.read_marks.proofs.Steps.{step-insert}
+use Rattle.read_marks.proofs.span_marks.SpanMarks.split_at.Goals as goal
+
+pub returns-clause-latest : goal.returns-clause-latest
+returns-clause-latest c = λ x.
+    let place = c.args.place.now in
+    let old = c.args.self.now.starts.entries in
+    let absent : lookup (is_at (key_cmp place)) old ≡ None = none_of _ (sym c.contains_key.ensures ∙ c.if-contains_key.false) in
+    rw (c.in_ok-insert.ensures.entries, c.in_ok-start.ensures.bytes) (step-insert nat_list_cmp_total place c.latest_at-latest.result 0 x old (none_passes_from_lookup _ old absent) c.latest_at-latest.ensures)

@@ -1,0 +1,58 @@
+-- The latest reader of each key, as a step function of the keys (this project).
+use Rattle.std.specs.Prelude.{ℕ, List, [], ◌∷◌, ◌≡◌, Bool, not, cond, max, ◌&&◌, Option, Some, None, IsSome, if◌then◌else◌}
+use Rattle.std.specs.Borrow.{Bor}
+use Rattle.std.specs.Option.{option_map}
+use Rattle.std.specs.Ordering.{is_le}
+use Rattle.std.specs.declared.ops.Bound.{Bound}
+use Rattle.std.specs.declared.ops.Bound.TheVariants.{Excluded, Unbounded}
+use Rattle.std.specs.BTreeMap.{get}
+use Rattle.timestamps.specs.Bytes.{key_cmp}
+use Rattle.spans.specs.KeyOrder.{below_high, key_lt}
+use Rattle.read_marks.specs.declared.span_marks.SpanMarks.{SpanMarks}
+
+-- the value of the last entry before the first whose key isn't reached: d where there is none
+abbrev pub step_at : {K V : Type 0} → (K → Bool) → V → List (K × V) → V
+step_at reached d [] = d
+step_at reached d (e ∷ es) = cond (reached e.0) (step_at reached e.1 es) d
+
+-- the start is not above the key
+abbrev pub reaches : List ℕ → List ℕ → Bool
+reaches x start = not (key_lt x start)
+
+-- the latest reader of a key: that of the greatest start not above it
+abbrev pub latest_in : SpanMarks → List ℕ → ℕ
+latest_in m x = step_at (reaches x) 0 m.starts.entries
+
+-- that of the keys just below a start
+abbrev pub latest_below : SpanMarks → List ℕ → ℕ
+latest_below m start = step_at (λ k. not (is_le (key_cmp start k))) 0 m.starts.entries
+
+-- each key has the latest reader that it had
+abbrev pub KeepsLatest : (old new : SpanMarks) → Type 0
+KeepsLatest old new = (x : List ℕ) → latest_in new x ≡ latest_in old x
+
+-- a start is at the place
+abbrev pub IsStart : SpanMarks → List ℕ → Type 0
+IsStart m place = IsSome (get key_cmp m.starts place)
+
+-- a place that is lent, where it is
+abbrev pub lent : Option (Bor (List ℕ)) → Option (List ℕ)
+lent hi = option_map (λ (place : Bor (List ℕ)). place.now) hi
+
+-- up to a place, that excluded, or without an end
+abbrev pub end_at : Option (List ℕ) → Bound (List ℕ)
+end_at None = Unbounded
+end_at (Some hi) = Excluded hi
+
+-- a start is at the end of a span, where it has one
+abbrev pub IsEnd : SpanMarks → Option (List ℕ) → Type 0
+IsEnd m None = Unit {0}
+IsEnd m (Some hi) = IsStart m hi
+
+-- the key is at or above a place, and below another where that is given
+abbrev pub is_between : List ℕ → Option (List ℕ) → List ℕ → Bool
+is_between lo hi x = reaches x lo && below_high hi x
+
+-- the latest readers of those keys have risen to ts
+abbrev pub RisesBetween : List ℕ → Option (List ℕ) → (ts : ℕ) → (old new : SpanMarks) → Type 0
+RisesBetween lo hi ts old new = (x : List ℕ) → latest_in new x ≡ (if is_between lo hi x then max (latest_in old x) ts else latest_in old x)
