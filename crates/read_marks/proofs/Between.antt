@@ -1,5 +1,5 @@
 -- Readers between two bounds, by the place where those above the lower one begin.
-use Rattle.std.proofs.Common.{ℕ, List, [], Bool, true, false, not, ◌&&◌, ◌≡◌, ◌<◌, ◌≤◌, ◌-◌, ◌↔◌, length, get_or, leb-false, leb-true, lt-ltb, ltb-false, ltb-true, max, nat_le, nat_lt, arith, Option, None, Some, refl, sym, true≢false, ◌∙◌, slice_get}
+use Rattle.std.proofs.Common.{ℕ, List, [], Bool, true, false, not, ◌&&◌, ◌≡◌, ◌<◌, ◌≤◌, ◌-◌, ◌↔◌, length, get_or, leb-false, leb-true, lt-ltb, ltb-false, ltb-true, max, nat_le, nat_lt, arith, Option, None, Some, refl, sym, ◌∙◌, slice_get}
 use Rattle.std.specs.List.Sorted.{IsNonDecreasing}
 use Rattle.std.proofs.lemmas.List.{get_or_default}
 use Rattle.std.proofs.lemmas.Option.{get_or_from_slice_get, slice_get_within}
@@ -52,10 +52,20 @@ and-true false b h = cc
 
 -- none is kept exactly where none is above what is forgotten
 pub none_kept : (xs : List ℕ) (t : ℕ) (b : Bool) → (b ≡ true) ↔ IsBetween (is_reader xs) t None → (not b ≡ true) ↔ ((j : ℕ) → is_kept t xs j ≡ false)
-none_kept xs t true is = (λ no. cc, λ none. let r = is.0 refl in let kept : is_kept t xs r.reader ≡ true = rw (lt-ltb t r.reader r.higher) r.mark in absurd (true≢false (sym kept ∙ none r.reader)))
+none_kept xs t true is = (
+  λ no. cc,
+  λ none.
+      let r = is.0 refl in
+      let kept : is_kept t xs r.reader ≡ true = rw (lt-ltb t r.reader r.higher) r.mark in
+      let both : true ≡ false = sym kept ∙ none r.reader in
+      cc,
+)
 none_kept xs t false is = (
   λ _ j. by_test (is_kept t xs j)
-      (λ on. let both = and-true (nat_lt t j) (is_reader xs j) on in absurd (true≢false (sym (is.1 (record { reader = j; mark = both.1; higher = ltb-true t j both.0; low = tt })))))
+      (λ on.
+      let both = and-true (nat_lt t j) (is_reader xs j) on in
+      let some : false ≡ true = is.1 (record { reader = j; mark = both.1; higher = ltb-true t j both.0; low = tt }) in
+      cc)
       (λ off. off),
   λ none. refl,
 )

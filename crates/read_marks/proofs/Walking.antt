@@ -76,6 +76,7 @@ module _ (p : List ℕ → Bool) (g : ℕ → ℕ) where
   from-first [] (x ∷ xs) s h k = cc
   from-first (e ∷ es) [] s h k = none_written (e ∷ es) h
   from-first (e ∷ es) (x ∷ xs) s h k =
+      let both : x.0 ∷ keys_of (each xs ++ drop (length xs) es) ≡ e.0 ∷ keys_of es = k in
       let key : x.0 ≡ e.0 = cc in
       let keys : keys_of (each xs ++ drop (length xs) es) ≡ keys_of es = cc in
       first-turn e x es xs (each xs ++ drop (length xs) es) (p e.0) key s.0 h (λ more. from-first es xs s.1 more keys)
@@ -100,6 +101,7 @@ module _ (p : List ℕ → Bool) (g : ℕ → ℕ) where
   walked_written (suc i) [] [] s h k = refl
   walked_written (suc i) [] (x ∷ xs) s h k = cc
   walked_written (suc i) (e ∷ es) xs s h k =
+      let both : e.0 ∷ keys_of (take i es ++ (each xs ++ drop (i + length xs) es)) ≡ e.0 ∷ keys_of es = k in
       let keys : keys_of (take i es ++ (each xs ++ drop (i + length xs) es)) ≡ keys_of es = cc in
       later-turn e es (take i es) (drop (i + length xs) es) xs _ (p e.0) (rw keys s.0) h (λ more. walked_written i es xs s.1 more keys)
 
