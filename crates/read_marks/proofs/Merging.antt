@@ -1,5 +1,5 @@
 -- The readers of one segment, where those of a gap become one.
-use Rattle.std.proofs.Common.{ℕ, List, [], ◌∷◌, ◌++◌, Bool, true, false, ◌≡◌, ◌<◌, ◌≤◌, ◌-◌, ◌+◌, ◌⊎◌, inl, inr, length, get_or, take, drop, leb, leb-true, leb-false, arith, refl, sym, length-append, append_assoc, max, set, subst}
+use Rattle.std.proofs.Common.{ℕ, List, [], ◌∷◌, ◌++◌, Bool, true, false, cond, ◌≡◌, ◌<◌, ◌≤◌, ◌-◌, ◌+◌, ◌⊎◌, inl, inr, length, get_or, take, drop, leb, leb-true, leb-false, arith, refl, sym, length-append, append_assoc, max, set, subst, ◌∙◌}
 use Rattle.std.specs.List.{Contains, insert}
 use Rattle.std.specs.List.Sorted.{IsNonDecreasing}
 use Rattle.std.proofs.lemmas.List.{get_or_default, get_or-append_right, get_or_append_left, take_more_set, drop-set-lt}
@@ -10,7 +10,7 @@ use Rattle.read_marks.specs.Readers.{is_reader, SplitsAt}
 use Rattle.read_marks.proofs.Splitting.{from_place, reader_is, in_front, in_back, to_front, to_back}
 
 -- of the readers above `above` and up to `until`, with ts, the greatest one
-pub record IsGreatest (xs : List ℕ) (above until ts top : ℕ) : Type 0 where
+record IsGreatest (xs : List ℕ) (above until ts top : ℕ) : Type 0 where
   pub low : above < top
   pub high : top ≤ until
   pub one : (top ≡ ts) ⊎ Contains xs top
@@ -18,15 +18,15 @@ pub record IsGreatest (xs : List ℕ) (above until ts top : ℕ) : Type 0 where
   pub past : (i : ℕ) → Contains xs i → above < i → i ≤ until → i ≤ top
 
 -- the first reader of the gap overwritten, and the others taken out
-pub written : (xs : List ℕ) (a b top : ℕ) → a < b → a < length xs → take (a + 1) (set xs a top) ++ drop b (set xs a top) ≡ (take a xs ++ top ∷ []) ++ drop b xs
+written : (xs : List ℕ) (a b top : ℕ) → a < b → a < length xs → take (a + 1) (set xs a top) ++ drop b (set xs a top) ≡ (take a xs ++ top ∷ []) ++ drop b xs
 written xs a b top ab lt = rw (take_more_set xs a top lt, drop-set-lt b xs a top ab) refl
 
 -- one put into a gap that has none
-pub put_in : (xs : List ℕ) (a b top : ℕ) → a ≡ b → insert xs a top ≡ (take a xs ++ top ∷ []) ++ drop b xs
+put_in : (xs : List ℕ) (a b top : ℕ) → a ≡ b → insert xs a top ≡ (take a xs ++ top ∷ []) ++ drop b xs
 put_in xs a b top same = rw (← same) (sym (append_assoc (take a xs) (top ∷ []) (drop a xs)))
 
 -- where none stands in the gap its ends are one place
-pub same_place : (xs : List ℕ) (above until a b : ℕ) → SplitsAt xs above a → SplitsAt xs until b → above ≤ until → a ≤ length xs → b ≤ a → a ≡ b
+same_place : (xs : List ℕ) (above until a b : ℕ) → SplitsAt xs above a → SplitsAt xs until b → above ≤ until → a ≤ length xs → b ≤ a → a ≡ b
 same_place xs above until a b p q le bound none =
     let low : b < a → get_or xs b 0 ≤ above = λ lt. leb-true _ _ (p.0 b 0 (omega arith) lt) in
     let high : b < a → until < get_or xs b 0 = λ lt. leb-false _ _ (q.1 b 0 (omega arith) (omega arith)) in
@@ -38,7 +38,7 @@ same_test true b f g = f refl
 same_test false true f g = sym (g refl)
 same_test false false f g = refl
 
-pub merged_piece : (xs : List ℕ) (above until ts a b top : ℕ) → SplitsAt xs above a → SplitsAt xs until b → a ≤ length xs → above < ts → IsGreatest xs above until ts top → IsPiece (is_reader xs) (is_reader ((take a xs ++ top ∷ []) ++ drop b xs)) ts above until
+merged_piece : (xs : List ℕ) (above until ts a b top : ℕ) → SplitsAt xs above a → SplitsAt xs until b → a ≤ length xs → above < ts → IsGreatest xs above until ts top → IsPiece (is_reader xs) (is_reader ((take a xs ++ top ∷ []) ++ drop b xs)) ts above until
 merged_piece xs above until ts a b top p q bound gap g = record {
   top = top;
   marked = to_reader (Contains-append_left (take a xs ++ top ∷ []) (drop b xs) top (Contains-push (take a xs) top));
@@ -86,7 +86,7 @@ max_cases : (w ts top : ℕ) → top ≡ max w ts → (top ≡ ts) ⊎ (w ≡ to
 max_cases w ts top sum = grind arith
 
 -- the greatest, where readers stand in the gap
-pub greatest_some : (xs : List ℕ) (above until ts a b w top : ℕ) → IsNonDecreasing xs → SplitsAt xs above a → SplitsAt xs until b → above < ts → ts ≤ until → a < b → b ≤ length xs → w ≡ get_or xs (b - 1) w → top ≡ max w ts → IsGreatest xs above until ts top
+greatest_some : (xs : List ℕ) (above until ts a b w top : ℕ) → IsNonDecreasing xs → SplitsAt xs above a → SplitsAt xs until b → above < ts → ts ≤ until → a < b → b ≤ length xs → w ≡ get_or xs (b - 1) w → top ≡ max w ts → IsGreatest xs above until ts top
 greatest_some xs above until ts a b w top up p q low high some bound is sum =
     let lt : b - 1 < length xs = omega arith in
     let wlow : above < get_or xs (b - 1) w = leb-false _ _ (p.1 (b - 1) w (omega arith) lt) in
@@ -112,7 +112,7 @@ greatest_some xs above until ts a b w top up p q low high some bound is sum =
     which (inr e) c = inr (subst (λ (i : ℕ). Contains xs i) e c)
 
 -- the greatest, where none does
-pub greatest_none : (xs : List ℕ) (above until ts a b : ℕ) → SplitsAt xs above a → SplitsAt xs until b → above < ts → ts ≤ until → b ≤ a → IsGreatest xs above until ts ts
+greatest_none : (xs : List ℕ) (above until ts a b : ℕ) → SplitsAt xs above a → SplitsAt xs until b → above < ts → ts ≤ until → b ≤ a → IsGreatest xs above until ts ts
 greatest_none xs above until ts a b p q low high none =
     record {
       low = low;
@@ -150,7 +150,7 @@ rises_append f g m up vp hi lo i j d le lt = by (leb (length f) i) (leb (length 
         let b : j < length f = leb-false _ _ q in
         rw (get_or_append_left f g d i a, get_or_append_left f g d j b) (up i j d le b)
 
-pub merged_rises : (xs : List ℕ) (above until ts a b top : ℕ) → IsNonDecreasing xs → SplitsAt xs above a → SplitsAt xs until b → a ≤ length xs → IsGreatest xs above until ts top → IsNonDecreasing ((take a xs ++ top ∷ []) ++ drop b xs)
+merged_rises : (xs : List ℕ) (above until ts a b top : ℕ) → IsNonDecreasing xs → SplitsAt xs above a → SplitsAt xs until b → a ≤ length xs → IsGreatest xs above until ts top → IsNonDecreasing ((take a xs ++ top ∷ []) ++ drop b xs)
 merged_rises xs above until ts a b top up p q bound g =
     rises_append (take a xs ++ top ∷ []) (drop b xs) top
     (IsNonDecreasingBy-push (λ x. x) (take a xs) top (IsNonDecreasingBy-take (λ x. x) a xs up) (λ d some. le _ (inl (Contains-get_or (take a xs) (length (take a xs) - 1) d (omega arith)))))
@@ -161,3 +161,26 @@ merged_rises xs above until ts a b top up p q bound g =
     le : (i : ℕ) → Contains (take a xs) i ⊎ (top ≡ i) → i ≤ top
     le i (inl c) = let h = in_front xs above a i p bound c in let u : i ≤ above = h.1 in let v : above < top = g.low in omega arith
     le i (inr e) = omega arith
+
+-- what a merge leaves: rising readers, of which those in the gap are one
+abbrev pub IsMerged : (xs zs : List ℕ) (ts above until : ℕ) → Type 0
+IsMerged xs zs ts above until = IsNonDecreasing zs × IsPiece (is_reader xs) (is_reader zs) ts above until
+
+merged : (xs zs : List ℕ) (above until ts a b top : ℕ) → IsNonDecreasing xs → SplitsAt xs above a → SplitsAt xs until b → a ≤ length xs → above < ts → IsGreatest xs above until ts top → zs ≡ (take a xs ++ top ∷ []) ++ drop b xs → IsMerged xs zs ts above until
+merged xs zs above until ts a b top up p q bound low g is = rw is (merged_rises xs above until ts a b top up p q bound g, merged_piece xs above until ts a b top p q bound low g)
+
+-- where readers stand in the gap
+pub merged_some : (xs zs : List ℕ) (above until ts a b w top : ℕ) → IsNonDecreasing xs → SplitsAt xs above a → SplitsAt xs until b → b ≤ length xs → above < ts → ts ≤ until → a < b → w ≡ get_or xs (b - 1) w → top ≡ max w ts
+    → zs ≡ take (a + 1) (set xs a top) ++ drop b (set xs a top) → IsMerged xs zs ts above until
+merged_some xs zs above until ts a b w top up p q bound low high some at sum is =
+    merged xs zs above until ts a b top up p q (omega arith) low (greatest_some xs above until ts a b w top up p q low high some bound at sum) (is ∙ written xs a b top some (omega arith))
+
+-- where none does
+pub merged_none : (xs zs : List ℕ) (above until ts a b : ℕ) → IsNonDecreasing xs → SplitsAt xs above a → SplitsAt xs until b → a ≤ length xs → above < ts → ts ≤ until → b ≤ a → zs ≡ insert xs a ts → IsMerged xs zs ts above until
+merged_none xs zs above until ts a b up p q bound low high none is =
+    merged xs zs above until ts a b ts up p q bound low (greatest_none xs above until ts a b p q low high none) (is ∙ put_in xs a b ts (same_place xs above until a b p q (omega arith) bound none))
+
+-- readers that rise, whether one came or not
+pub rising_either : (xs zs ys : List ℕ) (t : Bool) → IsNonDecreasing xs → (zs ≡ ys → IsNonDecreasing zs) → zs ≡ cond t ys xs → IsNonDecreasing zs
+rising_either xs zs ys true up more is = more is
+rising_either xs zs ys false up more is = rw is up

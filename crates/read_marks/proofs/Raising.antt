@@ -1,5 +1,5 @@
 -- The readers between two starts have risen, and those that are forgotten have gone.
-use Rattle.std.proofs.Common.{ℕ, List, [], ◌∷◌, ◌++◌, Bool, true, false, cond, not, ◌&&◌, ◌≡◌, refl, sym, ap, ◌∙◌, map, Option, Some, None, IsSome, unwrap_or}
+use Rattle.std.proofs.Common.{ℕ, List, [], ◌∷◌, ◌++◌, Bool, true, false, cond, not, ◌&&◌, ◌≡◌, refl, sym, ap, ◌∙◌, map, Option, Some, None, IsSome, nat_le, unwrap_or}
 use Rattle.std.specs.List.{AllByRecursion}
 use Rattle.std.specs.List.Sorted.{IsStrictlySortedBy}
 use Rattle.std.specs.Map.{keys_of, lookup}
@@ -130,9 +130,9 @@ spanned lo hi span low high x = rw (low, high) (ap (λ b. b && below_high span.h
 
 -- where the end is not above the beginning no key lies between
 below-both : (lo hi x : List ℕ) (r : Ordering) → key_cmp lo hi ≡ r → is_lt r ≡ false → key_cmp x hi ≡ Less → key_cmp x lo ≡ Less
-below-both lo hi x Less is no below = cc
-below-both lo hi x Equal is no below = alike_right nat_list_cmp_total lo hi x is ∙ below
-below-both lo hi x Greater is no below = nat_list_cmp_total.trans x hi lo below (nat_list_cmp_total.antisymm hi lo ∙ ap ordering_reverse is)
+below-both lo hi x Less is off below = cc
+below-both lo hi x Equal is off below = alike_right nat_list_cmp_total lo hi x is ∙ below
+below-both lo hi x Greater is off below = nat_list_cmp_total.trans x hi lo below (nat_list_cmp_total.antisymm hi lo ∙ ap ordering_reverse is)
 
 and-false : (b : Bool) → (b && false) ≡ false
 and-false true = refl
@@ -144,7 +144,7 @@ backward-turn lo hi x Equal below = and-false (reaches x lo)
 backward-turn lo hi x Greater below = and-false (reaches x lo)
 
 pub backward : (lo hi x : List ℕ) → is_lt (key_cmp lo hi) ≡ false → is_between lo (Some hi) x ≡ false
-backward lo hi x no = backward-turn lo hi x (key_cmp x hi) (below-both lo hi x (key_cmp lo hi) refl no)
+backward lo hi x off = backward-turn lo hi x (key_cmp x hi) (below-both lo hi x (key_cmp lo hi) refl off)
 
 -- ---- forgotten readers
 
@@ -153,6 +153,15 @@ forgotten-turn g d v w true is = is
 forgotten-turn g d v w false is = refl
 
 -- what becomes of each start's reader becomes of each key's
-pub step_mapped : (reached : List ℕ → Bool) (g : ℕ → ℕ) (d : ℕ) (es : Entries) → step_at reached (g d) (map (λ e. (e.0, g e.1)) es) ≡ g (step_at reached d es)
+step_mapped : (reached : List ℕ → Bool) (g : ℕ → ℕ) (d : ℕ) (es : Entries) → step_at reached (g d) (map (λ e. (e.0, g e.1)) es) ≡ g (step_at reached d es)
 step_mapped reached g d [] = refl
 step_mapped reached g d (e ∷ es) = forgotten-turn g d _ (step_at reached e.1 es) (reached e.0) (step_mapped reached g e.1 es)
+
+zero-is : (b : Bool) → 0 ≡ cond b 0 0
+zero-is true = refl
+zero-is false = refl
+
+-- of each key the reader goes where it is forgotten
+pub forgotten_gone : (reached : List ℕ → Bool) (through : ℕ) (es : Entries) → step_at reached 0 (map (λ e. (e.0, cond (nat_le e.1 through) 0 e.1)) es) ≡ cond (nat_le (step_at reached 0 es) through) 0 (step_at reached 0 es)
+forgotten_gone reached through es =
+    ap (λ (z : ℕ). step_at reached z (map (λ e. (e.0, cond (nat_le e.1 through) 0 e.1)) es)) (zero-is (nat_le 0 through)) ∙ step_mapped reached (λ v. cond (nat_le v through) 0 v) 0 es

@@ -1,7 +1,7 @@
 use Rattle.std.proofs.Common.{sym}
 use Rattle.std.specs.Cmp.Lexicographic.{nat_list_cmp_total}
 use Rattle.read_marks.proofs.Steps.{step_at-last, step_at-none, ComeFirst-before}
-use Rattle.read_marks.proofs.span_marks.joining.SpanMarks.latest_below.Goals as goal
+use Rattle.read_marks.proofs.span_marks.SpanMarks.latest_below.Goals as goal
 
 pub returns-in-None : goal.returns-in-None
 returns-in-None c =

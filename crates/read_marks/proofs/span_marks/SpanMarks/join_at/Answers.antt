@@ -2,7 +2,7 @@ use Rattle.std.proofs.Common.{refl}
 use Rattle.std.specs.Cmp.Lexicographic.{nat_list_cmp_total}
 use Rattle.read_marks.specs.Spans.{latest_below}
 use Rattle.read_marks.proofs.Steps.{step-remove}
-use Rattle.read_marks.proofs.span_marks.joining.SpanMarks.join_at.Goals as goal
+use Rattle.read_marks.proofs.span_marks.SpanMarks.join_at.Goals as goal
 
 pub returns-then-is_repeated : goal.returns-then-is_repeated
 returns-then-is_repeated c = λ x.
