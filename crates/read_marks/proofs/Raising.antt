@@ -157,11 +157,11 @@ step_mapped : (reached : List ℕ → Bool) (g : ℕ → ℕ) (d : ℕ) (es : En
 step_mapped reached g d [] = refl
 step_mapped reached g d (e ∷ es) = forgotten-turn g d _ (step_at reached e.1 es) (reached e.0) (step_mapped reached g e.1 es)
 
-zero-is : (b : Bool) → 0 ≡ cond b 0 0
-zero-is true = refl
-zero-is false = refl
+same-either : (z : ℕ) (b : Bool) → z ≡ cond b z z
+same-either z true = refl
+same-either z false = refl
 
 -- of each key the reader goes where it is forgotten
 pub forgotten_gone : (reached : List ℕ → Bool) (through : ℕ) (es : Entries) → step_at reached 0 (map (λ e. (e.0, cond (nat_le e.1 through) 0 e.1)) es) ≡ cond (nat_le (step_at reached 0 es) through) 0 (step_at reached 0 es)
 forgotten_gone reached through es =
-    ap (λ (z : ℕ). step_at reached z (map (λ e. (e.0, cond (nat_le e.1 through) 0 e.1)) es)) (zero-is (nat_le 0 through)) ∙ step_mapped reached (λ v. cond (nat_le v through) 0 v) 0 es
+    ap (λ (z : ℕ). step_at reached z (map (λ e. (e.0, cond (nat_le e.1 through) 0 e.1)) es)) (same-either 0 (nat_le 0 through)) ∙ step_mapped reached (λ v. cond (nat_le v through) 0 v) 0 es

@@ -26,7 +26,7 @@ pair-is (a, w) k v key value = rw (key, value) refl
 -- where each call refuses its entry, writes g of its value, and leaves the closure as it was, all are walked at once
 walked_all : {S : Type 0} (T : S → List ℕ → ℕ → Bool → ℕ → S → Type 0) (g : ℕ → ℕ) (s : S) → ((k : List ℕ) (v : ℕ) (b : Bool) (w : ℕ) (t : S) → T s k v b w t → (b ≡ false) × (w ≡ g v) × (t ≡ s))
     → (es : Entries) (r : Option (List ℕ × ℕ)) (t : S) (kept rest : Entries) → ExtractsNext (CallsAt T) s es r t kept rest → (r ≡ None) × (kept ≡ map (λ e. (e.0, g e.1)) es)
-walked_all T g s never [] r t kept rest h = (h.0, h.2.0)
+walked_all T g s never [] r t kept rest h = (h.0, h.2)
 walked_all T g s never (e ∷ es) r t kept rest (b, u, f, call, more) =
     let one = never e.0 e.1 b f.1 u call.1 in
     let tail = refused-turn b _ _ one.0 more in
@@ -94,16 +94,17 @@ module _ (p : List ℕ → Bool) (g : ℕ → ℕ) where
   later-turn e es front bs xs rest false later h ih = ap (λ fs. e ∷ fs) (ih h)
 
   -- the entries of a range stand from the i-th on, and each has its new value
-  pub walked_written : (i : ℕ) (es xs : Entries) → IsStrictlySortedBy key_cmp (keys_of es) → picked es ≡ xs → keys_of (take i es ++ (each xs ++ drop (i + length xs) es)) ≡ keys_of es
-      → take i es ++ (each xs ++ drop (i + length xs) es) ≡ written p g es
+  walked_written : (i m : ℕ) (es xs : Entries) → m ≡ i + length xs → IsStrictlySortedBy key_cmp (keys_of es) → picked es ≡ xs → keys_of (take i es ++ (each xs ++ drop m es)) ≡ keys_of es → take i es ++ (each xs ++ drop m es) ≡ written p g es
   unfolding IsStrictlySortedBy
-  walked_written zero es xs s h k = from-first es xs s h k
-  walked_written (suc i) [] [] s h k = refl
-  walked_written (suc i) [] (x ∷ xs) s h k = cc
-  walked_written (suc i) (e ∷ es) xs s h k =
-      let both : e.0 ∷ keys_of (take i es ++ (each xs ++ drop (i + length xs) es)) ≡ e.0 ∷ keys_of es = k in
-      let keys : keys_of (take i es ++ (each xs ++ drop (i + length xs) es)) ≡ keys_of es = cc in
-      later-turn e es (take i es) (drop (i + length xs) es) xs _ (p e.0) (rw keys s.0) h (λ more. walked_written i es xs s.1 more keys)
+  walked_written zero m es xs at s h k = let same : m ≡ length xs = omega arith in rw same (from-first es xs s h (rw same at k))
+  walked_written (suc i) zero es xs at s h k = absurd (omega arith)
+  walked_written (suc i) (suc m) [] [] at s h k = refl
+  walked_written (suc i) (suc m) [] (x ∷ xs) at s h k = cc
+  walked_written (suc i) (suc m) (e ∷ es) xs at s h k =
+      let below : m ≡ i + length xs = omega arith in
+      let both : e.0 ∷ keys_of (take i es ++ (each xs ++ drop m es)) ≡ e.0 ∷ keys_of es = k in
+      let keys : keys_of (take i es ++ (each xs ++ drop m es)) ≡ keys_of es = cc in
+      later-turn e es (take i es) (drop m es) xs _ (p e.0) (rw keys s.0) h (λ more. walked_written i m es xs below s.1 more keys)
 
   length-each : (xs : Entries) → length (each xs) ≡ length xs
   length-each [] = refl
@@ -119,4 +120,4 @@ module _ (p : List ℕ → Bool) (g : ℕ → ℕ) where
       let some : length kept ≡ length xs = ap length all.1 ∙ length-each xs in
       let place : i + length kept + length (option_to_list r) ≡ i + length xs = omega arith in
       let now : fs ≡ take i es ++ (each xs ++ drop (i + length xs) es) = is ∙ ap (λ n. take i es ++ (kept ++ drop n es)) place ∙ ap (λ ks. take i es ++ (ks ++ drop (i + length xs) es)) all.1 in
-      now ∙ walked_written i es xs sorted (sym those) (ap keys_of (sym now) ∙ keys all.0)
+      now ∙ walked_written i (i + length xs) es xs refl sorted (sym those) (ap keys_of (sym now) ∙ keys all.0)
