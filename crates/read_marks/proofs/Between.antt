@@ -1,5 +1,5 @@
 -- Readers between two bounds, by the place where those above the lower one begin.
-use Rattle.std.proofs.Common.{ℕ, List, [], Bool, true, false, not, ◌&&◌, ◌≡◌, ◌<◌, ◌≤◌, ◌-◌, ◌↔◌, length, get_or, leb-false, leb-true, lt-ltb, ltb-false, ltb-true, max, nat_le, nat_lt, arith, Option, None, Some, refl, sym, ◌∙◌, slice_get}
+use Rattle.std.proofs.Common.{ℕ, List, Bool, true, false, not, ◌&&◌, ◌≡◌, ◌<◌, ◌≤◌, ◌-◌, ◌↔◌, length, get_or, leb-false, lt-ltb, ltb-true, nat_lt, arith, Option, None, Some, refl, sym, ◌∙◌, slice_get}
 use Rattle.std.specs.List.Sorted.{IsNonDecreasing}
 use Rattle.std.proofs.lemmas.List.{get_or_default}
 use Rattle.std.proofs.lemmas.Option.{get_or_from_slice_get, slice_get_within}

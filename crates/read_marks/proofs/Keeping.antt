@@ -1,5 +1,5 @@
 -- Readers of which some are forgotten.
-use Rattle.std.proofs.Common.{ℕ, List, Bool, true, ◌&&◌, ◌≡◌, ◌<◌, ◌≤◌, ◌⊎◌, inl, inr, sym, ap, ◌∙◌, arith, nat_lt, lt-ltb}
+use Rattle.std.proofs.Common.{ℕ, List, Bool, true, ◌&&◌, ◌≡◌, ◌<◌, ◌≤◌, ◌⊎◌, inl, inr, ap, ◌∙◌, arith, nat_lt, lt-ltb}
 use Rattle.std.proofs.Math.Bool.{and_self_left}
 use Rattle.std.proofs.lemmas.Bool.{and_parts}
 use Rattle.std.specs.List.{filter}

@@ -4,4 +4,4 @@ pub mod Merging
 pub mod Keeping
 pub mod Steps
 pub mod Raising
-pub mod Walking
+pub mod Rising

@@ -1,5 +1,5 @@
 -- The readers between two starts have risen, and those that are forgotten have gone.
-use Rattle.std.proofs.Common.{ℕ, List, [], ◌∷◌, ◌++◌, Bool, true, false, cond, not, ◌&&◌, ◌≡◌, refl, sym, ap, ◌∙◌, map, Option, Some, None, IsSome, nat_le, unwrap_or}
+use Rattle.std.proofs.Common.{ℕ, List, [], ◌∷◌, Bool, true, false, cond, not, ◌&&◌, ◌≡◌, refl, sym, ap, ◌∙◌, map, Option, Some, None, IsSome, nat_le, unwrap_or}
 use Rattle.std.specs.List.{AllByRecursion}
 use Rattle.std.specs.List.Sorted.{IsStrictlySortedBy}
 use Rattle.std.specs.Map.{keys_of, lookup}

@@ -1,10 +1,12 @@
 -- The latest reader of each key, as a step function of the keys (this project).
-use Rattle.std.specs.Prelude.{ℕ, List, [], ◌∷◌, ◌≡◌, Bool, not, cond, max, ◌&&◌, Option, Some, None, IsSome, if◌then◌else◌}
+use Rattle.std.specs.Prelude.{ℕ, List, [], ◌∷◌, ◌≡◌, Bool, not, cond, map, max, ◌&&◌, Option, Some, None, IsSome}
 use Rattle.std.specs.Borrow.{Bor}
 use Rattle.std.specs.Option.{option_map}
 use Rattle.std.specs.Ordering.{is_le}
 use Rattle.std.specs.declared.ops.Bound.{Bound}
-use Rattle.std.specs.declared.ops.Bound.TheVariants.{Excluded, Unbounded}
+use Rattle.std.specs.declared.cmp.Ordering.TheVariants.{Less}
+use Rattle.std.specs.declared.ops.Bound.TheVariants.{Excluded, Included, Unbounded}
+use Rattle.std.specs.BTreeMap.Range.{entries_between}
 use Rattle.std.specs.BTreeMap.{get}
 use Rattle.timestamps.specs.Bytes.{key_cmp}
 use Rattle.spans.specs.KeyOrder.{below_high, key_lt}
@@ -53,6 +55,15 @@ IsEnd m (Some hi) = IsStart m hi
 abbrev pub is_between : List ℕ → Option (List ℕ) → List ℕ → Bool
 is_between lo hi x = reaches x lo && below_high hi x
 
--- the latest readers of those keys have risen to ts
-abbrev pub RisesBetween : List ℕ → Option (List ℕ) → (ts : ℕ) → (old new : SpanMarks) → Type 0
-RisesBetween lo hi ts old new = (x : List ℕ) → latest_in new x ≡ (if is_between lo hi x then max (latest_in old x) ts else latest_in old x)
+-- there may be a place between the two
+abbrev pub RunsForward : List ℕ → Option (List ℕ) → Type 0
+RunsForward lo None = Unit {0}
+RunsForward lo (Some hi) = key_cmp lo hi ≡ Less
+
+-- the starts between the two, each with its latest reader
+abbrev pub starts_in : List ℕ → Option (List ℕ) → List (List ℕ × ℕ) → List (List ℕ × ℕ)
+starts_in lo hi es = entries_between key_cmp (Included lo) (end_at hi) es
+
+-- of those that pass the test the latest reader has risen to ts
+abbrev pub raised : (List ℕ → Bool) → ℕ → List (List ℕ × ℕ) → List (List ℕ × ℕ)
+raised p ts es = map (λ e. (e.0, cond (p e.0) (max e.1 ts) e.1)) es

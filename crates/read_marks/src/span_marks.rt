@@ -1,11 +1,13 @@
 //! The latest reader of each key, by spans.
-ghost use Rattle.std.specs.Prelude.{◌≡◌, ℕ, List, [], Some, OnOk, OnErr, IsTrue, false, max, nat_le, unwrap_or, if◌then◌else◌};
+ghost use Rattle.std.specs.Prelude.{◌≡◌, ℕ, List, [], Some, bytes_eq, true, IfOk, OnOk, OnErr, IsTrue, false, max, nat_le, unwrap_or, if◌then◌else◌};
 ghost use Rattle.std.specs.BTreeMap.{IsOrdered, get};
+ghost use Rattle.std.specs.Map.{keys_of};
 ghost use Rattle.std.specs.Range.Bound.{bound_map};
 ghost use Rattle.std.specs.declared.ops.Bound.TheVariants.{Included};
 ghost use Rattle.timestamps.specs.Bytes.{key_cmp};
 ghost use Rattle.spans.specs.Keys.{in_span};
-ghost use Rattle.read_marks.specs.Spans.{end_at, is_between, lent};
+ghost use Rattle.spans.proofs.WriteSets.{has};
+ghost use Rattle.read_marks.specs.Spans.{IsEnd, IsStart, KeepsLatest, RunsForward, end_at, is_between, latest_in, lent, raised, starts_in};
 
 mod joining;
 
@@ -19,17 +21,17 @@ use timestamps::small_bytes::SmallBytes;
 /// Of each key the latest reader, by spans.
 #[derive(Drop)]
 pub struct SpanMarks {
+    alloc: Global,
     /// The latest reader of the keys from each start on, up to the next start.
     starts: BTreeMap<SmallBytes, u64>,
 }
 
 impl SpanMarks {
-    ghost use Rattle.read_marks.specs.Spans.{IsEnd, IsStart, KeepsLatest, RisesBetween, latest_in};
-
     pub fn new(alloc: Global) -> SpanMarks
         ensures { (x : List ℕ) → latest_in result x ≡ 0 }
     {
         SpanMarks {
+            alloc,
             starts: BTreeMap::new(alloc),
         }
     }
@@ -93,19 +95,39 @@ impl SpanMarks {
         self.starts.len();
     }
 
-    /// The latest readers from one start on, and below another where that is given, rise to `ts`.
-    fn raise_between(&mut self, lo: &SmallBytes, hi: Option<&SmallBytes>, ts: u64)
-        requires low { IsStart self.old lo.now }
-        requires high { IsEnd self.old (lent hi) }
-        ensures { RisesBetween lo.now (lent hi.entry) ts self.old self.new }
+    /// The starts from `lo` on, and below `hi` where that is given.
+    fn starts_between(
+        &self,
+        lo: &SmallBytes,
+        hi: Option<&SmallBytes>,
+    ) -> Result<Vec<SmallBytes>, AllocError>
+        requires { RunsForward lo.now (lent hi) }
+        ensures those { IfOk result (λ starts. starts.items ≡ keys_of (starts_in lo.now (lent hi.entry) self.now.starts.entries)) }
+        ensures ordered { IsOrdered key_cmp self.now.starts }
     {
-        self.see_order();
-        // it takes none out, so its first step walks all of them
-        let mut walk = self.starts.extract_if(keys_between(lo, hi), |_, latest| {
+        let mut starts = Vec::new(self.alloc);
+        for (start, _) in self.starts.range(keys_between(lo, hi)) {
+            starts.push(start.copy()?)?;
+        }
+        Ok(starts)
+    }
+
+    /// The latest reader from each of these starts on rises to `ts`.
+    fn raise_each(&mut self, starts: &[SmallBytes], ts: u64)
+        ensures { self.new.starts.entries ≡ raised (λ start. has start starts.now) ts self.old.starts.entries }
+    {
+        for start in starts {
+            self.raise_at(start, ts);
+        }
+    }
+
+    /// The latest reader from one start on rises to `ts`.
+    fn raise_at(&mut self, start: &SmallBytes, ts: u64)
+        ensures { self.new.starts.entries ≡ raised (λ x. bytes_eq start.now x) ts self.old.starts.entries }
+    {
+        if let Some(latest) = self.starts.get_mut(start) {
             *latest = (*latest).max(ts);
-            false
-        });
-        let _ = walk.next();
+        }
     }
 
     /// `ts` reads the keys of the span. Neighbours with the same reader are joined.
@@ -119,7 +141,8 @@ impl SpanMarks {
             return Ok(());
         }
         self.split_ends(lo, hi)?;
-        self.raise_between(lo, hi, ts);
+        let starts = self.starts_between(lo, hi)?;
+        self.raise_each(&starts, ts);
         self.join(lo, hi);
         Ok(())
     }
@@ -168,7 +191,8 @@ fn ends_of<'a>(span: &'a Span, least: &'a SmallBytes) -> (&'a SmallBytes, Option
 
 /// Whether there is a place from `lo` on and below `hi`.
 fn runs_forward(lo: &SmallBytes, hi: Option<&SmallBytes>) -> bool
-    ensures { result ≡ false → (x : List ℕ) → is_between lo.now (lent hi.entry) x ≡ false }
+    ensures forward { result ≡ true → RunsForward lo.now (lent hi.entry) }
+    ensures backward { result ≡ false → (x : List ℕ) → is_between lo.now (lent hi.entry) x ≡ false }
 {
     match hi {
         None => true,

@@ -1,4 +1,4 @@
-use Rattle.std.proofs.Common.{arith, rules, leb-true, le-leb, Some, ◌≡◌, ◌<◌, ◌≤◌, ◌-◌, length, get_or, slice_get, sym}
+use Rattle.std.proofs.Common.{arith, rules, leb-true, le-leb, Some, ◌≡◌, ◌<◌, ◌≤◌, ◌-◌, length, slice_get, sym}
 use Rattle.read_marks.proofs.Between.{first_up_to, has_first, has_latest, none_above_latest, place_inside}
 use Rattle.read_marks.proofs.readers.Readers.any_between.Goals as goal
 

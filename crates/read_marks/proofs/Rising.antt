@@ -1,0 +1,107 @@
+-- The latest readers of some starts rise, one start after another.
+use Rattle.std.proofs.Common.{ℕ, List, [], ◌∷◌, ◌++◌, Bool, true, false, cond, ◌||◌, ◌&&◌, ◌≡◌, ◌<◌, ◌+◌, refl, sym, ap, ◌∙◌, length, take, get_or, arith, subst, max, Option, Some, None}
+use Rattle.std.specs.Prelude.{bytes_eq}
+use Rattle.std.specs.List.{AllByRecursion, filter}
+use Rattle.std.specs.List.Sorted.{IsStrictlySortedBy}
+use Rattle.std.specs.Map.{keys_of, lookup, set_value}
+use Rattle.std.specs.Ordering.{is_eq}
+use Rattle.std.specs.BTreeMap.{is_at}
+use Rattle.std.specs.declared.cmp.Ordering.TheVariants.{Less}
+use Rattle.std.proofs.lemmas.Map.Text.{is_eq-slice_cmp}
+use Rattle.std.proofs.lemmas.Bool.{or_right}
+use Rattle.std.proofs.lemmas.List.{take_more}
+use Rattle.timestamps.specs.Bytes.{key_cmp}
+use Rattle.spans.proofs.Steps.{by_test, key_itself, same_key}
+use Rattle.spans.proofs.WriteSets.{has, has_filtered}
+use Rattle.read_marks.specs.Spans.{raised, starts_in}
+use Rattle.read_marks.proofs.Raising.{Entries, picks}
+
+max-twice : (v ts : ℕ) → max (max v ts) ts ≡ max v ts
+max-twice v ts = grind arith
+
+-- first those of q, and then those of p
+pub raised_twice : (p q : List ℕ → Bool) (ts : ℕ) (es : Entries) → raised p ts (raised q ts es) ≡ raised (λ x. q x || p x) ts es
+raised_twice p q ts [] = refl
+raised_twice p q ts (e ∷ es) = rw (raised_twice p q ts es) (ap (λ v. (e.0, v) ∷ raised (λ x. q x || p x) ts es) (both (p e.0) (q e.0)))
+  where
+    both : (a b : Bool) → cond a (max (cond b (max e.1 ts) e.1) ts) (cond b (max e.1 ts) e.1) ≡ cond (b || a) (max e.1 ts) e.1
+    both true true = max-twice e.1 ts
+    both true false = refl
+    both false true = refl
+    both false false = refl
+
+-- tests that agree on all starts
+pub raised_alike : (p q : List ℕ → Bool) (ts : ℕ) (es : Entries) → ((x : List ℕ) → has x (keys_of es) ≡ true → p x ≡ q x) → raised p ts es ≡ raised q ts es
+raised_alike p q ts [] alike = refl
+raised_alike p q ts (e ∷ es) alike =
+    let here : p e.0 ≡ q e.0 = alike e.0 (ap (λ b. b || has e.0 (keys_of es)) (key_itself e.0)) in
+    rw (here, raised_alike p q ts es (λ x in'. alike x (or_right (bytes_eq e.0 x) (has x (keys_of es)) in'))) refl
+
+-- none is the start
+none-raised : (k : List ℕ) (ts : ℕ) (es : Entries) → AllByRecursion (λ q. key_cmp k q ≡ Less) (keys_of es) → es ≡ raised (λ x. bytes_eq k x) ts es
+none-raised k ts [] above = refl
+none-raised k ts (e ∷ es) above =
+    let off : bytes_eq k e.0 ≡ false = sym (is_eq-slice_cmp k e.0) ∙ ap is_eq above.0 in
+    rw off (ap (λ fs. e ∷ fs) (none-raised k ts es above.1))
+
+-- one start alone
+pub raised_one : (k : List ℕ) (v ts : ℕ) (es : Entries) → IsStrictlySortedBy key_cmp (keys_of es) → lookup (is_at (key_cmp k)) es ≡ Some v → set_value (is_at (key_cmp k)) es (max v ts) ≡ raised (λ x. bytes_eq k x) ts es
+unfolding IsStrictlySortedBy
+raised_one k v ts [] sorted found = cc
+raised_one k v ts (e ∷ es) sorted found = by_test (is_at (key_cmp k) e.0)
+    (λ here.
+    let same : bytes_eq k e.0 ≡ true = sym (is_eq-slice_cmp k e.0) ∙ here in
+    let value : Some e.1 ≡ Some v = sym (rw here refl) ∙ found in
+    let is : e.1 ≡ v = cc in
+    let key : k ≡ e.0 = same_key k e.0 same in
+    rw (here, same, is) (ap (λ fs. (e.0, max v ts) ∷ fs) (none-raised k ts es (subst (λ x. AllByRecursion (λ q. key_cmp x q ≡ Less) (keys_of es)) (sym key) sorted.0))))
+    (λ there.
+    let other : bytes_eq k e.0 ≡ false = sym (is_eq-slice_cmp k e.0) ∙ there in
+    rw (there, other) (ap (λ fs. e ∷ fs) (raised_one k v ts es sorted.1 (sym (rw there refl) ∙ found))))
+
+pub raised_none : (k : List ℕ) (ts : ℕ) (es : Entries) → lookup (is_at (key_cmp k)) es ≡ None → es ≡ raised (λ x. bytes_eq k x) ts es
+raised_none k ts [] none = refl
+raised_none k ts (e ∷ es) none = by_test (is_at (key_cmp k) e.0)
+    (λ here. let some : Some e.1 ≡ None = sym (rw here refl) ∙ none in cc)
+    (λ there.
+    let other : bytes_eq k e.0 ≡ false = sym (is_eq-slice_cmp k e.0) ∙ there in
+    rw other (ap (λ fs. e ∷ fs) (raised_none k ts es (sym (rw there refl) ∙ none))))
+
+-- ---- some starts of a list, and then one more
+
+pub raised_nothing : (ts : ℕ) (es : Entries) → es ≡ raised (λ x. false) ts es
+raised_nothing ts [] = refl
+raised_nothing ts (e ∷ es) = ap (λ fs. e ∷ fs) (raised_nothing ts es)
+
+has-push : (x k : List ℕ) (ks : List (List ℕ)) → has x (ks ++ k ∷ []) ≡ (has x ks || bytes_eq k x)
+has-push x k [] = or-false (bytes_eq k x)
+  where
+    or-false : (b : Bool) → (b || false) ≡ b
+    or-false true = refl
+    or-false false = refl
+has-push x k (j ∷ ks) = ap (λ b. bytes_eq j x || b) (has-push x k ks) ∙ grouped (bytes_eq j x) (has x ks) (bytes_eq k x)
+  where
+    grouped : (a b c : Bool) → (a || (b || c)) ≡ ((a || b) || c)
+    grouped true b c = refl
+    grouped false b c = refl
+
+pub raised_more : (starts : List (List ℕ)) (i : ℕ) (k : List ℕ) (ts : ℕ) (es fs gs : Entries) → i < length starts → k ≡ get_or starts i k → fs ≡ raised (λ x. has x (take i starts)) ts es → gs ≡ raised (λ x. bytes_eq k x) ts fs
+    → gs ≡ raised (λ x. has x (take (i + 1) starts)) ts es
+raised_more starts i k ts es fs gs low is before one =
+    one ∙ ap (raised (λ x. bytes_eq k x) ts) before ∙ raised_twice (λ x. bytes_eq k x) (λ x. has x (take i starts)) ts es
+    ∙ raised_alike _ _ ts es (λ x in'. sym (has-push x k (take i starts)) ∙ ap (has x) (sym (take_more starts i k low ∙ ap (λ j. take i starts ++ j ∷ []) (sym is))))
+
+-- ---- all starts of a range
+
+keys-filtered : (p : List ℕ → Bool) (es : Entries) → keys_of (filter (λ e. p e.0) es) ≡ filter p (keys_of es)
+keys-filtered p [] = refl
+keys-filtered p (e ∷ es) = by_test (p e.0)
+    (λ on. rw on (ap (λ ks. e.0 ∷ ks) (keys-filtered p es)))
+    (λ off. rw off (keys-filtered p es))
+
+pub raised_range : (lo : List ℕ) (hi : Option (List ℕ)) (ts : ℕ) (es : Entries) → raised (λ x. has x (keys_of (starts_in lo hi es))) ts es ≡ raised (picks lo hi) ts es
+raised_range lo hi ts es = raised_alike _ _ ts es (λ x among. ap (has x) (keys-filtered (picks lo hi) es) ∙ has_filtered (picks lo hi) x (keys_of es) ∙ ap (λ b. picks lo hi x && b) among ∙ and-true (picks lo hi x))
+  where
+    and-true : (b : Bool) → (b && true) ≡ b
+    and-true true = refl
+    and-true false = refl

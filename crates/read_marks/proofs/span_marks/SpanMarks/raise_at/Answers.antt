@@ -1,0 +1,18 @@
+use Rattle.std.proofs.Common.{◌≡◌, sym, ◌∙◌, ap, Some, None}
+use Rattle.std.specs.Map.{lookup, set_value}
+use Rattle.std.specs.BTreeMap.{is_at}
+use Rattle.timestamps.specs.Bytes.{key_cmp}
+use Rattle.read_marks.proofs.Rising.{raised_none, raised_one}
+use Rattle.read_marks.proofs.span_marks.SpanMarks.raise_at.Goals as goal
+
+pub returns-in-Some : goal.returns-in-Some
+returns-in-Some c =
+    let es = c.args.self.now.starts.entries in
+    let found : lookup (is_at (key_cmp c.args.start.now)) es ≡ Some c.in-Some.latest.now = sym c.in-Some.ensures.value in
+    (c.get_mut.follows.holds c.max.result).0 ∙ ap (set_value (is_at (key_cmp c.args.start.now)) es) c.max.ensures ∙ raised_one c.args.start.now c.in-Some.latest.now c.args.ts es c.get_mut.ensures.ordered found
+
+pub returns-in_default : goal.returns-in_default
+returns-in_default c =
+    let es = c.args.self.now.starts.entries in
+    let found : lookup (is_at (key_cmp c.args.start.now)) es ≡ None = sym c.in_default.ensures.value in
+    ap (λ m. m.entries) c.get_mut.follows.holds-at-none ∙ raised_none c.args.start.now c.args.ts es found
