@@ -4,17 +4,14 @@ use Rattle.std.specs.Prelude.{option_map, bytes_eq, OnOk, OnErr}
 use Rattle.spans.proofs.Steps.{by_test, same_key}
 use Rattle.version_chain.specs.declared.chain.Version.{Version}
 use Rattle.version_chain.specs.Versions.{version_of, as_committed}
-use Rattle.version_chain.specs.Chains.{Entry, chain_of, found_in, IsChangedAt}
+use Rattle.version_chain.specs.Chains.{Stored, chain_of, found_in, HaveSameChains, IsChangedAt}
+use Rattle.version_chain.specs.Records.{IsPut}
 
 -- what became of the versions of one key
 abbrev pub IsEdited : List Version → List Version → ℕ → (Option Version → Option Version) → Type 0
 IsEdited vs ws t f = (i : ℕ) → version_of ws i ≡ cond (t == i) (f (version_of vs i)) (version_of vs i)
 
--- the chain of x became ws, and any other stays
-abbrev pub IsPut : List Entry → List Entry → List ℕ → List Version → Type 0
-IsPut es fs x ws = (y : List ℕ) → chain_of fs y ≡ cond (bytes_eq x y) ws (chain_of es y)
-
-pub changed : (es fs : List Entry) (x : List ℕ) (ws : List Version) (t : ℕ) (f : Option Version → Option Version) → IsPut es fs x ws → IsEdited (chain_of es x) ws t f → IsChangedAt es fs x t f
+pub changed : (es fs : Stored) (x : List ℕ) (ws : List Version) (t : ℕ) (f : Option Version → Option Version) → IsPut es fs x ws → IsEdited (chain_of es x) ws t f → IsChangedAt es fs x t f
 changed es fs x ws t f put edit y i = ap (λ us. version_of us i) (put y) ∙ by_test (bytes_eq x y)
     (λ here.
     let one : version_of ws i ≡ cond (t == i) (f (found_in es y i)) (found_in es y i) = subst (λ z. version_of ws i ≡ cond (t == i) (f (found_in es z i)) (found_in es z i)) (same_key x y here) (edit i) in
@@ -45,3 +42,27 @@ filled_commit (v ∷ vs) ws t some edit =
     by_test (t == v.ts)
     (λ same. none_empty ws v.ts (as_committed v) (edit v.ts ∙ rw (same, e) refl))
     (λ other. none_empty ws v.ts v (edit v.ts ∙ rw (other, e) refl))
+
+-- ---- the same chains
+
+pub found_alike : (s s' : Stored) → HaveSameChains s s' → (y : List ℕ) (i : ℕ) → found_in s' y i ≡ found_in s y i
+found_alike s s' same y i = ap (λ vs. version_of vs i) (same y)
+
+pub changed_alike : (s m s' : Stored) (x : List ℕ) (t : ℕ) (f : Option Version → Option Version) → IsChangedAt s m x t f → HaveSameChains m s' → IsChangedAt s s' x t f
+changed_alike s m s' x t f change same y i = found_alike m s' same y i ∙ change y i
+
+-- where x has no version, a change of what is there changes nothing
+pub unchanged : (s : Stored) (x : List ℕ) (t : ℕ) (f : Option Version → Option Version) → chain_of s x ≡ [] → f None ≡ None → IsChangedAt s s x t f
+unchanged s x t f none keeps = changed s s x [] t f
+    (λ y. by_test (bytes_eq x y)
+    (λ here. rw here (subst (λ z. chain_of s z ≡ []) (same_key x y here) none))
+    (λ there. rw there refl))
+    (λ i.
+    let same : None ≡ cond (t == i) (f None) None = by_test (t == i) (λ here. rw here (sym keeps)) (λ there. rw there refl) in
+    same ∙ ap (λ vs. cond (t == i) (f (version_of vs i)) (version_of vs i)) (sym none))
+
+-- a chain without a version is put where there was none
+pub put_nothing : (s s' : Stored) (x : List ℕ) (vs : List Version) → vs ≡ [] → chain_of s x ≡ [] → IsPut s s' x vs → HaveSameChains s s'
+put_nothing s s' x vs empty none put y = put y ∙ by_test (bytes_eq x y)
+    (λ here. rw here (empty ∙ sym (subst (λ z. chain_of s z ≡ []) (same_key x y here) none)))
+    (λ there. rw there refl)

@@ -11,7 +11,7 @@ use Rattle.spans.proofs.Steps.{by_test}
 use Rattle.spans.proofs.WriteSets.{has, has_filtered}
 use Rattle.version_chain.specs.declared.chain.Version.{Version}
 use Rattle.version_chain.specs.declared.index.Index.{Index}
-use Rattle.version_chain.specs.Chains.{chain_of, found_in}
+use Rattle.version_chain.specs.Chains.{chain_of, found_in, HaveSameMarks}
 use Rattle.version_chain.specs.Stores.{Stored, after_of, is_committed, version_in, IsCountOf}
 use Rattle.version_chain.specs.Dead.{is_dead_in, is_dropped_in, newest_of, ArePartlyThinned, IsThinnedAt, IsCollectedIn}
 use Rattle.version_chain.specs.Indexes.{is_listed, AreTakenAlike, IsFilled, IsFirstBetween, IsIndexOf, IsNoneBetween, IsSound, IsTakenAlone}
@@ -41,13 +41,13 @@ thinning_first es index index' t n count from keys sound among others taken = re
   taken = taken;
 }
 
-pub thinning_next : (es fs gs : Stored) (index index' : Index) (t n count from r : ℕ) (x : List ℕ) (rest more : List (List ℕ)) → rest ≡ x ∷ more → IsThinnedAt fs gs x n → ((m : ℕ) → IsCountOf fs m → (r ≤ m) × IsCountOf gs (m - r))
+pub thinning_next : (es fs gs : Stored) (index index' : Index) (t n count from r : ℕ) (x : List ℕ) (rest more : List (List ℕ)) → rest ≡ x ∷ more → IsThinnedAt fs gs x n → HaveSameMarks fs gs → ((m : ℕ) → IsCountOf fs m → (r ≤ m) × IsCountOf gs (m - r))
     → ((y : List ℕ) (i : ℕ) → is_listed index' y i ≡ cond (bytes_eq x y && is_dead_in fs n y i) false (is_listed index y i)) → AreTakenAlike index index'
     → IsThinning es fs index t n count from rest → IsThinning es gs index' t n (count - r) from more
-thinning_next es fs gs index index' t n count from r x rest more is thin fewer less still s = record {
-  partly = partly_next es fs gs x n s.partly thin;
+thinning_next es fs gs index index' t n count from r x rest more is thin marks fewer less still s = record {
+  partly = partly_next es fs gs x n s.partly thin marks;
   settled = λ y some. elim (s.settled y some) [
-    | inl none ↦ inl (λ i. settled_still fs gs n (partly_one fs gs x n thin) y i (none i))
+    | inl none ↦ inl (λ i. settled_still fs gs n (partly_one fs gs x n thin marks) y i (none i))
     | inr any ↦ (elim (next_or_rest x y rest more is any) [
       | inl here ↦ inl (λ i. ap (λ z. is_dead_in gs n z i) here ∙ settled_here fs gs x n thin i)
       | inr later ↦ inr later

@@ -3,6 +3,8 @@ pub mod BinarySearch
 pub mod Edits
 pub mod Changes
 pub mod ByNumber
+pub mod Gaps
+pub mod Recorded
 pub mod Turns
 pub mod Counts
 pub mod InSpans

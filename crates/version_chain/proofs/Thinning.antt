@@ -8,11 +8,11 @@ use Rattle.spans.proofs.Steps.{by_test, same_key, key_itself}
 use Rattle.version_chain.specs.declared.chain.Version.{Version}
 use Rattle.version_chain.specs.declared.index.Index.{Index}
 use Rattle.version_chain.specs.Versions.{DoRise, version_of}
-use Rattle.version_chain.specs.Chains.{chain_of, found_in}
+use Rattle.version_chain.specs.Chains.{chain_of, found_in, HaveSameMarks}
 use Rattle.version_chain.specs.Stores.{Stored, after_of, is_committed, IsCountOf}
 use Rattle.version_chain.specs.Dead.{is_dead_version, is_dead_at, is_dead_in, newest_of, ArePartlyThinned, IsThinnedAt}
 use Rattle.version_chain.specs.Indexes.{is_listed, IsUnlisted}
-use Rattle.version_chain.proofs.Changes.{IsPut}
+use Rattle.version_chain.specs.Records.{IsPut}
 use Rattle.version_chain.proofs.Counts.{counted_thinned}
 use Rattle.version_chain.proofs.Dead.{is_dead_of, holds, dead_here, left_filtered, at_found, same_dead, live_left, live_fewer}
 
@@ -73,14 +73,15 @@ never true o = refl
 never false o = refl
 
 pub partly_none : (es : Stored) (n : ℕ) → ArePartlyThinned es es n
-partly_none es n = record { found = λ y i. never (is_dead_in es n y i) (found_in es y i); fewer = λ y i dead. dead }
+partly_none es n = record { marks = λ y j. refl; found = λ y i. never (is_dead_in es n y i) (found_in es y i); fewer = λ y i dead. dead }
 
 -- nothing is dead of a key that lost what was
 pub settled_here : (es fs : Stored) (x : List ℕ) (n : ℕ) → IsThinnedAt es fs x n → (i : ℕ) → is_dead_in fs n x i ≡ false
 settled_here es fs x n thin i = live_left (found_in es x) (found_in fs x) n (λ j. thin x j ∙ ap (λ b. cond (b && is_dead_in es n x j) None (found_in es x j)) (key_itself x)) i
 
-pub partly_one : (es fs : Stored) (x : List ℕ) (n : ℕ) → IsThinnedAt es fs x n → ArePartlyThinned es fs n
-partly_one es fs x n thin = record {
+pub partly_one : (es fs : Stored) (x : List ℕ) (n : ℕ) → IsThinnedAt es fs x n → HaveSameMarks es fs → ArePartlyThinned es fs n
+partly_one es fs x n thin marks = record {
+  marks = marks;
   found = λ y i. thin y i ∙ by_test (bytes_eq x y)
       (λ here. let none : is_dead_in fs n y i ≡ false = settled y i here in rw (here, none) (ap (λ b. cond b None (found_in es y i)) (sym (and-true (is_dead_in es n y i)))))
       (λ there. let same : is_dead_in fs n y i ≡ is_dead_in es n y i = alike y i there in rw (there, same) (never (is_dead_in es n y i) (found_in es y i)));
@@ -98,6 +99,7 @@ partly_one es fs x n thin = record {
 -- then some more
 pub partly_more : (es fs gs : Stored) (n : ℕ) → ArePartlyThinned es fs n → ArePartlyThinned fs gs n → ArePartlyThinned es gs n
 partly_more es fs gs n one more = record {
+  marks = λ y j. more.marks y j ∙ one.marks y j;
   found = λ y i. more.found y i ∙ ap (cond (is_dead_in fs n y i && not (is_dead_in gs n y i)) None) (one.found y i) ∙ both (is_dead_in es n y i) (is_dead_in fs n y i) (is_dead_in gs n y i) (found_in es y i) (one.fewer y i) (more.fewer y i);
   fewer = λ y i dead. one.fewer y i (more.fewer y i dead);
 }
@@ -109,8 +111,8 @@ partly_more es fs gs n one more = record {
     both false true c o f g = (let no : false ≡ true = f refl in cc)
     both false false c o f g = refl
 
-pub partly_next : (es fs gs : Stored) (x : List ℕ) (n : ℕ) → ArePartlyThinned es fs n → IsThinnedAt fs gs x n → ArePartlyThinned es gs n
-partly_next es fs gs x n one thin = partly_more es fs gs n one (partly_one fs gs x n thin)
+pub partly_next : (es fs gs : Stored) (x : List ℕ) (n : ℕ) → ArePartlyThinned es fs n → IsThinnedAt fs gs x n → HaveSameMarks fs gs → ArePartlyThinned es gs n
+partly_next es fs gs x n one thin marks = partly_more es fs gs n one (partly_one fs gs x n thin marks)
 
 -- what was not dead stays so
 pub settled_still : (es fs : Stored) (n : ℕ) → ArePartlyThinned es fs n → (y : List ℕ) (i : ℕ) → is_dead_in es n y i ≡ false → is_dead_in fs n y i ≡ false

@@ -3,14 +3,14 @@ use Rattle.std.proofs.Common.{Bool, List, None, Option, Some, cond, false, refl,
 use Rattle.std.specs.Prelude.{bytes_eq, option_map}
 use Rattle.spans.proofs.WriteSets.{has}
 use Rattle.version_chain.specs.declared.chain.Version.{Version}
-use Rattle.version_chain.specs.Chains.{AreChangedAt, Entry, IsChangedAt, found_in}
+use Rattle.version_chain.specs.Chains.{AreChangedAt, IsChangedAt, Stored, found_in}
 use Rattle.version_chain.specs.Versions.{as_committed}
 
 -- what changes the rest of the keys after fs changes all of them after es
-abbrev pub IsChanging : List Entry → List Entry → List (List ℕ) → List (List ℕ) → ℕ → (Option Version → Option Version) → Type 0
-IsChanging es fs keys rest t f = (gs : List Entry) → AreChangedAt fs gs rest t f → AreChangedAt es gs keys t f
+abbrev pub IsChanging : Stored → Stored → List (List ℕ) → List (List ℕ) → ℕ → (Option Version → Option Version) → Type 0
+IsChanging es fs keys rest t f = (gs : Stored) → AreChangedAt fs gs rest t f → AreChangedAt es gs keys t f
 
-pub changes_none : (es : List Entry) (t : ℕ) (f : Option Version → Option Version) → AreChangedAt es es [] t f
+pub changes_none : (es : Stored) (t : ℕ) (f : Option Version → Option Version) → AreChangedAt es es [] t f
 changes_none es t f y i = as_it_was (t == i) (f (found_in es y i)) (found_in es y i)
   where
     as_it_was : (a : Bool) (p o : Option Version) → o ≡ cond (a && false) p o
@@ -18,7 +18,7 @@ changes_none es t f y i = as_it_was (t == i) (f (found_in es y i)) (found_in es 
     as_it_was false p o = refl
 
 -- of a change that made twice is made once
-pub changes_more : (es fs gs : List Entry) (x : List ℕ) (keys : List (List ℕ)) (t : ℕ) (f : Option Version → Option Version) → ((o : Option Version) → f (f o) ≡ f o) → IsChangedAt es fs x t f → AreChangedAt fs gs keys t f → AreChangedAt es gs (x ∷ keys) t f
+pub changes_more : (es fs gs : Stored) (x : List ℕ) (keys : List (List ℕ)) (t : ℕ) (f : Option Version → Option Version) → ((o : Option Version) → f (f o) ≡ f o) → IsChangedAt es fs x t f → AreChangedAt fs gs keys t f → AreChangedAt es gs (x ∷ keys) t f
 changes_more es fs gs x keys t f twice one more y i = more y i ∙ ap (λ o. cond ((t == i) && has y keys) (f o) o) (one y i) ∙ both (t == i) (bytes_eq x y) (has y keys) (found_in es y i)
   where
     both : (a b c : Bool) (o : Option Version) → cond (a && c) (f (cond (a && b) (f o) o)) (cond (a && b) (f o) o) ≡ cond (a && (b || c)) (f o) o

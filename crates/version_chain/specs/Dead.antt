@@ -7,7 +7,7 @@ use Rattle.spans.specs.Newest.{newest}
 use Rattle.kept.specs.Lists.{AreThose}
 use Rattle.version_chain.specs.declared.chain.Version.{Version}
 use Rattle.version_chain.specs.Versions.{version_of}
-use Rattle.version_chain.specs.Chains.{found_in}
+use Rattle.version_chain.specs.Chains.{HaveSameMarks, found_in}
 use Rattle.version_chain.specs.Stores.{Stored, after_of, is_committed, version_in, is_committed_in}
 
 -- the version of x at t, where it is committed
@@ -56,5 +56,6 @@ IsThinnedAt s s' x n = (y : List ℕ) (i : ℕ) → found_in s' y i ≡ (if byte
 
 -- some of what is dead by n is gone, and the rest of it is dead still
 pub record ArePartlyThinned (s s' : Stored) (n : ℕ) : Type 0 where
+  pub marks : HaveSameMarks s s'
   pub found : (y : List ℕ) (i : ℕ) → found_in s' y i ≡ (if is_dead_in s n y i && not (is_dead_in s' n y i) then None else found_in s y i)
   pub fewer : (y : List ℕ) (i : ℕ) → is_dead_in s' n y i ≡ true → is_dead_in s n y i ≡ true

@@ -5,7 +5,7 @@ use Rattle.std.specs.BTreeMap.{is_at}
 use Rattle.std.specs.Ordering.{nat_cmp}
 use Rattle.spans.proofs.WriteSets.{has}
 use Rattle.version_chain.specs.declared.index.Index.{Index}
-use Rattle.version_chain.specs.Chains.{Entry, found_in}
+use Rattle.version_chain.specs.Chains.{Stored, found_in}
 use Rattle.version_chain.specs.Stores.{IsCountOf}
 use Rattle.version_chain.specs.Dead.{is_dead_in}
 
@@ -65,11 +65,11 @@ AreBetween a b [] = Unit {0}
 AreBetween a b (e ∷ es) = (a < e.0) × (e.0 ≤ b) × AreBetween e.0 b es
 
 -- a key is among those of a timestamp exactly where it has a version there
-abbrev pub IsIndexOf : List Entry → Index → Type 0
+abbrev pub IsIndexOf : Stored → Index → Type 0
 IsIndexOf es index = (x : List ℕ) (t : ℕ) → is_listed index x t ≡ is_some (found_in es x t)
 
 -- the index and the count are of the chains, of which nothing is dead by the horizon
-pub record IsSound (es : List Entry) (index : Index) (n horizon : ℕ) : Type 0 where
+pub record IsSound (es : Stored) (index : Index) (n horizon : ℕ) : Type 0 where
   pub counted : IsCountOf es n
   pub indexed : IsIndexOf es index
   pub filled : IsFilled index

@@ -4,6 +4,8 @@ pub mod Layout
 pub mod Chains
 pub mod ByNumber
 pub mod Stores
+pub mod Marking
+pub mod Records
 pub mod InSpans
 pub mod Dead
 pub mod Indexes

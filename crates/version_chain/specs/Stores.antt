@@ -4,11 +4,8 @@ use Rattle.spans.specs.Effects.{After}
 use Rattle.spans.specs.Collection.{VersionName}
 use Rattle.kept.specs.Lists.{AreThose, IsNumberOf}
 use Rattle.version_chain.specs.declared.chain.Version.{Version}
-use Rattle.version_chain.specs.Chains.{Entry, found_in}
-
--- what a store is seen as: the keys that have versions, each with its versions
-abbrev pub Stored : Type 0
-Stored = List Entry
+pub use Rattle.version_chain.specs.Chains.{HaveSameMarks, Stored, marked_in}
+use Rattle.version_chain.specs.Chains.{found_in}
 
 abbrev pub after_of : Option Version → Option After
 after_of o = option_map (λ (v : Version). v.after) o

@@ -1,5 +1,6 @@
 -- The versions of one key: at most one at each timestamp.
-use Rattle.std.specs.Prelude.{ℕ, List, [], ◌∷◌, true, ◌≡◌, ◌<◌, ◌≤◌, ◌==◌, length, slice_index_or, if◌then◌else◌, Option, Some, None}
+use Rattle.std.specs.Prelude.{ℕ, List, [], ◌∷◌, true, ◌≡◌, ◌<◌, ◌≤◌, ◌==◌, length, slice_index_or, if◌then◌else◌, Option, Some, None, option_map}
+use Rattle.spans.specs.Effects.{After}
 use Rattle.version_chain.specs.declared.chain.Version.{Version}
 
 -- all are above t
@@ -57,3 +58,12 @@ pub record IsLeastAbove (vs : List Version) (t : ℕ) (v : Version) : Type 0 whe
 -- the version, marked as committed
 abbrev pub as_committed : Version → Version
 as_committed v = record v { committed = true }
+
+-- what each version left
+abbrev pub afters_of : List Version → ℕ → Option After
+afters_of vs i = option_map (λ (v : Version). v.after) (version_of vs i)
+
+-- the timestamp of the version, or else that of `none`
+abbrev pub ts_or : Option Version → ℕ → ℕ
+ts_or None none = none
+ts_or (Some v) none = v.ts

@@ -1,110 +1,130 @@
-//! The chains of all keys.
-ghost use Rattle.std.specs.Prelude.{◌≡◌, ℕ, List, [], Some, None, MatchOption, IfOk, OnOk, OnErr, is_some, is_none, option_map, true, false, bytes_eq, ◌&&◌, if◌then◌else◌, ◌<◌, ◌≤◌, ◌-◌, length, vec_len, vec_capacity};
+//! The records of all keys, and the latest reader of the keys without one.
+ghost use Rattle.std.specs.Prelude.{◌≡◌, ◌↔◌, ℕ, List, [], Some, None, MatchOption, IfOk, OnOk, OnErr, IsTrue, is_some, is_none, option_map, true, false, bytes_eq, ◌&&◌, if◌then◌else◌, ◌<◌, ◌≤◌, ◌-◌, length, nat_lt, vec_len, vec_capacity};
+ghost use Rattle.std.specs.List.{filter};
+ghost use Rattle.spans.specs.Kept.{IsCrossed};
+ghost use Rattle.spans.specs.KeyOrder.{key_lt};
+ghost use Rattle.spans.proofs.Keyed.{RisingKeys};
+ghost use Rattle.key_table.specs.Numbers.{number_in};
+ghost use Rattle.read_marks.specs.Spans.{latest_in};
 ghost use Rattle.version_chain.specs.declared.chain.Version.{Version};
+ghost use Rattle.version_chain.specs.declared.record.Record.{Record};
 ghost use Rattle.version_chain.specs.Versions.{as_committed, IsNoneUpTo, IsNewestOf, IsNoneAbove, IsLeastAbove};
-ghost use Rattle.version_chain.specs.Chains.{found_in, chain_of, AreChangedAt, IsChangedAt};
-ghost use Rattle.version_chain.specs.Stores.{is_committed_in, IsCountOf};
+ghost use Rattle.version_chain.specs.Chains.{found_in, chain_of, AreChangedAt, HaveSameChains, HaveSameMarks, IsChangedAt, marked_in};
+ghost use Rattle.version_chain.specs.Stores.{is_committed_in, version_in, IsCountOf};
+ghost use Rattle.version_chain.specs.Marking.{AreMarkedAt, IsMarkedAt};
 ghost use Rattle.version_chain.specs.Walking.{IsCommittedAt, IsFirstAmong, IsNoneAmong, keys_ahead};
-ghost use Rattle.version_chain.specs.ByNumber.{AreKept, AreKeptBut, IsPutAt, chain_by};
-ghost use Rattle.key_table.specs.Numbers.{number_in, IsOwn};
+ghost use Rattle.version_chain.specs.ByNumber.{AreLow, IsPlaced};
 ghost use Rattle.version_chain.specs.InSpans.{AreFound};
 ghost use Rattle.version_chain.specs.Dead.{is_dead_in, IsThinnedAt};
 ghost use Rattle.version_chain.specs.Indexes.{is_listed, AreTakenAlike};
-ghost use Rattle.spans.proofs.Keyed.{RisingKeys};
-ghost use Rattle.spans.specs.KeyOrder.{key_lt};
-ghost use Rattle.std.specs.List.{filter};
 
 use crate::chain::{Chain, Version};
-use crate::in_span::{InSpan, start_at};
+use crate::in_span::{InSpan, numbers_in};
 use crate::index::Index;
+use crate::noting::{make_room, note_each};
+use crate::record::Record;
 use crate::steps::Steps;
 use key_set::Keys;
 use key_table::KeyTable;
+use read_marks::{Readers, SpanMarks};
 use spans::span::Span;
 use std::alloc::{AllocError, Global};
 use std::iter::Iterator;
-use std::marker::Model;
 use timestamps::key::Key;
 
-/// The keys with a version, each with its chain.
+// Fewer records that came or lost their last version since the last sweep bring no other. So many take up to 2 MB.
+const LEAST_SWEEP: usize = 16_384;
+
+/// The keys that have a version, or were read by themselves, or were read while they had one: each with its record. Any other
+/// key has no version, and of its readers the latest alone is kept, by spans.
 #[derive(Drop)]
 pub(crate) struct Chains {
     alloc: Global,
     keys: KeyTable,
-    /// By the numbers of their keys. Those that are free have no version.
-    chains: Vec<Chain>,
-}
-
-impl Model for Chains {
-    ghost use Rattle.std.specs.Prelude.{List};
-    ghost use Rattle.version_chain.specs.Chains.{Entry};
-    ghost use Rattle.version_chain.specs.ByNumber.{AreKept, entries_of};
-
-    ghost Value = { List Entry };
-
-    ghost view = { λ c. entries_of c.keys c.chains.items };
-
-    ghost invariant = { λ c. AreKept c.keys c.chains.items };
+    /// By the numbers of their keys. Those that are free have no version and no reader.
+    records: Vec<Record>,
+    spans: SpanMarks,
+    /// Readers up to it count as none.
+    forgotten: u64,
+    /// How many records came, or lost their last version, since the last sweep.
+    changed: usize,
+    pub ghost low: { AreLow keys (length records.items) },
 }
 
 impl Chains {
-    /// No chain.
+    ghost use Rattle.version_chain.specs.Records.{AreSwept, HasNoRecord, IsNumberOf, IsPut, IsRecordOf, IsSweptFrom, MayGo, stored_of};
+
+    /// No record.
     pub(crate) fn new(alloc: Global) -> Chains
-        ensures { (x : List ℕ) (i : ℕ) → found_in result x i ≡ None }
+        ensures found { (x : List ℕ) (i : ℕ) → found_in (stored_of result) x i ≡ None }
+        ensures marks { (x : List ℕ) (j : ℕ) → marked_in (stored_of result) x j ≡ false }
     {
         Chains {
             alloc,
             keys: KeyTable::new(alloc),
-            chains: Vec::new(alloc),
+            records: Vec::new(alloc),
+            spans: SpanMarks::new(alloc),
+            forgotten: 0,
+            changed: 0,
         }
     }
 
-    /// The chain of a key, where it has a version.
-    fn chain(&self, key: &Key) -> Option<&Chain>
-        ensures { MatchOption result (chain_of self.now key.now ≡ []) (λ chain. chain.now ≡ chain_of self.now key.now) }
+    /// The record of a key, where it has one.
+    fn record(&self, key: &Key) -> Option<&Record>
+        ensures { MatchOption result (HasNoRecord self.now key.now) (λ r. IsRecordOf self.now key.now r.now) }
     {
         let number = self.keys.number_of(key)?;
-        Some(&self.chains[number])
+        Some(&self.records[number])
     }
 
     /// The version of the key with the greatest timestamp at or below `t`.
     pub(crate) fn newest_at(&self, key: &Key, t: u64) -> Option<&Version>
-        ensures { MatchOption result (IsNoneUpTo (chain_of self.now key.now) t)
-            (λ v. IsNewestOf (chain_of self.now key.now) t v.now) }
+        ensures { MatchOption result (IsNoneUpTo (chain_of (stored_of self.now) key.now) t)
+            (λ v. IsNewestOf (chain_of (stored_of self.now) key.now) t v.now) }
     {
-        match self.chain(key) {
+        match self.record(key) {
             None => None,
-            Some(chain) => chain.newest_at(t, &mut Steps::new()),
+            Some(record) => record.chain.newest_at(t, &mut Steps::new()),
         }
     }
 
     /// The version of the key with the least timestamp above `t`.
     pub(crate) fn next_above(&self, key: &Key, t: u64) -> Option<&Version>
-        ensures { MatchOption result (IsNoneAbove (chain_of self.now key.now) t)
-            (λ v. IsLeastAbove (chain_of self.now key.now) t v.now) }
+        ensures { MatchOption result (IsNoneAbove (chain_of (stored_of self.now) key.now) t)
+            (λ v. IsLeastAbove (chain_of (stored_of self.now) key.now) t v.now) }
     {
-        match self.chain(key) {
+        match self.record(key) {
             None => None,
-            Some(chain) => chain.next_above(t, &mut Steps::new()),
+            Some(record) => record.chain.next_above(t, &mut Steps::new()),
         }
     }
 
     /// The version of the key with the greatest timestamp at or below `t`, and the one with the least above `t`.
     pub(crate) fn around(&self, key: &Key, t: u64) -> (Option<&Version>, Option<&Version>)
-        ensures newest { MatchOption result.0 (IsNoneUpTo (chain_of self.now key.now) t)
-            (λ v. IsNewestOf (chain_of self.now key.now) t v.now) }
-        ensures next { MatchOption result.1 (IsNoneAbove (chain_of self.now key.now) t)
-            (λ v. IsLeastAbove (chain_of self.now key.now) t v.now) }
+        ensures newest { MatchOption result.0 (IsNoneUpTo (chain_of (stored_of self.now) key.now) t)
+            (λ v. IsNewestOf (chain_of (stored_of self.now) key.now) t v.now) }
+        ensures next { MatchOption result.1 (IsNoneAbove (chain_of (stored_of self.now) key.now) t)
+            (λ v. IsLeastAbove (chain_of (stored_of self.now) key.now) t v.now) }
     {
-        match self.chain(key) {
+        match self.record(key) {
             None => (None, None),
-            Some(chain) => chain.around(t, &mut Steps::new()),
+            Some(record) => record.chain.around(t, &mut Steps::new()),
+        }
+    }
+
+    /// Whether a reader above `t` has read the version of the key below it.
+    pub(crate) fn is_crossed(&self, key: &Key, t: u64) -> bool
+        ensures { IsTrue result ↔ IsCrossed (marked_in (stored_of self.now) key.now) (version_in (stored_of self.now) key.now) t }
+    {
+        match self.record(key) {
+            None => self.spans.latest(key) > t.max(self.forgotten),
+            Some(record) => record.is_crossed(t, self.forgotten),
         }
     }
 
     /// The version of the key at `ts`, where it is committed.
     fn committed_at(&self, key: &Key, ts: u64) -> Option<&Version>
-        ensures { MatchOption result (is_committed_in self.now key.now ts ≡ false) (λ v. IsCommittedAt self.now key.now ts v.now) }
+        ensures { MatchOption result (is_committed_in (stored_of self.now) key.now ts ≡ false) (λ v. IsCommittedAt (stored_of self.now) key.now ts v.now) }
     {
         let version = self.newest_at(key, ts)?;
         if version.ts.get() != ts || !version.committed {
@@ -120,8 +140,8 @@ impl Chains {
         ts: u64,
     ) -> Option<(&'a Key, &'a Version)>
         requires { RisingKeys (keys_ahead keys.old) }
-        ensures first { MatchOption result (IsNoneAmong self.now (keys_ahead keys.old) ts)
-            (λ found. IsFirstAmong self.now (keys_ahead keys.old) ts found.0.now found.1.now) }
+        ensures first { MatchOption result (IsNoneAmong (stored_of self.now) (keys_ahead keys.old) ts)
+            (λ found. IsFirstAmong (stored_of self.now) (keys_ahead keys.old) ts found.0.now found.1.now) }
         ensures rest { MatchOption result (keys_ahead keys.new ≡ [])
             (λ found. keys_ahead keys.new ≡ filter (key_lt found.0.now) (keys_ahead keys.old)) }
     {
@@ -136,52 +156,72 @@ impl Chains {
 
     /// The keys of the span that have a version, rising, each with its chain. It goes straight to the first.
     pub(crate) fn in_span<'a>(&'a self, span: &'a Span) -> InSpan<'a>
-        ensures { AreFound span.now self.now result }
+        ensures { AreFound span.now (stored_of self.now).entries result }
     {
-        let ahead = self.keys.range_from(start_at(&span.lo));
-        InSpan::of(span, ahead, &self.chains)
+        InSpan::of(numbers_in(&self.keys, span), &self.records)
+    }
+
+    /// Adds a record of this chain. Its readers begin with the latest of the spans.
+    fn add(&mut self, key: &Key, chain: Chain) -> Result<usize, AllocError>
+        requires new { number_in self.old.keys key.now ≡ None }
+        ensures number { IfOk result (IsNumberOf self.new.keys key.now) }
+        ensures chains { OnOk result (IsPut (stored_of self.old) (stored_of self.new) key.now chain) }
+        ensures err { OnErr result (HaveSameChains (stored_of self.old) (stored_of self.new)) }
+        ensures marks { HaveSameMarks (stored_of self.old) (stored_of self.new) }
+        ensures forgotten { self.new.forgotten ≡ self.old.forgotten }
+    {
+        let readers = Readers::of(self.alloc, self.spans.latest(key))?;
+        self.records.reserve(1)?;
+        let number = self.keys.add(key, self.records.len())?;
+        place(&mut self.records, number, Record { chain, readers });
+        self.changed = self.changed.saturating_add(1);
+        Ok(number)
+    }
+
+    /// The number of the key, which has a record then.
+    fn number_for(&mut self, key: &Key) -> Result<usize, AllocError>
+        ensures number { IfOk result (IsNumberOf self.new.keys key.now) }
+        ensures chains { HaveSameChains (stored_of self.old) (stored_of self.new) }
+        ensures marks { HaveSameMarks (stored_of self.old) (stored_of self.new) }
+        ensures forgotten { self.new.forgotten ≡ self.old.forgotten }
+    {
+        match self.keys.number_of(key) {
+            Some(number) => Ok(number),
+            None => self.add(key, Chain::none(self.alloc)),
+        }
     }
 
     /// Puts a version in, in whose place one may stand, and says whether none did.
     pub(crate) fn write(&mut self, key: &Key, version: Version) -> Result<bool, AllocError>
-        ensures new { IfOk result (λ new. new ≡ is_none (found_in self.old key.now version.ts)) }
-        ensures ok { OnOk result (IsChangedAt self.old self.new key.now version.ts (λ _. Some version)) }
-        ensures err { OnErr result (self.new ≡ self.old) }
+        ensures new { IfOk result (λ new. new ≡ is_none (found_in (stored_of self.old) key.now version.ts)) }
+        ensures ok { OnOk result (IsChangedAt (stored_of self.old) (stored_of self.new) key.now version.ts (λ _. Some version)) }
+        ensures err { OnErr result (HaveSameChains (stored_of self.old) (stored_of self.new)) }
+        ensures marks { HaveSameMarks (stored_of self.old) (stored_of self.new) }
     {
         match self.keys.number_of(key) {
-            Some(number) => self.chains[number].write(version),
+            Some(number) => self.records[number].chain.write(version),
             None => {
-                self.add(key, version)?;
+                let chain = Chain::of(self.alloc, version)?;
+                let _ = self.add(key, chain)?;
                 Ok(true)
             }
         }
     }
 
-    /// Adds a chain of one version.
-    fn add(&mut self, key: &Key, version: Version) -> Result<(), AllocError>
-        requires new { chain_of self.old key.now ≡ [] }
-        ensures ok { OnOk result (IsChangedAt self.old self.new key.now version.ts (λ _. Some version)) }
-        ensures err { OnErr result (self.new ≡ self.old) }
-    {
-        let chain = Chain::of(self.alloc, version)?;
-        self.chains.reserve(1)?;
-        let number = self.keys.add(key, self.chains.len())?;
-        put_at(&mut self.chains, number, chain);
-        Ok(())
-    }
-
     /// Marks a version, where there is one, as committed.
     pub(crate) fn commit(&mut self, key: &Key, ts: u64)
-        ensures { IsChangedAt self.old self.new key.now ts (option_map as_committed) }
+        ensures changed { IsChangedAt (stored_of self.old) (stored_of self.new) key.now ts (option_map as_committed) }
+        ensures marks { HaveSameMarks (stored_of self.old) (stored_of self.new) }
     {
         if let Some(number) = self.keys.number_of(key) {
-            self.chains[number].commit(ts);
+            self.records[number].chain.commit(ts);
         }
     }
 
     /// Marks the versions of these keys at `ts` as committed.
     pub(crate) fn commit_all(&mut self, keys: Keys<'_>, ts: u64)
-        ensures { AreChangedAt self.old self.new keys.entry ts (option_map as_committed) }
+        ensures changed { AreChangedAt (stored_of self.old) (stored_of self.new) keys.entry ts (option_map as_committed) }
+        ensures marks { HaveSameMarks (stored_of self.old) (stored_of self.new) }
     {
         for key in keys {
             self.commit(key, ts);
@@ -190,17 +230,19 @@ impl Chains {
 
     /// Takes a version out, where there is one.
     pub(crate) fn remove(&mut self, key: &Key, ts: u64)
-        ensures { IsChangedAt self.old self.new key.now ts (λ _. None) }
+        ensures changed { IsChangedAt (stored_of self.old) (stored_of self.new) key.now ts (λ _. None) }
+        ensures marks { HaveSameMarks (stored_of self.old) (stored_of self.new) }
     {
         if let Some(number) = self.keys.number_of(key) {
-            self.chains[number].remove(ts);
-            free_empty(&mut self.keys, &mut self.chains, key, number);
+            self.records[number].chain.remove(ts);
+            self.free_idle(number);
         }
     }
 
     /// Takes the versions of these keys at `ts` out.
     pub(crate) fn remove_all(&mut self, keys: Keys<'_>, ts: u64)
-        ensures { AreChangedAt self.old self.new keys.entry ts (λ _. None) }
+        ensures changed { AreChangedAt (stored_of self.old) (stored_of self.new) keys.entry ts (λ _. None) }
+        ensures marks { HaveSameMarks (stored_of self.old) (stored_of self.new) }
     {
         for key in keys {
             self.remove(key, ts);
@@ -209,7 +251,7 @@ impl Chains {
 
     /// Whether the key has a version at `ts`.
     pub(crate) fn has(&self, key: &Key, ts: u64) -> bool
-        ensures { result ≡ is_some (found_in self.now key.now ts) }
+        ensures { result ≡ is_some (found_in (stored_of self.now) key.now ts) }
     {
         match self.newest_at(key, ts) {
             None => false,
@@ -220,45 +262,132 @@ impl Chains {
     /// Drops the versions of a key that are dead by the horizon, takes it out of the index at their
     /// timestamps, and says how many they are.
     pub(crate) fn drop_dead(&mut self, key: &Key, horizon: u64, index: &mut Index) -> u64
-        ensures thinned { IsThinnedAt self.old self.new key.now horizon }
-        ensures counted { (n : ℕ) → IsCountOf self.old n → (result ≤ n) × IsCountOf self.new (n - result) }
+        ensures thinned { IsThinnedAt (stored_of self.old) (stored_of self.new) key.now horizon }
+        ensures counted { (n : ℕ) → IsCountOf (stored_of self.old) n → (result ≤ n) × IsCountOf (stored_of self.new) (n - result) }
         ensures listed { (y : List ℕ) (i : ℕ) → is_listed index.new y i
-            ≡ (if bytes_eq key.now y && is_dead_in self.old horizon y i then false else is_listed index.old y i) }
+            ≡ (if bytes_eq key.now y && is_dead_in (stored_of self.old) horizon y i then false else is_listed index.old y i) }
         ensures taken { AreTakenAlike index.old index.new }
+        ensures marks { HaveSameMarks (stored_of self.old) (stored_of self.new) }
     {
         let Some(number) = self.keys.number_of(key) else {
             return 0;
         };
-        let dropped = self.chains[number].drop_dead(horizon, key, index);
-        free_empty(&mut self.keys, &mut self.chains, key, number);
+        let dropped = self.records[number]
+            .chain
+            .drop_dead(horizon, key, index);
+        self.free_idle(number);
         dropped
     }
-}
 
-/// Puts a chain in the place of a number, which may be the first above all that there are. There is room for one more.
-fn put_at(chains: &mut Vec<Chain>, number: usize, chain: Chain)
-    requires room { vec_len chains.old < vec_capacity chains.old }
-    requires low { number ≤ length chains.old.items }
-    ensures { IsPutAt chains.old.items chains.new.items number chain }
-{
-    if number < chains.len() {
-        chains[number] = chain;
-    } else {
-        chains.push_reserved(chain);
+    /// Whether a record may go: it has no version, and neither it nor the spans have a reader of its key that isn't forgotten.
+    fn may_go(&self, number: usize) -> bool
+        requires { number < length self.now.records.items }
+        ensures { result ≡ true → MayGo self.now number }
+    {
+        if !self.records[number].is_idle(self.forgotten) {
+            return false;
+        }
+        match self.keys.key_of(number) {
+            None => false,
+            Some(key) => self.spans.latest(key) <= self.forgotten,
+        }
+    }
+
+    /// Frees a record that may go.
+    fn free_idle(&mut self, number: usize)
+        requires { number < length self.old.records.items }
+        ensures chains { HaveSameChains (stored_of self.old) (stored_of self.new) }
+        ensures marks { HaveSameMarks (stored_of self.old) (stored_of self.new) }
+        ensures swept { IsSweptFrom self.old self.new }
+    {
+        if self.may_go(number) {
+            self.keys.free_at(number);
+            self.records[number] = Record::none(self.alloc);
+        } else if self.records[number].chain.is_empty() {
+            self.changed = self.changed.saturating_add(1);
+        }
+    }
+
+    /// Takes out each reader that is forgotten, and frees each record that may go. It takes no memory, but for the copy of a
+    /// long start of a span.
+    fn sweep(&mut self)
+        ensures chains { HaveSameChains (stored_of self.old) (stored_of self.new) }
+        ensures marks { HaveSameMarks (stored_of self.old) (stored_of self.new) }
+        ensures swept { AreSwept self.new }
+    {
+        self.spans.forget_through(self.forgotten);
+        for number in 0..self.records.len() {
+            self.records[number]
+                .readers
+                .forget_through(self.forgotten);
+            self.free_idle(number);
+        }
+        self.changed = 0;
+    }
+
+    /// A reader that counts as forgotten can't be kept, and so a sweep comes first. One comes too where many records came, or
+    /// lost their last version. Mostly these are two comparisons.
+    #[inline(always)]
+    fn make_room_for(&mut self, ts: u64)
+        requires { 0 < ts }
+        ensures chains { HaveSameChains (stored_of self.old) (stored_of self.new) }
+        ensures marks { HaveSameMarks (stored_of self.old) (stored_of self.new) }
+        ensures late { self.new.forgotten < ts }
+    {
+        if ts <= self.forgotten || self.changed >= LEAST_SWEEP.max(self.records.len() / 4) {
+            self.sweep();
+            self.forgotten = self.forgotten.min(ts - 1);
+        }
+    }
+
+    /// Of the key's readers above `above` and up to `until`, and `ts`, the greatest alone stays.
+    pub(crate) fn mark(&mut self, key: &Key, ts: u64, above: u64, until: u64) -> Result<(), AllocError>
+        requires low { above < ts }
+        requires high { ts ≤ until }
+        ensures ok { OnOk result (IsMarkedAt (stored_of self.old) (stored_of self.new) key.now ts above until) }
+        ensures err { OnErr result (HaveSameMarks (stored_of self.old) (stored_of self.new)) }
+        ensures chains { HaveSameChains (stored_of self.old) (stored_of self.new) }
+    {
+        self.make_room_for(ts);
+        let number = self.number_for(key)?;
+        self.records[number]
+            .readers
+            .note(ts, above, until, self.forgotten)
+    }
+
+    /// Notes the read of a span: at each record of the span in the gap of its own read, and at all other keys by the span.
+    /// Room is made first, so that the records are noted without memory.
+    pub(crate) fn mark_all(&mut self, span: &Span, ts: u64) -> Result<(), AllocError>
+        requires { 0 < ts }
+        ensures ok { OnOk result (AreMarkedAt (stored_of self.old) (stored_of self.new) span.now ts) }
+        ensures err { OnErr result (HaveSameMarks (stored_of self.old) (stored_of self.new)) }
+        ensures chains { HaveSameChains (stored_of self.old) (stored_of self.new) }
+    {
+        self.make_room_for(ts);
+        make_room(&self.keys, &mut self.records, span)?;
+        self.spans.raise(span, ts)?;
+        note_each(&self.keys, &mut self.records, span, ts, self.forgotten);
+        Ok(())
+    }
+
+    /// Each reader up to `ts` counts as none.
+    pub(crate) fn forget_through(&mut self, ts: u64)
+        ensures marks { (x : List ℕ) (j : ℕ) → marked_in (stored_of self.new) x j ≡ (nat_lt ts j && marked_in (stored_of self.old) x j) }
+        ensures chains { HaveSameChains (stored_of self.old) (stored_of self.new) }
+    {
+        self.forgotten = self.forgotten.max(ts);
     }
 }
 
-/// Frees the number of a key whose chain has become empty, and the memory of that chain.
-fn free_empty(keys: &mut KeyTable, chains: &mut Vec<Chain>, key: &Key, number: usize)
-    requires number { number_in keys.old key.now ≡ Some number }
-    requires own { IsOwn keys.old key.now number }
-    requires within { number < length chains.old.items }
-    ensures chains { (y : List ℕ) → chain_by keys.new chains.new.items y ≡ chain_by keys.old chains.old.items y }
-    ensures kept { AreKeptBut keys.old chains.old.items number → AreKept keys.new chains.new.items }
+/// Puts a record in the place of a number, which may be the first above all that there are. There is room for one more.
+fn place(records: &mut Vec<Record>, number: usize, one: Record)
+    requires room { vec_len records.old < vec_capacity records.old }
+    requires low { number ≤ length records.old.items }
+    ensures { IsPlaced records.old.items records.new.items number one }
 {
-    if chains[number].is_empty() {
-        keys.free(key, number);
-        let alloc = *chains.allocator();
-        chains[number] = Chain::none(alloc);
+    if number < records.len() {
+        records[number] = one;
+    } else {
+        records.push_reserved(one);
     }
 }

@@ -39,12 +39,13 @@ impl<'a> Model for CommittedAfter<'a> {
     ghost use Rattle.std.specs.Option.{option_copied};
     ghost use Rattle.version_chain.specs.Following.{Walk};
     ghost use Rattle.version_chain.specs.Walking.{IsAhead, keys_ahead};
+    ghost use Rattle.version_chain.specs.Records.{stored_of};
 
     ghost Value = { Walk };
 
-    ghost view = { λ w. record { store = w.chains.now; ts = w.ts; key = option_copied w.key; through = w.through } };
+    ghost view = { λ w. record { store = stored_of w.chains.now; ts = w.ts; key = option_copied w.key; through = w.through } };
 
-    ghost invariant = { λ w. IsAhead (record { store = w.chains.now; ts = w.ts; key = option_copied w.key; through = w.through }) w.at (keys_ahead w.keys) w.later };
+    ghost invariant = { λ w. IsAhead (record { store = stored_of w.chains.now; ts = w.ts; key = option_copied w.key; through = w.through }) w.at (keys_ahead w.keys) w.later };
 }
 
 impl<'a> CommittedAfter<'a> {

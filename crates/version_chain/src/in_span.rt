@@ -1,18 +1,19 @@
-//! The keys of a span that have a version.
+//! The keys of a span: those with a number, and those with a version.
 ghost use Rattle.timestamps.specs.declared.key.TheConstants.{MAX_KEY_BYTES};
 ghost use Rattle.std.specs.Prelude.{◌≡◌, ◌≤◌, length};
+ghost use Rattle.std.specs.Map.{keys_of};
 ghost use Rattle.std.specs.Map.Iter.{TakesFirst, deref_pair};
 ghost use Rattle.std.specs.Iterator.{at_most};
-ghost use Rattle.std.specs.List.{filter};
 ghost use Rattle.std.specs.Range.Bound.{bound_map};
-ghost use Rattle.spans.specs.Keys.{in_span};
 ghost use Rattle.spans.specs.KeyOrder.{below_high};
-ghost use Rattle.version_chain.specs.Chains.{Entry};
-ghost use Rattle.version_chain.specs.ByNumber.{entries_of};
 ghost use Rattle.spans.specs.Starting.{start_of};
-ghost use Rattle.version_chain.specs.InSpans.{AreAhead};
+ghost use Rattle.spans.proofs.Keyed.{RisingKeys};
+ghost use Rattle.version_chain.specs.ByNumber.{chains_in, entries_of};
+ghost use Rattle.version_chain.specs.InSpans.{filled, numbered_in};
 
 use crate::chain::Chain;
+use crate::record::Record;
+use key_table::KeyTable;
 use spans::bound::Bound;
 use spans::span::Span;
 use std::cmp::Ordering;
@@ -22,45 +23,74 @@ use std::marker::Model;
 use std::ops;
 use timestamps::key::Key;
 
-/// The keys of a span that have a version, rising, each with its chain. A step goes to the next key,
-/// and ends at the first one above the span.
+/// The keys of a span that have a number, rising, each with its number. A step goes to the next key, and ends at the first
+/// one above the span.
 #[derive(Drop)]
-pub struct InSpan<'a> {
+pub(crate) struct NumbersIn<'a> {
     span: &'a Span,
     ahead: Range<'a, Key, usize>,
-    chains: &'a [Chain],
+}
+
+impl<'a> Model for NumbersIn<'a> {
+    ghost use Rattle.key_table.specs.Numbers.{Numbered};
+    ghost use Rattle.version_chain.specs.InSpans.{AreAhead, numbered_in};
+
+    ghost Value = { Numbered };
+
+    ghost view = { λ s. numbered_in s.span.now s.ahead };
+
+    ghost invariant = { λ s. AreAhead s.span.now.lo s.ahead };
+}
+
+/// The keys of the span, from the first on.
+pub(crate) fn numbers_in<'a>(keys: &'a KeyTable, span: &'a Span) -> NumbersIn<'a>
+    ensures those { result ≡ numbered_in span.now keys.now }
+    ensures rising { RisingKeys (keys_of keys.now) }
+{
+    let ahead = keys.range_from(start_at(&span.lo));
+    NumbersIn { span, ahead }
+}
+
+impl<'a> Iterator for NumbersIn<'a> {
+    type Item = (&'a Key, &'a usize);
+
+    ghost next_gives = { TakesFirst deref_pair };
+
+    ghost remaining = { λ s. at_most (length s) };
+
+    fn next(&mut self) -> Option<(&'a Key, &'a usize)> {
+        let (key, number) = self.ahead.next()?;
+        if !is_below(&self.span.hi, key) {
+            return None;
+        }
+        Some((key, number))
+    }
+}
+
+/// The keys of a span that have a version, rising, each with its chain.
+#[derive(Drop)]
+pub struct InSpan<'a> {
+    numbers: NumbersIn<'a>,
+    records: &'a [Record],
 }
 
 impl<'a> Model for InSpan<'a> {
     ghost use Rattle.std.specs.Prelude.{List};
-    ghost use Rattle.std.specs.List.{filter};
-    ghost use Rattle.spans.specs.Keys.{in_span};
     ghost use Rattle.version_chain.specs.Chains.{Entry};
-    ghost use Rattle.version_chain.specs.ByNumber.{entries_of};
-    ghost use Rattle.version_chain.specs.InSpans.{AreAhead};
+    ghost use Rattle.version_chain.specs.ByNumber.{chains_in, entries_of};
+    ghost use Rattle.version_chain.specs.InSpans.{filled};
 
     ghost Value = { List Entry };
 
-    ghost view = { λ s. filter (λ (e : Entry). in_span s.span.now e.0) (entries_of s.ahead s.chains.now) };
-
-    ghost invariant = { λ s. AreAhead s.span.now.lo (entries_of s.ahead s.chains.now) };
+    ghost view = { λ s. filled (entries_of s.numbers (chains_in s.records.now)) };
 }
 
 impl<'a> InSpan<'a> {
-    /// Those of the span that are ahead.
-    pub(crate) fn of(
-        span: &'a Span,
-        ahead: Range<'a, Key, usize>,
-        chains: &'a [Chain],
-    ) -> InSpan<'a>
-        requires { AreAhead span.now.lo (entries_of ahead chains.now) }
-        ensures { result ≡ filter (λ (e : Entry). in_span span.now e.0) (entries_of ahead.entry chains.now) }
+    /// Those of the numbers that have a version.
+    pub(crate) fn of(numbers: NumbersIn<'a>, records: &'a [Record]) -> InSpan<'a>
+        ensures { result ≡ filled (entries_of numbers.entry (chains_in records.now)) }
     {
-        InSpan {
-            span,
-            ahead,
-            chains,
-        }
+        InSpan { numbers, records }
     }
 }
 
@@ -72,11 +102,14 @@ impl<'a> Iterator for InSpan<'a> {
     ghost remaining = { λ s. at_most (length s) };
 
     fn next(&mut self) -> Option<(&'a Key, &'a Chain)> {
-        let (key, number) = self.ahead.next()?;
-        if !is_below(&self.span.hi, key) {
-            return None;
+        while let Some((key, number)) = self.numbers.next() {
+            if let Some(record) = self.records.get(*number) {
+                if !record.chain.is_empty() {
+                    return Some((key, &record.chain));
+                }
+            }
         }
-        Some((key, &self.chains[*number]))
+        None
     }
 }
 
@@ -93,7 +126,7 @@ fn is_below(high: &Option<Bound>, key: &Key) -> bool
 }
 
 /// The bound from which keys are asked for, where there is one.
-pub(crate) fn start_at(low: &Option<Bound>) -> ops::Bound<&Key>
+fn start_at(low: &Option<Bound>) -> ops::Bound<&Key>
     ensures { bound_map (λ k. k.now) result ≡ start_of low.now }
 {
     match low {

@@ -57,6 +57,8 @@ mod chains;
 mod committed_after;
 pub mod in_span;
 mod index;
+mod noting;
+mod record;
 mod steps;
 mod store;
 mod versions;

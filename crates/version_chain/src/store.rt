@@ -1,14 +1,17 @@
 //! The versions of all keys, by key.
-ghost use Rattle.std.specs.Prelude.{◌≡◌, ℕ, List, ◌≤◌, None, Some, MatchOption, IfOk, OnOk, OnErr, is_some, true, false};
+ghost use Rattle.std.specs.Prelude.{◌≡◌, ◌↔◌, ℕ, List, ◌≤◌, ◌<◌, ◌&&◌, None, Some, MatchOption, IfOk, OnOk, OnErr, IsTrue, is_some, nat_lt, true, false};
 ghost use Rattle.std.specs.Option.{option_copied};
 ghost use Rattle.std.specs.List.{filter};
 ghost use Rattle.std.specs.Map.{keys_of};
 ghost use Rattle.spans.specs.Keys.{in_span};
 ghost use Rattle.spans.proofs.Keyed.{RisingKeys};
+ghost use Rattle.spans.specs.Kept.{IsCrossed};
 ghost use Rattle.kept.specs.Finding.{IsNextAbove};
+ghost use Rattle.kept.specs.Marks.{until};
 ghost use Rattle.version_chain.specs.Walking.{IsBeside, keys_ahead};
-ghost use Rattle.version_chain.specs.Chains.{Entry, AreFilled, found_in};
+ghost use Rattle.version_chain.specs.Chains.{Entry, AreFilled, HaveSameMarks, found_in, has_versions, marked_in};
 ghost use Rattle.version_chain.specs.Dead.{is_dead_in, ArePartlyThinned, IsCollectedIn};
+ghost use Rattle.version_chain.specs.Marking.{AreMarkedAt, IsMarkedAt};
 ghost use Rattle.version_chain.specs.Stores.{version_in, IsCountAt, IsCountOf, IsNewestIn, IsAsBefore, IsWrittenTo, AreCommittedAt, AreDroppedAt};
 
 use crate::chain::Version;
@@ -37,18 +40,20 @@ pub struct Store {
 impl Model for Store {
     ghost use Rattle.version_chain.specs.Stores.{Stored};
     ghost use Rattle.version_chain.specs.Indexes.{IsSound};
+    ghost use Rattle.version_chain.specs.Records.{stored_of};
 
     ghost Value = { Stored };
 
-    ghost view = { λ s. s.chains };
+    ghost view = { λ s. stored_of s.chains };
 
-    ghost invariant = { λ s. IsSound s.chains s.index s.count s.dropped_through };
+    ghost invariant = { λ s. IsSound (stored_of s.chains) s.index s.count s.dropped_through };
 }
 
 impl Store {
-    /// No version.
+    /// No version, and no mark.
     pub fn new(alloc: Global) -> Store
-        ensures { (x : List ℕ) (t : ℕ) → version_in result x t ≡ None }
+        ensures versions { (x : List ℕ) (t : ℕ) → version_in result x t ≡ None }
+        ensures marks { (x : List ℕ) (j : ℕ) → marked_in result x j ≡ false }
     {
         Store {
             chains: Chains::new(alloc),
@@ -132,7 +137,8 @@ impl Store {
     /// The keys of the span that have a version, rising, each with its chain, which has at least one
     /// version. It goes straight to the first, and takes no memory.
     pub fn in_span<'a>(&'a self, span: &'a Span) -> InSpan<'a>
-        ensures found { result ≡ filter (λ (e : Entry). in_span span.now e.0) self.now }
+        ensures found { result ≡ filter (λ (e : Entry). in_span span.now e.0 && has_versions e.1) self.now.entries }
+        ensures ordered { RisingKeys (keys_of self.now.entries) }
         ensures rising { RisingKeys (keys_of result) }
         ensures filled { AreFilled result }
     {
@@ -144,6 +150,7 @@ impl Store {
     pub fn write(&mut self, key: &Key, ts: Ts, after: Option<&Value>) -> Result<(), AllocError>
         ensures ok { OnOk result (IsWrittenTo self.old self.new ts key.now (option_copied after.entry)) }
         ensures err { OnErr result (IsAsBefore self.old self.new) }
+        ensures marks { HaveSameMarks self.old self.new }
     {
         // so that one more can be counted
         if self.count == u64::MAX {
@@ -166,6 +173,49 @@ impl Store {
         Ok(())
     }
 
+    /// Whether a reader above `t` has read the version of the key below it, by one search for the key.
+    pub fn is_crossed(&self, key: &Key, t: u64) -> bool
+        ensures { IsTrue result ↔ IsCrossed (marked_in self.now key.now) (version_in self.now key.now) t }
+    {
+        self.chains.is_crossed(key, t)
+    }
+
+    /// Marks the reader of a key, who read the version of `above`, or none where that is 0. The next version is that of `next`.
+    /// Of the key's readers in this gap the greatest alone stays.
+    pub fn mark(
+        &mut self,
+        key: &Key,
+        ts: Ts,
+        above: u64,
+        next: Option<u64>,
+    ) -> Result<(), AllocError>
+        requires low { above < ts }
+        requires high { ts ≤ until next }
+        ensures ok { OnOk result (IsMarkedAt self.old self.new key.now ts above (until next)) }
+        ensures err { OnErr result (HaveSameMarks self.old self.new) }
+        ensures versions { IsAsBefore self.old self.new }
+    {
+        let until = next.unwrap_or(u64::MAX);
+        self.chains.mark(key, ts.get(), above, until)
+    }
+
+    /// Marks the reader of all keys of a span, those without a version too, but for keys where it reads its own.
+    pub fn mark_all(&mut self, span: &Span, ts: Ts) -> Result<(), AllocError>
+        ensures ok { OnOk result (AreMarkedAt self.old self.new span.now ts) }
+        ensures err { OnErr result (HaveSameMarks self.old self.new) }
+        ensures versions { IsAsBefore self.old self.new }
+    {
+        self.chains.mark_all(span, ts.get())
+    }
+
+    /// The marks of each reader up to `ts` go.
+    pub fn forget_through(&mut self, ts: u64)
+        ensures marks { (x : List ℕ) (j : ℕ) → marked_in self.new x j ≡ (nat_lt ts j && marked_in self.old x j) }
+        ensures versions { IsAsBefore self.old self.new }
+    {
+        self.chains.forget_through(ts);
+    }
+
     /// How many keys have a version at `ts`.
     pub fn written_at(&self, ts: u64) -> u64
         ensures { IsCountAt self.now ts result }
@@ -180,6 +230,7 @@ impl Store {
     pub fn commit(&mut self, ts: Ts) -> u64
         ensures committed { AreCommittedAt self.old self.new ts }
         ensures count { IsCountAt self.old ts result }
+        ensures marks { HaveSameMarks self.old self.new }
     {
         let ts = ts.get();
         // a version that commits below it may be dead by it, or make others so
@@ -193,7 +244,8 @@ impl Store {
 
     /// Drops the versions of `ts`. It takes no memory.
     pub fn abort(&mut self, ts: Ts)
-        ensures { AreDroppedAt self.old self.new ts }
+        ensures dropped { AreDroppedAt self.old self.new ts }
+        ensures marks { HaveSameMarks self.old self.new }
     {
         let ts = ts.get();
         let Some(keys) = self.index.remove_all(ts) else {
@@ -208,7 +260,8 @@ impl Store {
     /// visits each key written above the last collection's horizon, or committed below that since, and
     /// scans that key's versions up to `horizon`, rounded up to a whole block. It takes no memory.
     pub fn drop_dead(&mut self, horizon: u64) -> u64
-        ensures { IsCollectedIn self.old self.new horizon result }
+        ensures collected { IsCollectedIn self.old self.new horizon result }
+        ensures marks { HaveSameMarks self.old self.new }
     {
         let before = self.count;
         let from = self.dropped_through;

@@ -3,6 +3,7 @@ use Rattle.spans.proofs.Keyed.{RisingKeys}
 use Rattle.spans.specs.KeyOrder.{key_lt}
 use Rattle.std.specs.List.{filter}
 use Rattle.version_chain.specs.Following.{Walk}
+use Rattle.version_chain.specs.Records.{stored_of}
 use Rattle.version_chain.specs.Walking.{IsAhead, IsFirstAmong, IsNoneAmong, keys_ahead}
 use Rattle.version_chain.proofs.Walking.{ends, finds, goes_on, goes_to, stays}
 use Rattle.version_chain.proofs.committed_after.CommittedAfter.next.Goals as goal
@@ -15,7 +16,7 @@ invariant_of-self c =
     let keys = keys_ahead c.loop-key.self-inside.keys in
     let key = c.in-Some.key.now in
     let first = subst (λ s. IsFirstAmong s keys at key c.in-Some.version.now) (sym (ap (λ (w : Walk). w.store) c.loop-key.invariant.0)) c.in-Some.ensures.first in
-    subst (λ ks. IsAhead (record { store = c.loop-key.self-inside.chains.now; ts = at; key = Some key; through = c.loop-key.self-inside.through }) at ks later) (sym c.in-Some.ensures.rest)
+    subst (λ ks. IsAhead (record { store = stored_of c.loop-key.self-inside.chains.now; ts = at; key = Some key; through = c.loop-key.self-inside.through }) at ks later) (sym c.in-Some.ensures.rest)
     (subst (λ (w : Walk). IsAhead (record w { ts = at; key = Some key }) at (filter (key_lt key) keys) later) c.loop-key.invariant.0
     (goes_to walk at keys later key c.in-Some.version.now c.loop-key.invariant.1 first))
 

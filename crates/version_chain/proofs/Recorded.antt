@@ -1,0 +1,128 @@
+-- What a store is seen as after one record changed, one came, and one went.
+use Rattle.std.proofs.Common.{◌≡◌, ℕ, ◌<◌, ◌≤◌, ◌+◌, ◌==◌, Bool, true, false, cond, ◌&&◌, ◌⊎◌, inl, inr, List, [], ◌∷◌, length, Option, Some, None, refl, sym, ◌∙◌, ap, subst, arith, nat_le, nat_lt, lt-ltb, ltb-false, ltb-true}
+use Rattle.std.specs.Prelude.{bytes_eq, not, slice_index_or, slice_set, nat_eq}
+use Rattle.std.proofs.lemmas.Bool.{and_parts, both_ways, false_from_ne_true}
+use Rattle.std.proofs.lemmas.Bool.Decides.{nat_tests}
+use Rattle.std.proofs.lemmas.List.{length-set}
+use Rattle.std.proofs.Math.Bool.{and-false}
+use Rattle.spans.proofs.Steps.{by_test, same_key}
+use Rattle.kept.specs.Marks.{IsPiece}
+use Rattle.key_table.specs.Numbers.{Numbered, number_in, IsNumberedAt, IsOwn}
+use Rattle.read_marks.specs.Readers.{is_kept, is_reader, readers_of}
+use Rattle.read_marks.specs.Spans.{latest_in}
+use Rattle.read_marks.specs.declared.span_marks.SpanMarks.{SpanMarks}
+use Rattle.version_chain.specs.declared.record.Record.{Record}
+use Rattle.version_chain.specs.declared.chains.Chains.{Chains}
+use Rattle.version_chain.specs.Chains.{Stored, chain_of, marked_in, HaveSameChains, HaveSameMarks}
+use Rattle.version_chain.specs.ByNumber.{AreLow, IsPlaced, IsPutAt, at_number, chains_in, entries_of, readers_in, stored}
+use Rattle.version_chain.specs.Records.{HasNoRecord, IsPut, IsRecordOf, MayGo, stored_of}
+use Rattle.version_chain.proofs.ByNumber.{at_it, at_other, chain_at, chain_is, gone_by_key, low_still, marked_is, numbered_still, placed, put_by_key, readers_at}
+
+-- ---- a key's record
+
+-- x has the number n, and r stands there
+pub record IsHere (ns : Numbered) (rs : List Record) (x : List ℕ) (n : ℕ) (r : Record) : Type 0 where
+  pub number : number_in ns x ≡ Some n
+  pub own : IsOwn ns x n
+  pub low : n < length rs
+  pub value : r ≡ slice_index_or rs n r
+
+module _ (ns : Numbered) (rs : List Record) (spans : SpanMarks) (f : ℕ) (x : List ℕ) where
+  abbrev s : Stored
+  s = stored ns rs spans f
+
+  pub chain_here : (n : ℕ) (r : Record) → IsHere ns rs x n r → chain_of s x ≡ r.chain
+  chain_here n r h = chain_is ns rs spans f x ∙ ap (at_number (chains_in rs) []) h.number ∙ chain_at rs n r h.low h.value
+
+  pub marks_here : (n : ℕ) (r : Record) → IsHere ns rs x n r → (j : ℕ) → marked_in s x j ≡ is_kept f (readers_of r.readers) j
+  marks_here n r h j = marked_is ns rs spans f x j ∙ ap (λ o. is_kept f (at_number (readers_in rs) (latest_in spans x ∷ []) o) j) h.number ∙ ap (λ qs. is_kept f qs j) (readers_at rs n r h.low h.value)
+
+  pub chain_nowhere : number_in ns x ≡ None → chain_of s x ≡ []
+  chain_nowhere none = chain_is ns rs spans f x ∙ ap (at_number (chains_in rs) []) none
+
+  pub marks_nowhere : number_in ns x ≡ None → (j : ℕ) → marked_in s x j ≡ is_kept f (latest_in spans x ∷ []) j
+  marks_nowhere none j = marked_is ns rs spans f x j ∙ ap (λ o. is_kept f (at_number (readers_in rs) (latest_in spans x ∷ []) o) j) none
+
+-- ---- a record takes its place
+
+module _ (ns ms : Numbered) (rs ss : List Record) (spans : SpanMarks) (f : ℕ) (x : List ℕ) (n : ℕ) (r : Record) where
+  abbrev old : Stored
+  old = stored ns rs spans f
+
+  abbrev new : Stored
+  new = stored ms ss spans f
+
+  pub put_chain : IsNumberedAt ns ms x (Some n) → IsOwn ms x n → IsPlaced rs ss n r → IsPut old new x r.chain
+  put_chain numbered own put y =
+      chain_is ms ss spans f y ∙ put_by_key ns ms (chains_in rs) (chains_in ss) x n r.chain numbered own put.chains y [] ∙ ap (cond (bytes_eq x y) r.chain) (sym (chain_is ns rs spans f y))
+
+  kept-cond : (b : Bool) (us vs : List ℕ) (j : ℕ) → is_kept f (cond b us vs) j ≡ cond b (is_kept f us j) (is_kept f vs j)
+  kept-cond true us vs j = refl
+  kept-cond false us vs j = refl
+
+  pub put_marks : IsNumberedAt ns ms x (Some n) → IsOwn ms x n → IsPlaced rs ss n r → (y : List ℕ) (j : ℕ) → marked_in new y j ≡ cond (bytes_eq x y) (is_kept f (readers_of r.readers) j) (marked_in old y j)
+  put_marks numbered own put y j =
+      marked_is ms ss spans f y j ∙ ap (λ qs. is_kept f qs j) (put_by_key ns ms (readers_in rs) (readers_in ss) x n (readers_of r.readers) numbered own put.readers y (latest_in spans y ∷ []))
+      ∙ kept-cond (bytes_eq x y) (readers_of r.readers) (at_number (readers_in rs) (latest_in spans y ∷ []) (number_in ns y)) j
+      ∙ ap (cond (bytes_eq x y) (is_kept f (readers_of r.readers) j)) (sym (marked_is ns rs spans f y j))
+
+-- where x has the readers that it had
+pub marks_alike : (s s' : Stored) (x : List ℕ) (m : ℕ → Bool) → ((y : List ℕ) (j : ℕ) → marked_in s' y j ≡ cond (bytes_eq x y) (m j) (marked_in s y j)) → ((j : ℕ) → m j ≡ marked_in s x j) → HaveSameMarks s s'
+marks_alike s s' x m put same y j = put y j ∙ by_test (bytes_eq x y)
+    (λ here. rw here (same j ∙ ap (λ z. marked_in s z j) (same_key x y here)))
+    (λ there. rw there refl)
+
+-- a record stays where it is
+module _ (ns : Numbered) (rs : List Record) (spans : SpanMarks) (f : ℕ) (x : List ℕ) (n : ℕ) (r q : Record) (h : IsHere ns rs x n r) where
+  pub changed_chain : IsPut (stored ns rs spans f) (stored ns (slice_set rs n q) spans f) x q.chain
+  changed_chain = put_chain ns ns rs (slice_set rs n q) spans f x n q (numbered_still ns x n h.number) h.own (placed rs n q h.low)
+
+  pub changed_marks : (y : List ℕ) (j : ℕ) → marked_in (stored ns (slice_set rs n q) spans f) y j ≡ cond (bytes_eq x y) (is_kept f (readers_of q.readers) j) (marked_in (stored ns rs spans f) y j)
+  changed_marks = put_marks ns ns rs (slice_set rs n q) spans f x n q (numbered_still ns x n h.number) h.own (placed rs n q h.low)
+
+  pub kept_marks : readers_of q.readers ≡ readers_of r.readers → HaveSameMarks (stored ns rs spans f) (stored ns (slice_set rs n q) spans f)
+  kept_marks same = marks_alike (stored ns rs spans f) (stored ns (slice_set rs n q) spans f) x (is_kept f (readers_of q.readers)) changed_marks
+      (λ j. ap (λ qs. is_kept f qs j) same ∙ sym (marks_here ns rs spans f x n r h j))
+
+  pub kept_chains : q.chain ≡ r.chain → HaveSameChains (stored ns rs spans f) (stored ns (slice_set rs n q) spans f)
+  kept_chains same y = changed_chain y ∙ by_test (bytes_eq x y)
+      (λ here. rw here (same ∙ sym (chain_here ns rs spans f x n r h) ∙ ap (chain_of (stored ns rs spans f)) (same_key x y here)))
+      (λ there. rw there refl)
+
+pub low_set : (ns : Numbered) (rs : List Record) (n : ℕ) (q : Record) → AreLow ns (length rs) → AreLow ns (length (slice_set rs n q))
+low_set ns rs n q low x m is = (let l : m < length rs = low x m is in omega (arith, length-set rs n q))
+
+-- ---- the latest of the spans
+
+-- a lone reader that is forgotten is none
+pub none_kept : (f latest j : ℕ) → latest ≤ f → is_kept f (latest ∷ []) j ≡ false
+none_kept f latest j low = false_from_ne_true _ (λ on.
+    let both = and_parts (nat_lt f j) (is_reader (latest ∷ []) j) on in
+    let over : f < j = ltb-true f j both.0 in
+    absurd (lone both.1 over))
+  where
+    lone : is_reader (latest ∷ []) j ≡ true → f < j → ⊥
+    lone is over = grind (arith, nat_tests, is)
+
+-- ---- a record goes
+
+module _ (ns ms : Numbered) (rs : List Record) (spans : SpanMarks) (f : ℕ) (x : List ℕ) (n : ℕ) (q : Record) where
+  abbrev left : Stored
+  left = stored ms (slice_set rs n q) spans f
+
+  pub gone_chains : IsNumberedAt ns ms x None → number_in ns x ≡ Some n → IsOwn ns x n → n < length rs → slice_index_or (chains_in rs) n [] ≡ [] → HaveSameChains (stored ns rs spans f) left
+  gone_chains numbered is own low empty y =
+      chain_is ms (slice_set rs n q) spans f y ∙ gone_by_key ns ms (chains_in rs) (chains_in (slice_set rs n q)) x n q.chain numbered own (placed rs n q low).chains y []
+      ∙ by_test (bytes_eq x y)
+      (λ here. rw here (sym (ap (at_number (chains_in rs) []) (ap (number_in ns) (sym (same_key x y here)) ∙ is) ∙ empty)))
+      (λ there. rw there refl)
+      ∙ sym (chain_is ns rs spans f y)
+
+  pub gone_marks : IsNumberedAt ns ms x None → number_in ns x ≡ Some n → IsOwn ns x n → n < length rs → latest_in spans x ≤ f → ((j : ℕ) → is_kept f (slice_index_or (readers_in rs) n []) j ≡ false) → HaveSameMarks (stored ns rs spans f) left
+  gone_marks numbered is own low latest none y j =
+      marked_is ms (slice_set rs n q) spans f y j ∙ ap (λ qs. is_kept f qs j) (gone_by_key ns ms (readers_in rs) (readers_in (slice_set rs n q)) x n (readers_of q.readers) numbered own (placed rs n q low).readers y (latest_in spans y ∷ []))
+      ∙ by_test (bytes_eq x y)
+      (λ here. rw here (none_kept f (latest_in spans y) j (subst (λ z. latest_in spans z ≤ f) (same_key x y here) latest)
+      ∙ sym (ap (λ o. is_kept f (at_number (readers_in rs) (latest_in spans y ∷ []) o) j) (ap (number_in ns) (sym (same_key x y here)) ∙ is) ∙ none j)))
+      (λ there. rw there refl)
+      ∙ sym (marked_is ns rs spans f y j)
