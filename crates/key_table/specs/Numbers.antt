@@ -16,6 +16,10 @@ number_in ns x = lookup (is_at (key_cmp x)) ns
 abbrev pub IsOwn : Numbered → List ℕ → ℕ → Type 0
 IsOwn ns x n = (y : List ℕ) → number_in ns y ≡ Some n → y ≡ x
 
+-- no two keys have the same number
+abbrev pub AreApart : Numbered → Type 0
+AreApart ns = (x y : List ℕ) (n : ℕ) → number_in ns x ≡ Some n → number_in ns y ≡ Some n → x ≡ y
+
 -- x has the number n, or none, and any other key has what it had
 abbrev pub IsNumberedAt : Numbered → Numbered → List ℕ → Option ℕ → Type 0
 IsNumberedAt ns ms x n = (y : List ℕ) → number_in ms y ≡ (if bytes_eq x y then n else number_in ns y)

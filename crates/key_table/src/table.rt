@@ -7,7 +7,7 @@ ghost use Rattle.std.specs.Range.Bound.{bound_map};
 ghost use Rattle.std.specs.BTreeMap.Range.{entries_between};
 ghost use Rattle.std.specs.declared.ops.Bound.TheVariants.{Unbounded};
 ghost use Rattle.timestamps.specs.Bytes.{key_cmp};
-ghost use Rattle.key_table.specs.Numbers.{number_in, IsNumberedAt, IsOwn};
+ghost use Rattle.key_table.specs.Numbers.{number_in, AreApart, IsNumberedAt, IsOwn};
 
 use crate::hints::{Hints, PLACES, hash_of};
 use slab::Slab;
@@ -102,6 +102,7 @@ impl KeyTable {
     pub fn range_from<'a>(&'a self, start: Bound<&'a Key>) -> Range<'a, Key, usize>
         ensures rest { result ≡ entries_between key_cmp (bound_map (λ k. k.now) start.entry) Unbounded self.now }
         ensures rising { IsStrictlySortedBy key_cmp (keys_of self.now) }
+        ensures apart { AreApart self.now }
     {
         self.numbers.range((start, Bound::Unbounded))
     }
