@@ -66,3 +66,7 @@ pub put_nothing : (s s' : Stored) (x : List ℕ) (vs : List Version) → vs ≡ 
 put_nothing s s' x vs empty none put y = put y ∙ by_test (bytes_eq x y)
     (λ here. rw here (empty ∙ sym (subst (λ z. chain_of s z ≡ []) (same_key x y here) none)))
     (λ there. rw there refl)
+
+pub by_result : {A E P : Type 0} (r : Result A E) → OnOk r P → OnErr r P → P
+by_result (Ok x) ok err = ok
+by_result (Err x) ok err = err

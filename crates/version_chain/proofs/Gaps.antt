@@ -1,15 +1,18 @@
 -- Readers of a key and its versions: which reader crosses a write, and the gap of a read.
-use Rattle.std.proofs.Common.{◌≡◌, ℕ, zero, suc, ◌<◌, ◌≤◌, ◌==◌, Bool, true, false, ◌&&◌, List, [], Option, Some, None, refl, sym, ◌∙◌, ap, subst, inl, inr, arith, max, lt-ltb, ltb-true, nat_lt, option_map}
-use Rattle.std.specs.Prelude.{◌↔◌, IfSome, MatchOption, is_some}
+use Rattle.std.proofs.Common.{◌≡◌, ℕ, zero, suc, ◌<◌, ◌≤◌, ◌==◌, Bool, true, false, ◌&&◌, List, [], Option, Some, None, Result, Ok, Err, refl, sym, ◌∙◌, ap, subst, inl, inr, arith, max, lt-ltb, ltb-true, nat_lt, option_map}
+use Rattle.std.specs.Prelude.{◌↔◌, IfSome, IsTrue, MatchOption, OnErr, OnOk, is_some}
+use Rattle.std.specs.Borrow.{Bor}
+use Rattle.std.specs.Option.{option_copied}
 use Rattle.std.proofs.lemmas.Bool.{and_parts, cases_lt}
 use Rattle.spans.specs.Effects.{After}
 use Rattle.spans.specs.Kept.{IsCrossed}
-use Rattle.spans.specs.Newest.{newest, IsNewest}
+use Rattle.spans.specs.Newest.{newest}
 use Rattle.spans.proofs.Steps.{newest_only}
 use Rattle.kept.specs.Finding.{IsNextAbove}
-use Rattle.kept.specs.Marks.{AtMost, IsBetween}
+use Rattle.kept.specs.Marks.{AtMost, IsBetween, IsPiece, until}
 use Rattle.read_marks.specs.Readers.{is_kept, is_reader}
 use Rattle.version_chain.specs.declared.chain.Version.{Version}
+use Rattle.version_chain.specs.Marking.{IsNotedOn}
 use Rattle.version_chain.specs.Versions.{afters_of, ts_or, version_of, IsLeastAbove, IsNewestOf, IsNoneAbove, IsNoneUpTo}
 
 abbrev ts-of : Option Version → Option ℕ
@@ -74,3 +77,66 @@ module _ (m : ℕ → Bool) (g : ℕ → Option After) (t : ℕ) where
 
 pub both_ways_to : {A B C : Type 0} → A ↔ B → B ↔ C → A ↔ C
 both_ways_to f g = (λ a. g.0 (f.0 a), λ c. f.1 (g.1 c))
+
+-- ---- a read in its gap
+
+pub match_copied : {X : Type 0} (P : Type 0) (Q : X → Type 0) (o : Option (Bor X)) → MatchOption o P (λ v. Q v.now) → MatchOption (option_copied o) P Q
+match_copied P Q None h = h
+match_copied P Q (Some v) h = h
+
+until_next : (o : Option Version) → until (ts-of o) ≡ ts_or o 18446744073709551615
+until_next None = refl
+until_next (Some v) = refl
+
+pub noted_on : (vs : List Version) (m m' : ℕ → Bool) (t above high : ℕ) (first next : Option Version) → MatchOption first (IsNoneUpTo vs t) (λ v. IsNewestOf vs t v) → IfSome first (λ v. 1 ≤ v.ts) → MatchOption next (IsNoneAbove vs t) (λ v. IsLeastAbove vs t v)
+    → above ≡ ts_or first 0 → high ≡ ts_or next 18446744073709551615 → (above ≡ t → (j : ℕ) → m' j ≡ m j) → ((above == t) ≡ false → IsPiece m m' t above high) → IsNotedOn (afters_of vs) m m' t
+noted_on vs m m' t above high first next one some least at end own other =
+    let ts : (newest (afters_of vs) t).ts ≡ above = newest_of vs t first some one ∙ sym at in
+    record {
+      next = ts-of next;
+      is_next = next_of vs t next least;
+      own = λ same. own (sym ts ∙ same);
+      other = λ differs.
+          let piece : IsPiece m m' t above high = other (ap (λ n. n == t) (sym ts) ∙ differs) in
+          subst (λ n. IsPiece m m' t n (until (ts-of next))) (sym ts) (subst (IsPiece m m' t above) (end ∙ sym (until_next next)) piece);
+    }
+
+-- ---- readers that are the same
+
+pub piece_alike : (m n m' n' : ℕ → Bool) (t above high : ℕ) → ((j : ℕ) → m j ≡ n j) → ((j : ℕ) → m' j ≡ n' j) → IsPiece m m' t above high → IsPiece n n' t above high
+piece_alike m n m' n' t above high old new p = record {
+  top = p.top;
+  marked = sym (new p.top) ∙ p.marked;
+  is = (elim p.is [ inl e ↦ inl e | inr h ↦ inr (sym (old p.top) ∙ h) ]);
+  least = p.least;
+  most = p.most;
+  greatest = λ i h. p.greatest i (old i ∙ h);
+  outside = λ i out. sym (new i) ∙ p.outside i out ∙ old i;
+  inside = λ i over up h. p.inside i over up (new i ∙ h);
+}
+
+pub noted_alike : (g h : ℕ → Option After) (m n m' n' : ℕ → Bool) (t : ℕ) → g ≡ h → ((j : ℕ) → m j ≡ n j) → ((j : ℕ) → m' j ≡ n' j) → IsNotedOn g m m' t → IsNotedOn h n n' t
+noted_alike g h m n m' n' t same old new p = subst (λ f. IsNotedOn f n n' t) same (record {
+  next = p.next;
+  is_next = p.is_next;
+  own = λ is j. sym (new j) ∙ p.own is j ∙ old j;
+  other = λ differs. piece_alike m n m' n' t _ _ old new (p.other differs);
+})
+
+-- where there was room a note is made
+pub room_there : {A E P R : Type 0} (r : Result A E) → OnOk r P → OnErr r (R → ⊥) → R → P
+room_there (Ok x) ok full room = ok
+room_there (Err e) ok full room = absurd (full room)
+
+-- ---- what the test of a write answers
+
+pub crosses : (xs : List ℕ) (f : ℕ) (g : ℕ → Option After) (t : ℕ) (next : Option ℕ) (above : ℕ) (b : Bool) → above ≡ max t f → IsNextAbove g t next → IsTrue b ↔ IsBetween (is_reader xs) above next → IsTrue b ↔ IsCrossed (is_kept f xs) g t
+crosses xs f g t next above b at is found =
+    both_ways_to found (both_ways_to (subst (λ n. IsBetween (is_reader xs) n next ↔ IsBetween (is_kept f xs) t next) (sym at) (between_kept f xs t next)) (crossed_by (is_kept f xs) g t next is))
+
+-- where no reader at all is above it
+pub crosses_not : (xs : List ℕ) (f : ℕ) (g : ℕ → Option After) (t above : ℕ) (b : Bool) → above ≡ max t f → b ≡ false → IsTrue b ↔ IsBetween (is_reader xs) above None → IsTrue false ↔ IsCrossed (is_kept f xs) g t
+crosses_not xs f g t above b at off found = (
+  λ on. (let f : false ≡ true = on in cc),
+  λ c. subst IsTrue off (found.1 (subst (λ n. IsBetween (is_reader xs) n None) (sym at) ((between_kept f xs t None).1 (record { reader = c.reader; mark = c.mark; higher = c.above; low = tt })))),
+)

@@ -63,7 +63,7 @@ module _ {A : Type 0} where
       (λ fails. rw (off, fails) (filtered_twice p q es more)))
 
   -- one that comes after an entry is looked up behind it
-  looked_behind : (d : List ℕ × A) (es : List (List ℕ × A)) (x : List ℕ) (o : Option A) → ((y : List ℕ) → IsIn y (keys_of es) → key_cmp d.0 y ≡ Less) → IsIn x (keys_of es) → lookup (is_at (key_cmp x)) es ≡ o → lookup (is_at (key_cmp x)) (d ∷ es) ≡ o
+  pub looked_behind : (d : List ℕ × A) (es : List (List ℕ × A)) (x : List ℕ) (o : Option A) → ((y : List ℕ) → IsIn y (keys_of es) → key_cmp d.0 y ≡ Less) → IsIn x (keys_of es) → lookup (is_at (key_cmp x)) es ≡ o → lookup (is_at (key_cmp x)) (d ∷ es) ≡ o
   looked_behind d es x o later among is = by_test (is_at (key_cmp x) d.0)
       (λ here. absurd (not_itself d.0 (subst (λ y. key_cmp d.0 y ≡ Less) (same_at x d.0 here) (later x among))))
       (λ there. rw there is)

@@ -5,6 +5,7 @@ pub mod Changes
 pub mod ByNumber
 pub mod Gaps
 pub mod Recorded
+pub mod Roaming
 pub mod Turns
 pub mod Counts
 pub mod InSpans

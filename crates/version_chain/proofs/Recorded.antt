@@ -13,7 +13,9 @@ use Rattle.read_marks.specs.Spans.{latest_in}
 use Rattle.read_marks.specs.declared.span_marks.SpanMarks.{SpanMarks}
 use Rattle.version_chain.specs.declared.record.Record.{Record}
 use Rattle.version_chain.specs.declared.chains.Chains.{Chains}
-use Rattle.version_chain.specs.Chains.{Stored, chain_of, marked_in, HaveSameChains, HaveSameMarks}
+use Rattle.version_chain.specs.declared.chain.Version.{Version}
+use Rattle.version_chain.specs.Chains.{Stored, chain_of, marked_in, HaveSameChains, HaveSameMarks, IsChangedAt}
+use Rattle.version_chain.proofs.Changes.{IsEdited, changed}
 use Rattle.version_chain.specs.ByNumber.{AreLow, IsPlaced, IsPutAt, at_number, chains_in, entries_of, readers_in, stored}
 use Rattle.version_chain.specs.Records.{HasNoRecord, IsPut, IsRecordOf, MayGo, stored_of}
 use Rattle.version_chain.proofs.ByNumber.{at_it, at_other, chain_at, chain_is, gone_by_key, low_still, marked_is, numbered_still, placed, put_by_key, readers_at}
@@ -89,6 +91,10 @@ module _ (ns : Numbered) (rs : List Record) (spans : SpanMarks) (f : ℕ) (x : L
       (λ here. rw here (same ∙ sym (chain_here ns rs spans f x n r h) ∙ ap (chain_of (stored ns rs spans f)) (same_key x y here)))
       (λ there. rw there refl)
 
+  -- what became of x's versions became of the store
+  pub edited_here : (t : ℕ) (g : Option Version → Option Version) → IsEdited r.chain q.chain t g → IsChangedAt (stored ns rs spans f) (stored ns (slice_set rs n q) spans f) x t g
+  edited_here t g edit = changed (stored ns rs spans f) (stored ns (slice_set rs n q) spans f) x q.chain t g changed_chain (subst (λ us. IsEdited us q.chain t g) (sym (chain_here ns rs spans f x n r h)) edit)
+
 pub low_set : (ns : Numbered) (rs : List Record) (n : ℕ) (q : Record) → AreLow ns (length rs) → AreLow ns (length (slice_set rs n q))
 low_set ns rs n q low x m is = (let l : m < length rs = low x m is in omega (arith, length-set rs n q))
 
@@ -126,3 +132,22 @@ module _ (ns ms : Numbered) (rs : List Record) (spans : SpanMarks) (f : ℕ) (x 
       ∙ sym (ap (λ o. is_kept f (at_number (readers_in rs) (latest_in spans y ∷ []) o) j) (ap (number_in ns) (sym (same_key x y here)) ∙ is) ∙ none j)))
       (λ there. rw there refl)
       ∙ sym (marked_is ns rs spans f y j)
+
+-- where a record takes another's place that has no reader, no record has another reader
+pub fewer_readers : (rs : List Record) (n : ℕ) (q : Record) → n < length rs → readers_of q.readers ≡ [] → (m j : ℕ) → is_reader (slice_index_or (readers_in (slice_set rs n q)) m []) j ≡ true → is_reader (slice_index_or (readers_in rs) m []) j ≡ true
+fewer_readers rs n q low empty m j is = by_test (n == m)
+    (λ same. absurd (let none : slice_index_or (readers_in (slice_set rs n q)) m [] ≡ [] = (placed rs n q low).readers m ∙ (rw same empty) in let no : false ≡ true = sym (ap (λ qs. is_reader qs j) none) ∙ is in (let f : false ≡ true = no in cc)))
+    (λ other. sym (ap (λ qs. is_reader qs j) ((placed rs n q low).readers m ∙ (rw other refl))) ∙ is)
+
+-- ---- the first reader of a record is the latest of the spans
+
+pub first_reader : (f latest : ℕ) (qs : List ℕ) → ((j : ℕ) → is_reader qs j ≡ (nat_lt 0 j && (j == latest))) → (j : ℕ) → is_kept f qs j ≡ is_kept f (latest ∷ []) j
+first_reader f latest qs is j = by_test (nat_lt f j)
+    (λ late.
+    let over : f < j = ltb-true f j late in
+    let some : nat_lt 0 j ≡ true = lt-ltb 0 j (omega arith) in
+    rw late (is j ∙ ap (λ b. b && (j == latest)) some ∙ lone))
+    (λ early. rw early refl)
+  where
+    lone : (j == latest) ≡ is_reader (latest ∷ []) j
+    lone = grind (arith, nat_tests)

@@ -8,6 +8,7 @@ ghost use Rattle.std.specs.Range.Bound.{bound_map};
 ghost use Rattle.spans.specs.KeyOrder.{below_high};
 ghost use Rattle.spans.specs.Starting.{start_of};
 ghost use Rattle.spans.proofs.Keyed.{RisingKeys};
+ghost use Rattle.key_table.specs.Numbers.{AreApart};
 ghost use Rattle.version_chain.specs.ByNumber.{chains_in, entries_of};
 ghost use Rattle.version_chain.specs.InSpans.{filled, numbered_in};
 
@@ -46,6 +47,7 @@ impl<'a> Model for NumbersIn<'a> {
 pub(crate) fn numbers_in<'a>(keys: &'a KeyTable, span: &'a Span) -> NumbersIn<'a>
     ensures those { result ≡ numbered_in span.now keys.now }
     ensures rising { RisingKeys (keys_of keys.now) }
+    ensures apart { AreApart keys.now }
 {
     let ahead = keys.range_from(start_at(&span.lo));
     NumbersIn { span, ahead }
