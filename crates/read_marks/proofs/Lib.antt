@@ -5,3 +5,4 @@ pub mod Keeping
 pub mod Steps
 pub mod Raising
 pub mod Rising
+pub mod Low

@@ -45,7 +45,7 @@ written-turn g d w v b true picked is = is
 written-turn g d w v b false picked is = refl
 
 -- a key has its new reader where its start is picked
-step-written : (p r : List ℕ → Bool) (g : ℕ → ℕ) (b : Bool) (d : ℕ) (es : Entries) → step_at r (cond b (g d) d) (written p g es) ≡ cond (picked_at p r b es) (g (step_at r d es)) (step_at r d es)
+pub step-written : (p r : List ℕ → Bool) (g : ℕ → ℕ) (b : Bool) (d : ℕ) (es : Entries) → step_at r (cond b (g d) d) (written p g es) ≡ cond (picked_at p r b es) (g (step_at r d es)) (step_at r d es)
 step-written p r g b d [] = refl
 step-written p r g b d (e ∷ es) = written-turn g d _ (step_at r e.1 es) b (r e.0) (picked_at p r (p e.0) es) (step-written p r g (p e.0) e.1 es)
 

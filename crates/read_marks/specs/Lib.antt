@@ -1,2 +1,3 @@
 pub mod Readers
+pub mod Starts
 pub mod Spans

@@ -10,16 +10,8 @@ use Rattle.std.specs.BTreeMap.Range.{entries_between}
 use Rattle.std.specs.BTreeMap.{get}
 use Rattle.timestamps.specs.Bytes.{key_cmp}
 use Rattle.spans.specs.KeyOrder.{below_high, key_lt}
+pub use Rattle.read_marks.specs.Starts.{reaches, step_at}
 use Rattle.read_marks.specs.declared.span_marks.SpanMarks.{SpanMarks}
-
--- the value of the last entry before the first whose key isn't reached: d where there is none
-abbrev pub step_at : {K V : Type 0} → (K → Bool) → V → List (K × V) → V
-step_at reached d [] = d
-step_at reached d (e ∷ es) = cond (reached e.0) (step_at reached e.1 es) d
-
--- the start is not above the key
-abbrev pub reaches : List ℕ → List ℕ → Bool
-reaches x start = not (key_lt x start)
 
 -- the latest reader of a key: that of the greatest start not above it
 abbrev pub latest_in : SpanMarks → List ℕ → ℕ

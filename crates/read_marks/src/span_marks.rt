@@ -7,10 +7,12 @@ ghost use Rattle.std.specs.declared.ops.Bound.TheVariants.{Included};
 ghost use Rattle.timestamps.specs.Bytes.{key_cmp};
 ghost use Rattle.spans.specs.Keys.{in_span};
 ghost use Rattle.spans.proofs.WriteSets.{has};
-ghost use Rattle.read_marks.specs.Spans.{IsEnd, IsStart, KeepsLatest, RunsForward, end_at, is_between, latest_in, lent, raised, starts_in};
+ghost use Rattle.read_marks.specs.Starts.{AreLow};
 
+mod ends;
 mod joining;
 
+use self::ends::{ends_of, keys_between, runs_forward};
 use spans::span::Span;
 use std::alloc::{AllocError, Global};
 use std::collections::BTreeMap;
@@ -24,9 +26,12 @@ pub struct SpanMarks {
     alloc: Global,
     /// The latest reader of the keys from each start on, up to the next start.
     starts: BTreeMap<SmallBytes, u64>,
+    pub ghost low: { AreLow starts.entries },
 }
 
 impl SpanMarks {
+    ghost use Rattle.read_marks.specs.Spans.{IsEnd, IsStart, KeepsLatest, RunsForward, latest_in, lent, raised, starts_in};
+
     pub fn new(alloc: Global) -> SpanMarks
         ensures { (x : List ℕ) → latest_in result x ≡ 0 }
     {
@@ -170,46 +175,5 @@ impl SpanMarks {
     /// How many starts there are.
     pub fn len(&self) -> usize {
         self.starts.len()
-    }
-}
-
-/// Where a span begins, and where it ends if it does. `least` has no byte: a span without a lower bound begins there.
-fn ends_of<'a>(span: &'a Span, least: &'a SmallBytes) -> (&'a SmallBytes, Option<&'a SmallBytes>)
-    requires { least.now ≡ [] }
-    ensures low { result.0.now ≡ unwrap_or span.now.lo [] }
-    ensures high { lent result.1 ≡ span.now.hi }
-{
-    let lo = match &span.lo {
-        None => least,
-        Some(lo) => lo.as_small_bytes(),
-    };
-    match &span.hi {
-        None => (lo, None),
-        Some(hi) => (lo, Some(hi.as_small_bytes())),
-    }
-}
-
-/// Whether there is a place from `lo` on and below `hi`.
-fn runs_forward(lo: &SmallBytes, hi: Option<&SmallBytes>) -> bool
-    ensures forward { result ≡ true → RunsForward lo.now (lent hi.entry) }
-    ensures backward { result ≡ false → (x : List ℕ) → is_between lo.now (lent hi.entry) x ≡ false }
-{
-    match hi {
-        None => true,
-        Some(hi) => lo.cmp(hi).is_lt(),
-    }
-}
-
-/// The places from `lo` on, and below `hi` where that is given.
-fn keys_between<'a>(
-    lo: &'a SmallBytes,
-    hi: Option<&'a SmallBytes>,
-) -> (Bound<&'a SmallBytes>, Bound<&'a SmallBytes>)
-    ensures start { bound_map (λ lo. lo.now) result.0 ≡ Included lo.now }
-    ensures end { bound_map (λ hi. hi.now) result.1 ≡ end_at (lent hi.entry) }
-{
-    match hi {
-        None => (Bound::Included(lo), Bound::Unbounded),
-        Some(hi) => (Bound::Included(lo), Bound::Excluded(hi)),
     }
 }

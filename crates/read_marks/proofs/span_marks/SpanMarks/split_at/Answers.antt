@@ -1,10 +1,13 @@
-use Rattle.std.proofs.Common.{◌≡◌, sym, ◌∙◌, None}
+use Rattle.std.proofs.Common.{◌≡◌, ap, sym, ◌∙◌, None}
 use Rattle.std.specs.Cmp.Lexicographic.{nat_list_cmp_total}
 use Rattle.std.specs.Map.{lookup}
 use Rattle.std.specs.BTreeMap.{is_at}
+use Rattle.std.proofs.lemmas.Result.{on_err_weaker, on_ok_weaker}
 use Rattle.std.proofs.lemmas.Map.{none_passes_from_lookup}
 use Rattle.timestamps.specs.Bytes.{key_cmp}
 use Rattle.spans.proofs.Steps.{none_of}
+use Rattle.read_marks.specs.Spans.{reaches, step_at}
+use Rattle.read_marks.proofs.Low.{either_way, low_alike}
 use Rattle.read_marks.proofs.Steps.{step-insert}
 use Rattle.read_marks.proofs.span_marks.SpanMarks.split_at.Goals as goal
 
@@ -14,3 +17,14 @@ returns-clause-latest c = λ x.
     let old = c.args.self.now.starts.entries in
     let absent : lookup (is_at (key_cmp place)) old ≡ None = none_of _ (sym c.contains_key.ensures ∙ c.if-contains_key.false) in
     rw (c.in_ok-insert.ensures.entries, c.in_ok-start.ensures.bytes) (step-insert nat_list_cmp_total place c.latest_at-latest.result 0 x old (none_passes_from_lookup _ old absent) c.latest_at-latest.ensures)
+
+pub invariant_of-self : goal.invariant_of-self
+invariant_of-self c =
+    let place = c.args.place.now in
+    let old = c.args.self.now.starts.entries in
+    let absent : lookup (is_at (key_cmp place)) old ≡ None = none_of _ (sym c.contains_key.ensures ∙ c.if-contains_key.false) in
+    record {
+      low = either_way c.insert.result
+          (on_ok_weaker c.insert.result (λ is. low_alike old c.insert.new.self.entries (λ x. rw (is, c.in_ok-start.ensures.bytes) (step-insert nat_list_cmp_total place c.latest_at-latest.result 0 x old (none_passes_from_lookup _ old absent) c.latest_at-latest.ensures)) c.args.self.now.low) c.insert.ensures.entries)
+          (on_err_weaker c.insert.result (λ is. low_alike old c.insert.new.self.entries (λ x. ap (step_at (reaches x) 0) is) c.args.self.now.low) c.insert.ensures.err);
+    }
