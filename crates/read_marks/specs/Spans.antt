@@ -1,5 +1,5 @@
 -- The latest reader of each key, as a step function of the keys (this project).
-use Rattle.std.specs.Prelude.{ℕ, List, [], ◌∷◌, ◌≡◌, Bool, not, cond, map, max, ◌&&◌, Option, Some, None, IsSome}
+use Rattle.std.specs.Prelude.{ℕ, List, ◌≡◌, Bool, not, cond, map, max, ◌&&◌, Option, Some, None, IsSome}
 use Rattle.std.specs.Borrow.{Bor}
 use Rattle.std.specs.Option.{option_map}
 use Rattle.std.specs.Ordering.{is_le}
@@ -9,7 +9,7 @@ use Rattle.std.specs.declared.ops.Bound.TheVariants.{Excluded, Included, Unbound
 use Rattle.std.specs.BTreeMap.Range.{entries_between}
 use Rattle.std.specs.BTreeMap.{get}
 use Rattle.timestamps.specs.Bytes.{key_cmp}
-use Rattle.spans.specs.KeyOrder.{below_high, key_lt}
+use Rattle.spans.specs.KeyOrder.{below_high}
 pub use Rattle.read_marks.specs.Starts.{reaches, step_at}
 use Rattle.read_marks.specs.declared.span_marks.SpanMarks.{SpanMarks}
 
