@@ -6,6 +6,8 @@ pub mod ByNumber
 pub mod Gaps
 pub mod Recorded
 pub mod Roaming
+pub mod Sweeping
+pub mod Spanning
 pub mod Turns
 pub mod Counts
 pub mod InSpans

@@ -5,7 +5,7 @@ use Rattle.std.proofs.lemmas.Bool.{and_parts, both_ways, false_from_ne_true}
 use Rattle.std.proofs.lemmas.Bool.Decides.{nat_tests}
 use Rattle.std.proofs.lemmas.List.{length-set}
 use Rattle.std.proofs.Math.Bool.{and-false}
-use Rattle.spans.proofs.Steps.{by_test, same_key}
+use Rattle.spans.proofs.Steps.{by_test, key_itself, same_key}
 use Rattle.kept.specs.Marks.{IsPiece}
 use Rattle.key_table.specs.Numbers.{Numbered, number_in, IsNumberedAt, IsOwn}
 use Rattle.read_marks.specs.Readers.{is_kept, is_reader, readers_of}
@@ -16,6 +16,8 @@ use Rattle.version_chain.specs.declared.chains.Chains.{Chains}
 use Rattle.version_chain.specs.declared.chain.Version.{Version}
 use Rattle.version_chain.specs.Chains.{Stored, chain_of, marked_in, HaveSameChains, HaveSameMarks, IsChangedAt}
 use Rattle.version_chain.proofs.Changes.{IsEdited, changed}
+use Rattle.version_chain.specs.Marking.{IsMarkedAt}
+use Rattle.version_chain.proofs.Gaps.{piece_alike}
 use Rattle.version_chain.specs.ByNumber.{AreLow, IsPlaced, IsPutAt, at_number, chains_in, entries_of, readers_in, stored}
 use Rattle.version_chain.specs.Records.{HasNoRecord, IsPut, IsRecordOf, MayGo, stored_of}
 use Rattle.version_chain.proofs.ByNumber.{at_it, at_other, chain_at, chain_is, gone_by_key, low_still, marked_is, numbered_still, placed, put_by_key, readers_at}
@@ -151,3 +153,18 @@ first_reader f latest qs is j = by_test (nat_lt f j)
   where
     lone : (j == latest) ≡ is_reader (latest ∷ []) j
     lone = grind (arith, nat_tests)
+
+-- ---- marks
+
+-- a piece of x's readers is one of x's marks
+pub marked_at : (s : Stored) (ns : Numbered) (rs : List Record) (spans : SpanMarks) (f : ℕ) (x : List ℕ) (n : ℕ) (r q : Record) (t above high : ℕ) → IsHere ns rs x n r → HaveSameMarks s (stored ns rs spans f)
+    → IsPiece (is_kept f (readers_of r.readers)) (is_kept f (readers_of q.readers)) t above high → IsMarkedAt s (stored ns (slice_set rs n q) spans f) x t above high
+marked_at s ns rs spans f x n r q t above high h same piece =
+    let after = changed_marks ns rs spans f x n r q h in
+    record {
+      piece = piece_alike (is_kept f (readers_of r.readers)) (marked_in s x) (is_kept f (readers_of q.readers)) (marked_in (stored ns (slice_set rs n q) spans f) x) t above high
+          (λ j. sym (marks_here ns rs spans f x n r h j) ∙ same x j)
+          (λ j. sym (after x j ∙ ap (λ b. cond b (is_kept f (readers_of q.readers) j) (marked_in (stored ns rs spans f) x j)) (key_itself x)))
+          piece;
+      others = λ y off j. after y j ∙ (rw off refl) ∙ same y j;
+    }

@@ -11,7 +11,7 @@ returns-in-None c =
 
 pub returns-in-Some : goal.returns-in-Some
 returns-in-Some c =
-    crosses (readers_of c.args.self.now.readers) c.args.forgotten (afters_of c.args.self.now.chain) c.args.t (Some c.get.result) c.max-above.result c.any_between-in-Some.result c.max-above.ensures ? c.any_between-in-Some.ensures
+    crosses (readers_of c.args.self.now.readers) c.args.forgotten (afters_of c.args.self.now.chain) c.args.t (Some c.get.result) c.max-above.result c.any_between-in-Some.result c.max-above.ensures (rw c.get.ensures.number (next_of c.args.self.now.chain c.args.t (Some c.in-Some.next.now) c.in-Some.ensures.version)) c.any_between-in-Some.ensures
 
 pub returns-then-not-any_between : goal.returns-then-not-any_between
 returns-then-not-any_between c = crosses_not (readers_of c.args.self.now.readers) c.args.forgotten (afters_of c.args.self.now.chain) c.args.t c.max-above.result c.any_between.result c.max-above.ensures c.if-not-any_between.true c.any_between.ensures
