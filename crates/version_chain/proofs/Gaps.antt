@@ -1,5 +1,5 @@
 -- Readers of a key and its versions: which reader crosses a write, and the gap of a read.
-use Rattle.std.proofs.Common.{◌≡◌, ℕ, zero, suc, ◌<◌, ◌≤◌, ◌==◌, Bool, true, false, ◌&&◌, List, [], Option, Some, None, Result, Ok, Err, refl, sym, ◌∙◌, ap, subst, inl, inr, arith, max, lt-ltb, ltb-true, nat_lt, option_map}
+use Rattle.std.proofs.Common.{◌≡◌, ℕ, ◌<◌, ◌≤◌, ◌==◌, Bool, true, false, List, Option, Some, None, Result, Ok, Err, refl, sym, ◌∙◌, ap, subst, inl, inr, arith, max, lt-ltb, ltb-true, nat_lt, option_map}
 use Rattle.std.specs.Prelude.{◌↔◌, IfSome, IsTrue, MatchOption, OnErr, OnOk, is_some}
 use Rattle.std.specs.Borrow.{Bor}
 use Rattle.std.specs.Option.{option_copied}
@@ -13,7 +13,7 @@ use Rattle.kept.specs.Marks.{AtMost, IsBetween, IsPiece, until}
 use Rattle.read_marks.specs.Readers.{is_kept, is_reader}
 use Rattle.version_chain.specs.declared.chain.Version.{Version}
 use Rattle.version_chain.specs.Marking.{IsNotedOn}
-use Rattle.version_chain.specs.Versions.{afters_of, ts_or, version_of, IsLeastAbove, IsNewestOf, IsNoneAbove, IsNoneUpTo}
+use Rattle.version_chain.specs.Versions.{afters_of, ts_or, IsLeastAbove, IsNewestOf, IsNoneAbove, IsNoneUpTo}
 
 abbrev ts-of : Option Version → Option ℕ
 ts-of o = option_map (λ (v : Version). v.ts) o

@@ -1,6 +1,6 @@
 -- The keys of a span are those of a range, up to the first one that is not below its end.
 use Rattle.timestamps.specs.declared.key.TheConstants.{MAX_KEY_BYTES}
-use Rattle.std.proofs.Common.{◌≡◌, ℕ, ◌≤◌, Bool, true, false, ◌&&◌, cond, List, [], ◌∷◌, ◌++◌, length, Option, Some, None, refl, sym, ◌∙◌, ap, subst, inl, inr}
+use Rattle.std.proofs.Common.{◌≡◌, ℕ, ◌≤◌, Bool, true, false, ◌&&◌, cond, List, [], ◌∷◌, ◌++◌, length, Option, Some, refl, sym, ◌∙◌, ap, subst, inl, inr}
 use Rattle.std.specs.Prelude.{slice_index_or, unwrap_or}
 use Rattle.std.specs.List.{filter}
 use Rattle.std.specs.Map.{keys_of, lookup}
@@ -21,7 +21,7 @@ use Rattle.spans.specs.declared.span.Span.{Span}
 use Rattle.spans.proofs.Keyed.{IsIn, RisingKeys}
 use Rattle.spans.proofs.Steps.{by_test, same_key, key_itself}
 use Rattle.spans.proofs.KeyOrder.{starts_before, starts_at, stays_above}
-use Rattle.key_table.specs.Numbers.{Numbered, number_in}
+use Rattle.key_table.specs.Numbers.{Numbered}
 use Rattle.version_chain.specs.declared.chain.Version.{Version}
 use Rattle.version_chain.specs.Chains.{Entry, AreFilled, chain_in, has_versions}
 use Rattle.version_chain.specs.ByNumber.{entries_of}

@@ -1,10 +1,9 @@
 -- What a store is seen as after one record changed, one came, and one went.
-use Rattle.std.proofs.Common.{◌≡◌, ℕ, ◌<◌, ◌≤◌, ◌+◌, ◌==◌, Bool, true, false, cond, ◌&&◌, ◌⊎◌, inl, inr, List, [], ◌∷◌, length, Option, Some, None, refl, sym, ◌∙◌, ap, subst, arith, nat_le, nat_lt, lt-ltb, ltb-false, ltb-true}
-use Rattle.std.specs.Prelude.{bytes_eq, not, slice_index_or, slice_set, nat_eq}
-use Rattle.std.proofs.lemmas.Bool.{and_parts, both_ways, false_from_ne_true}
+use Rattle.std.proofs.Common.{◌≡◌, ℕ, ◌<◌, ◌≤◌, ◌==◌, Bool, true, false, cond, ◌&&◌, List, [], ◌∷◌, length, Option, Some, None, refl, sym, ◌∙◌, ap, subst, arith, nat_lt, lt-ltb, ltb-true}
+use Rattle.std.specs.Prelude.{bytes_eq, slice_index_or, slice_set}
+use Rattle.std.proofs.lemmas.Bool.{and_parts, false_from_ne_true}
 use Rattle.std.proofs.lemmas.Bool.Decides.{nat_tests}
 use Rattle.std.proofs.lemmas.List.{length-set}
-use Rattle.std.proofs.Math.Bool.{and-false}
 use Rattle.spans.proofs.Steps.{by_test, key_itself, same_key}
 use Rattle.kept.specs.Marks.{IsPiece}
 use Rattle.key_table.specs.Numbers.{Numbered, number_in, IsNumberedAt, IsOwn}
@@ -12,15 +11,14 @@ use Rattle.read_marks.specs.Readers.{is_kept, is_reader, readers_of}
 use Rattle.read_marks.specs.Spans.{latest_in}
 use Rattle.read_marks.specs.declared.span_marks.SpanMarks.{SpanMarks}
 use Rattle.version_chain.specs.declared.record.Record.{Record}
-use Rattle.version_chain.specs.declared.chains.Chains.{Chains}
 use Rattle.version_chain.specs.declared.chain.Version.{Version}
 use Rattle.version_chain.specs.Chains.{Stored, chain_of, marked_in, HaveSameChains, HaveSameMarks, IsChangedAt}
 use Rattle.version_chain.proofs.Changes.{IsEdited, changed}
 use Rattle.version_chain.specs.Marking.{IsMarkedAt}
 use Rattle.version_chain.proofs.Gaps.{piece_alike}
-use Rattle.version_chain.specs.ByNumber.{AreLow, IsPlaced, IsPutAt, at_number, chains_in, entries_of, readers_in, stored}
-use Rattle.version_chain.specs.Records.{HasNoRecord, IsPut, IsRecordOf, MayGo, stored_of}
-use Rattle.version_chain.proofs.ByNumber.{at_it, at_other, chain_at, chain_is, gone_by_key, low_still, marked_is, numbered_still, placed, put_by_key, readers_at}
+use Rattle.version_chain.specs.ByNumber.{AreLow, IsPlaced, at_number, chains_in, readers_in, stored}
+use Rattle.version_chain.specs.Records.{IsPut}
+use Rattle.version_chain.proofs.ByNumber.{chain_at, chain_is, gone_by_key, marked_is, numbered_still, placed, put_by_key, readers_at}
 
 -- ---- a key's record
 

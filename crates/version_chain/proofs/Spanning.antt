@@ -1,5 +1,5 @@
 -- A read of a span, at the keys with a record and at those without one.
-use Rattle.std.proofs.Common.{◌≡◌, ℕ, ◌<◌, ◌≤◌, ◌==◌, Bool, true, false, cond, ◌&&◌, ◌⊎◌, inl, inr, List, [], ◌∷◌, Option, Some, None, refl, sym, ◌∙◌, ap, subst, arith, max, nat_lt, lt-ltb, ltb-true}
+use Rattle.std.proofs.Common.{◌≡◌, ℕ, ◌<◌, ◌≤◌, true, false, cond, ◌⊎◌, inl, inr, List, [], ◌∷◌, Option, Some, None, refl, sym, ◌∙◌, ap, subst, arith, max, nat_lt, lt-ltb, ltb-true}
 use Rattle.std.specs.Prelude.{slice_index_or}
 use Rattle.std.proofs.lemmas.Bool.{and_parts, false_from_ne_true}
 use Rattle.std.proofs.lemmas.Bool.Decides.{nat_tests}
@@ -8,10 +8,9 @@ use Rattle.spans.specs.Newest.{newest}
 use Rattle.spans.specs.declared.span.Span.{Span}
 use Rattle.kept.specs.Marks.{IsPiece}
 use Rattle.key_table.specs.Numbers.{Numbered, number_in}
-use Rattle.read_marks.specs.Readers.{is_kept, is_reader, readers_of}
+use Rattle.read_marks.specs.Readers.{is_kept, is_reader}
 use Rattle.read_marks.specs.Spans.{latest_in}
 use Rattle.read_marks.specs.declared.span_marks.SpanMarks.{SpanMarks}
-use Rattle.read_marks.proofs.Low.{low_latest}
 use Rattle.version_chain.specs.declared.record.Record.{Record}
 use Rattle.version_chain.specs.Chains.{Stored, chain_of, marked_in, HaveSameChains, HaveSameMarks}
 use Rattle.version_chain.specs.Versions.{afters_of}
@@ -22,9 +21,12 @@ use Rattle.version_chain.proofs.ByNumber.{chain_is, marked_is}
 use Rattle.version_chain.proofs.Gaps.{newest_of, noted_alike}
 use Rattle.version_chain.proofs.Sweeping.{lone-reader}
 
+max-cases : (l t l' : ℕ) → l' ≡ max l t → (l' ≡ t) ⊎ (l' ≡ l)
+max-cases l t l' is = grind arith
+
 -- the latest of the spans rose to t, which is not forgotten
 pub noted_latest : (f t l l' : ℕ) → f < t → t ≤ 18446744073709551615 → l ≤ 18446744073709551615 → l' ≡ max l t → IsNotedOn (afters_of []) (is_kept f (l ∷ [])) (is_kept f (l' ∷ [])) t
-noted_latest f t l l' late low high is = record {
+noted_latest f t l l' late low low-latest is = record {
   next = None;
   is_next = λ n over. refl;
   own = λ same. absurd (let z : (newest (afters_of []) t).ts ≡ 0 = none in omega arith);
@@ -35,7 +37,7 @@ noted_latest f t l l' late low high is = record {
     least = omega arith;
     most = omega arith;
     greatest = λ n m over under. (let same : n ≡ l = lone l n m in omega arith);
-    outside = λ n out. rw (off l' n (grind (arith, out)), off l n (grind (arith, out))) refl;
+    outside = λ n out. off l' n (omega arith) out ∙ sym (off l n low-latest out);
     inside = λ n over under m. lone l' n m;
   });
 }
@@ -53,13 +55,20 @@ noted_latest f t l l' late low high is = record {
         itself = grind (arith, nat_tests)
 
     which : (l' ≡ t) ⊎ (is_kept f (l ∷ []) l' ≡ true)
-    which = elim (top-cases l t l' is) [
+    which = elim (max-cases l t l' is) [
       | inl e ↦ inl e
-      | inr e ↦ by-late (nat_lt f l') refl e
+      | inr e ↦ inr (subst (λ k. is_kept f (l ∷ []) k ≡ true) (sym e) (is-kept l (omega arith)))
     ]
 
-    off : (k n : ℕ) → (n ≤ 0) ⊎ (18446744073709551615 < n) → is_kept f (k ∷ []) n ≡ false
-    off k n out = ?
+    off : (k n : ℕ) → k ≤ 18446744073709551615 → (n ≤ 0) ⊎ (18446744073709551615 < n) → is_kept f (k ∷ []) n ≡ false
+    off k n fits out = false_from_ne_true _ (λ on.
+        let both = and_parts (nat_lt f n) (is_reader (k ∷ []) n) on in
+        let over : f < n = ltb-true f n both.0 in
+        let same : n ≡ k = lone-reader k n both.1 in
+        elim out [
+          | inl least ↦ absurd (omega arith)
+          | inr most ↦ absurd (omega arith)
+        ])
 
 -- s, whose chains and marks are those of the records and spans, becomes what is left once the records are noted and the spans raised
 pub all_marked : (s : Stored) (ns : Numbered) (os rs ss : List Record) (spans spans' : SpanMarks) (f t : ℕ) (span : Span) → HaveSameChains s (stored ns os spans f) → HaveSameMarks s (stored ns os spans f) → chains_in rs ≡ chains_in os → readers_in rs ≡ readers_in os
@@ -74,7 +83,7 @@ all_marked s ns os rs ss spans spans' f t span chains marks cs qs late low raise
         (ap afters_of (sym (sym (chains x) ∙ chain_is ns os spans f x ∙ ap (at_number (chains_in os) []) is)))
         (λ j. sym (sym (marks x j) ∙ marked_is ns os spans f x j ∙ ap (λ o. is_kept f (at_number (readers_in os) (latest_in spans x ∷ []) o) j) is))
         (λ j. sym (marked_is ns ss spans' f x j ∙ ap (λ o. is_kept f (at_number (readers_in ss) (latest_in spans' x ∷ []) o) j) is))
-        (noted_latest f t (latest_in spans x) (latest_in spans' x) late low (low_latest spans x) (raised x ∙ rw inside refl))
+        (noted_latest f t (latest_in spans x) (latest_in spans' x) late low (spans.low x) (raised x ∙ rw inside refl))
     by_number x inside (Some n) is = noted_alike (afters_of (slice_index_or (chains_in rs) n [])) (afters_of (chain_of s x)) (is_kept f (slice_index_or (readers_in rs) n [])) (marked_in s x) (is_kept f (slice_index_or (readers_in ss) n [])) (marked_in (stored ns ss spans' f) x) t
         (ap afters_of (ap (λ ks. slice_index_or ks n []) cs ∙ sym (sym (chains x) ∙ chain_is ns os spans f x ∙ ap (at_number (chains_in os) []) is)))
         (λ j. ap (λ ks. is_kept f (slice_index_or ks n []) j) qs ∙ sym (sym (marks x j) ∙ marked_is ns os spans f x j ∙ ap (λ o. is_kept f (at_number (readers_in os) (latest_in spans x ∷ []) o) j) is))

@@ -1,10 +1,10 @@
 -- What a sweep leaves: readers that are forgotten go, and no key's marks change.
-use Rattle.std.proofs.Common.{◌≡◌, ℕ, ◌<◌, ◌≤◌, ◌+◌, ◌==◌, Bool, true, false, cond, ◌&&◌, ◌⊎◌, inl, inr, List, [], ◌∷◌, length, Option, Some, None, refl, sym, ◌∙◌, ap, subst, arith, nat_le, nat_lt, leb-false, leb-true, lt-ltb, ltb-true}
+use Rattle.std.proofs.Common.{◌≡◌, ℕ, ◌<◌, ◌≤◌, ◌+◌, ◌==◌, Bool, true, false, cond, ◌&&◌, ◌⊎◌, inl, inr, List, [], ◌∷◌, length, Option, Some, None, refl, sym, ◌∙◌, ap, arith, nat_le, nat_lt, leb-false, leb-true, lt-ltb, ltb-true}
 use Rattle.std.specs.Prelude.{slice_index_or, slice_set}
 use Rattle.std.specs.List.{filter}
 use Rattle.std.proofs.lemmas.Bool.{and_parts, cases_lt}
 use Rattle.std.proofs.lemmas.Bool.Decides.{nat_tests}
-use Rattle.std.proofs.lemmas.List.{get_or_past, length-map, length-set}
+use Rattle.std.proofs.lemmas.List.{get_or_past, length-map}
 use Rattle.std.proofs.Math.Seq.{map-set_same}
 use Rattle.spans.proofs.Steps.{by_test}
 use Rattle.key_table.specs.Numbers.{Numbered, number_in}
@@ -16,7 +16,7 @@ use Rattle.read_marks.proofs.Splitting.{filtered_reader}
 use Rattle.version_chain.specs.declared.record.Record.{Record}
 use Rattle.version_chain.specs.declared.chains.Chains.{Chains}
 use Rattle.version_chain.specs.Chains.{HaveSameChains, HaveSameMarks}
-use Rattle.version_chain.specs.ByNumber.{IsPutAt, at_number, chains_in, readers_in, stored}
+use Rattle.version_chain.specs.ByNumber.{at_number, chains_in, readers_in, stored}
 use Rattle.version_chain.specs.Records.{AreSwept, stored_of}
 use Rattle.version_chain.proofs.ByNumber.{chain_is, marked_is, placed, readers_at}
 use Rattle.version_chain.proofs.Recorded.{none_kept}

@@ -1,5 +1,5 @@
 -- What a store says of all keys: at most one version at each key and timestamp, and which readers a key has.
-use Rattle.std.specs.Prelude.{ℕ, List, [], ◌∷◌, Bool, true, false, ◌≡◌, ◌==◌, ◌&&◌, if◌then◌else◌, bytes_eq, Option, Some, unwrap_or}
+use Rattle.std.specs.Prelude.{ℕ, List, [], ◌∷◌, Bool, true, false, ◌≡◌, ◌==◌, ◌&&◌, if◌then◌else◌, bytes_eq, Option, unwrap_or}
 use Rattle.std.specs.Map.{lookup}
 use Rattle.std.specs.BTreeMap.{is_at}
 use Rattle.timestamps.specs.Bytes.{key_cmp}

@@ -272,9 +272,7 @@ impl Chains {
         let Some(number) = self.keys.number_of(key) else {
             return 0;
         };
-        let dropped = self.records[number]
-            .chain
-            .drop_dead(horizon, key, index);
+        let dropped = self.records[number].chain.drop_dead(horizon, key, index);
         self.free_idle(number);
         dropped
     }
@@ -317,9 +315,7 @@ impl Chains {
     {
         self.spans.forget_through(self.forgotten);
         for number in 0..self.records.len() {
-            self.records[number]
-                .readers
-                .forget_through(self.forgotten);
+            self.records[number].readers.forget_through(self.forgotten);
             self.free_idle(number);
         }
         self.changed = 0;
@@ -341,7 +337,13 @@ impl Chains {
     }
 
     /// Of the key's readers above `above` and up to `until`, and `ts`, the greatest alone stays.
-    pub(crate) fn mark(&mut self, key: &Key, ts: u64, above: u64, until: u64) -> Result<(), AllocError>
+    pub(crate) fn mark(
+        &mut self,
+        key: &Key,
+        ts: u64,
+        above: u64,
+        until: u64,
+    ) -> Result<(), AllocError>
         requires low { above < ts }
         requires high { ts ≤ until }
         ensures ok { OnOk result (IsMarkedAt (stored_of self.old) (stored_of self.new) key.now ts above until) }

@@ -10,7 +10,11 @@ use spans::span::Span;
 use std::alloc::AllocError;
 
 /// Makes room for one more reader in each record of the span.
-pub(crate) fn make_room(keys: &KeyTable, records: &mut Vec<Record>, span: &Span) -> Result<(), AllocError>
+pub(crate) fn make_room(
+    keys: &KeyTable,
+    records: &mut Vec<Record>,
+    span: &Span,
+) -> Result<(), AllocError>
     requires { AreLow keys.now (length records.old.items) }
     ensures chains { chains_in records.new.items ≡ chains_in records.old.items }
     ensures readers { readers_in records.new.items ≡ readers_in records.old.items }
@@ -23,7 +27,13 @@ pub(crate) fn make_room(keys: &KeyTable, records: &mut Vec<Record>, span: &Span)
 }
 
 /// Notes the read of `ts` in each record of the span, in the gap that it has there. There is room.
-pub(crate) fn note_each(keys: &KeyTable, records: &mut Vec<Record>, span: &Span, ts: u64, forgotten: u64)
+pub(crate) fn note_each(
+    keys: &KeyTable,
+    records: &mut Vec<Record>,
+    span: &Span,
+    ts: u64,
+    forgotten: u64,
+)
     requires low { AreLow keys.now (length records.old.items) }
     requires late { forgotten < ts }
     requires room { HaveRoom keys.now records.old.items span.now }

@@ -1,5 +1,4 @@
 use Rattle.std.proofs.Common.{ap, subst, sym, ◌∙◌, ◌≡◌}
-use Rattle.std.specs.Map.{keys_of}
 use Rattle.spans.specs.Starting.{start_of}
 use Rattle.spans.proofs.Ascending.{rising_keys}
 use Rattle.version_chain.specs.InSpans.{AreFrom, starting_at}

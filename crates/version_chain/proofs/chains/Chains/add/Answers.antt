@@ -1,7 +1,6 @@
-use Rattle.std.proofs.Common.{ℕ, ◌≡◌, ◌∙◌, ap, subst, sym, [], ◌∷◌}
+use Rattle.std.proofs.Common.{◌∙◌, ap, subst, sym, [], ◌∷◌}
 use Rattle.read_marks.specs.Readers.{is_kept, readers_of}
 use Rattle.version_chain.specs.declared.record.Record.{Record}
-use Rattle.version_chain.specs.Chains.{marked_in}
 use Rattle.version_chain.specs.ByNumber.{IsPlaced, stored}
 use Rattle.version_chain.specs.Records.{stored_of}
 use Rattle.version_chain.proofs.Recorded.{first_reader, marks_alike, marks_nowhere, put_chain, put_marks}

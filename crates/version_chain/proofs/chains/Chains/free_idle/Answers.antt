@@ -4,7 +4,6 @@ use Rattle.version_chain.specs.Records.{MayGo}
 use Rattle.version_chain.proofs.ByNumber.{low_less}
 use Rattle.version_chain.proofs.Recorded.{fewer_readers, gone_chains, gone_marks, low_set}
 use Rattle.version_chain.proofs.chains.Chains.free_idle.Goals as goal
-use Rattle.version_chain.proofs.chains.Chains.free_idle
 
 pub invariant_of-self : goal.invariant_of-self
 invariant_of-self c =

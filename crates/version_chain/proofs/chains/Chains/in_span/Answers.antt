@@ -1,4 +1,4 @@
-use Rattle.std.proofs.Common.{ap, sym, ◌∙◌}
+use Rattle.std.proofs.Common.{ap, ◌∙◌}
 use Rattle.version_chain.specs.ByNumber.{chains_in, entries_of}
 use Rattle.version_chain.specs.InSpans.{filled}
 use Rattle.version_chain.proofs.InSpans.{are_found}

@@ -4,12 +4,12 @@ use Rattle.version_chain.specs.declared.record.Record.{Record}
 use Rattle.version_chain.specs.Records.{stored_of}
 use Rattle.version_chain.proofs.Recorded.{IsHere, kept_chains, kept_marks, marked_at}
 use Rattle.version_chain.proofs.chains.Chains.mark.Goals as goal
-use Rattle.version_chain.proofs.chains.Chains.mark.Goals.{After-self-1}
+use Rattle.version_chain.proofs.chains.Chains.mark.Goals.{After-self-2-1}
 
-here : (c : After-self-1) → IsHere c.number_for.new.self.keys c.number_for.new.self.records.items c.args.key.now c.in_ok-number.number c.index_mut.result.now
+here : (c : After-self-2-1) → IsHere c.number_for.new.self.keys c.number_for.new.self.records.items c.args.key.now c.in_ok-number.number c.index_mut.result.now
 here c = record { number = c.in_ok-number.ensures.number.number; own = c.in_ok-number.ensures.number.own; low = c.number_for.new.self.low c.args.key.now c.in_ok-number.number c.in_ok-number.ensures.number.number; value = c.index_mut.ensures.value }
 
-abbrev noted : After-self-1 → Record
+abbrev noted : After-self-2-1 → Record
 noted c = record { chain = c.index_mut.result.now.chain; readers = c.note.new.self }
 
 pub returns-clause-ok : goal.returns-clause-ok

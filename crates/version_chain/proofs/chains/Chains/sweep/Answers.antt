@@ -1,5 +1,6 @@
-use Rattle.std.proofs.Common.{◌≡◌, ◌<◌, ◌⊎◌, ◌∙◌, arith, length, refl, sym, subst, ℕ}
+use Rattle.std.proofs.Common.{◌≡◌, ◌<◌, ◌⊎◌, ◌∙◌, arith, length, refl, sym, subst}
 use Rattle.std.proofs.lemmas.List.{length-set}
+use Rattle.read_marks.specs.Spans.{latest_in}
 use Rattle.version_chain.specs.declared.record.Record.{Record}
 use Rattle.version_chain.proofs.Sweeping.{all_swept, forgot_chains, forgot_marks, forgot_one, latest_left, spans_forgotten}
 use Rattle.version_chain.proofs.chains.Chains.sweep.Goals as goal
@@ -37,5 +38,5 @@ loop-number-preserved c =
 pub returns-clause-swept : goal.returns-clause-swept
 returns-clause-swept c = let m = c.loop-number.self in record {
   records = λ k j is. subst (λ f. f < j) (sym c.loop-number.invariant.forgotten) (all_swept m.records.items c.loop-number.number c.args.self.now.forgotten (omega (arith, c.loop-number-test.false, c.len-number-end.ensures, c.loop-number.invariant.count)) c.loop-number.invariant.swept k j is);
-  spans = λ x. subst (λ f. _ ⊎ (f < _)) (sym c.loop-number.invariant.forgotten) (c.loop-number.invariant.spans x);
+  spans = λ x. subst (λ f. (latest_in m.spans x ≡ 0) ⊎ (f < latest_in m.spans x)) (sym c.loop-number.invariant.forgotten) (c.loop-number.invariant.spans x);
 }

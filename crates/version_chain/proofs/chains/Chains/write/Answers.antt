@@ -1,8 +1,7 @@
-use Rattle.std.proofs.Common.{◌≡◌, ap, refl, subst, sym, [], Some}
+use Rattle.std.proofs.Common.{◌≡◌, ap, refl, subst, sym, Some}
 use Rattle.std.specs.Prelude.{IfOk, is_none}
 use Rattle.std.proofs.lemmas.Result.{on_ok_weaker}
 use Rattle.version_chain.specs.Versions.{version_of}
-use Rattle.version_chain.specs.Chains.{chain_of}
 use Rattle.version_chain.specs.Records.{stored_of}
 use Rattle.version_chain.proofs.Changes.{changed, edited_one}
 use Rattle.version_chain.proofs.Recorded.{IsHere, chain_here, chain_nowhere, edited_here, kept_marks}

@@ -1,4 +1,4 @@
-use Rattle.std.proofs.Common.{◌≡◌, ap, eqb, eq-eqb, refl, sym, ◌∙◌, true, false, ◌==◌}
+use Rattle.std.proofs.Common.{◌≡◌, eq-eqb, refl, true, ◌==◌}
 use Rattle.std.specs.Option.{option_copied}
 use Rattle.std.proofs.lemmas.Bool.{both_ways}
 use Rattle.read_marks.specs.Readers.{is_kept, readers_of}

@@ -13,7 +13,7 @@ invariant_of-self c = sound_commit (stored_of c.self.inside.chains) (stored_of c
     (omega (arith, c.min-self-inside.ensures)) (omega (arith, c.min-self-inside.ensures, c.get-ts.ensures.in_range.0)) c.self.invariant
 
 pub invariant_of-self-2 : goal.invariant_of-self-2
-invariant_of-self-2 c = sound_commit (stored_of c.self.inside.chains) (stored_of c.commit_all.new.self) c.self.inside.index c.iter.result c.get-ts.result c.self.inside.count c.min-self-inside.result c.self.inside.dropped_through c.commit_all.ensures
+invariant_of-self-2 c = sound_commit (stored_of c.self.inside.chains) (stored_of c.commit_all.new.self) c.self.inside.index c.iter.result c.get-ts.result c.self.inside.count c.min-self-inside.result c.self.inside.dropped_through c.commit_all.ensures.changed
     (omega (arith, c.min-self-inside.ensures)) (omega (arith, c.min-self-inside.ensures, c.get-ts.ensures.in_range.0)) c.self.invariant
 
 pub returns-clause-count : goal.returns-clause-count

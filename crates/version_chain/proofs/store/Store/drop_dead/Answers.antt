@@ -34,5 +34,5 @@ invariant_of-self c = record {
   settled = subst (AreSettled (stored_of c.self-2.inside.chains)) (sym c.max-self-inside.ensures) (settled_max (stored_of c.self-2.inside.chains) c.self-2.inside.dropped_through c.args.horizon c.self-2.invariant.settled (none c));
 }
 
-pub returns : goal.returns
-returns c = (collected c.args.self.now (stored_of c.self-2.inside.chains) c.args.horizon c.self.inside.count c.self-2.inside.count (left c) (subst (λ es. IsCountOf es c.self.inside.count) c.self.view_is c.self.invariant.counted) c.self-2.invariant.counted).1
+pub returns-clause-collected : goal.returns-clause-collected
+returns-clause-collected c = (collected c.args.self.now (stored_of c.self-2.inside.chains) c.args.horizon c.self.inside.count c.self-2.inside.count (left c) (subst (λ es. IsCountOf es c.self.inside.count) c.self.view_is c.self.invariant.counted) c.self-2.invariant.counted).1

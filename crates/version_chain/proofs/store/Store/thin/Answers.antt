@@ -15,7 +15,7 @@ overflow_sub-self c = (c.drop_dead.ensures.counted c.loop-key.self-inside.count 
 
 pub loop-key-preserved : goal.loop-key-preserved
 loop-key-preserved c = thinning_next c.args.self.now (stored_of c.loop-key.self-inside.chains) (stored_of c.drop_dead.new.self) c.loop-key.self-inside.index c.drop_dead.new.index c.args.ts c.args.horizon c.loop-key.self-inside.count c.loop-key.self-inside.dropped_through c.drop_dead.result c.in-Some-key.key.now
-    c.loop-key.key-iterator c.next.new.self c.in-Some-key.ensures.steps c.drop_dead.ensures.thinned c.drop_dead.ensures.counted c.drop_dead.ensures.listed c.drop_dead.ensures.taken c.loop-key.invariant
+    c.loop-key.key-iterator c.next.new.self c.in-Some-key.ensures.steps c.drop_dead.ensures.thinned c.drop_dead.ensures.marks c.drop_dead.ensures.counted c.drop_dead.ensures.listed c.drop_dead.ensures.taken c.loop-key.invariant
 
 pub take-requires : goal.take-requires
 take-requires c = c.self.invariant.filled

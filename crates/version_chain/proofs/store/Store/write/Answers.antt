@@ -29,5 +29,5 @@ pub invariant_of-self-in-Err : goal.invariant_of-self-in-Err
 invariant_of-self-in-Err c = sound_index (stored_of c.remove.new.self) c.self.inside.index c.add.new.self c.self.inside.count c.self.inside.dropped_through c.in-Err.ensures.err c.in-Err.ensures.filled
     (sound_alike (stored_of c.self.inside.chains) (stored_of c.remove.new.self) c.self.inside.index c.self.inside.count c.self.inside.dropped_through
     (went_again (stored_of c.self.inside.chains) (stored_of c.write.new.self) (stored_of c.remove.new.self) c.args.key.now c.args.ts _ (sym c.in_ok-new.ensures.new ∙ c.if-new.true) c.in_ok-new.ensures.ok
-    (subst (λ t. IsChangedAt (stored_of c.write.new.self) (stored_of c.remove.new.self) c.args.key.now t (λ _. None)) c.get-in-Err.ensures.number c.remove.ensures))
+    (subst (λ t. IsChangedAt (stored_of c.write.new.self) (stored_of c.remove.new.self) c.args.key.now t (λ _. None)) c.get-in-Err.ensures.number c.remove.ensures.changed))
     c.self.invariant)
