@@ -14,7 +14,8 @@ use Rattle.version_chain.specs.Chains.{Entry, chain_of}
 use Rattle.version_chain.specs.Stores.{Stored, is_committed_in, version_in}
 use Rattle.version_chain.specs.declared.chain.Version as stored
 use Rattle.mvto_rules.specs.Room.{end_at, end_in, has_room, is_over, room_behind, stops_at}
-use Rattle.mvto_rules.specs.Scans.{entries_of, keys_in, newest_in, stops_in}
+use Rattle.version_chain.specs.Marking.{newest_in}
+use Rattle.mvto_rules.specs.Scans.{entries_of, keys_in, stops_in}
 use Rattle.mvto_rules.specs.Sights.{ts_of, value_in, would_stop}
 use Rattle.mvto_rules.specs.declared.room.Room.{Room}
 use Rattle.mvto_rules.proofs.Seeing.{IsThere}
@@ -25,7 +26,7 @@ pub record IsEnding (s : Stored) (t : ℕ) (span : Span) (rows bytes : ℕ) (res
   pub each : AllByRecursion (λ (e : Entry). (in_span span e.0 ≡ true) × (chain_of s e.0 ≡ e.1)) rest
   pub ends : end_in s t room.rows room.bytes (keys_of rest) ≡ end_in s t rows bytes (keys_in s span)
 
-pub ending_begins : (s : Stored) (t : ℕ) (span : Span) (rows bytes : ℕ) (found : List Entry) → found ≡ entries_of s span → RisingKeys (keys_of found) → IsEnding s t span rows bytes found (record { rows = rows; bytes = bytes })
+pub ending_begins : (s : Stored) (t : ℕ) (span : Span) (rows bytes : ℕ) (found : List Entry) → found ≡ entries_of s span → RisingKeys (keys_of s.entries) → IsEnding s t span rows bytes found (record { rows = rows; bytes = bytes })
 ending_begins s t span rows bytes found those rising = record { each = each_found s span found [] found those rising refl; ends = ap (λ es. end_in s t rows bytes (keys_of es)) those }
 
 stops_so : (d : ℕ → Bool) (t : ℕ) (o : Option stored.Version) → IfSome o (λ v. d v.ts ≡ v.committed) → IfSome o (λ v. 1 ≤ v.ts) → would_stop d t (ts_of o) ≡ stops_at t o

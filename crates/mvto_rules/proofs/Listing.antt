@@ -9,6 +9,7 @@ use Rattle.spans.proofs.Keyed.{RisingKeys}
 use Rattle.version_chain.specs.Chains.{Entry, chain_of}
 use Rattle.version_chain.specs.Stores.{Stored, is_committed_in, version_in}
 use Rattle.version_chain.specs.declared.chain.Version.{Version}
+use Rattle.version_chain.specs.Marking.{newest_in}
 use Rattle.mvto_rules.specs.Scans.{entries_of, keys_in, rows_in}
 use Rattle.mvto_rules.specs.Sights.{value_in}
 use Rattle.mvto_rules.proofs.Seeing.{IsThere}
@@ -19,7 +20,7 @@ pub record IsListing (s : Stored) (t : ℕ) (span : Span) (rest : List Entry) (r
   pub each : AllByRecursion (λ (e : Entry). (in_span span e.0 ≡ true) × (chain_of s e.0 ≡ e.1)) rest
   pub listed : rows ++ rows_in s t (keys_of rest) ≡ rows_in s t (keys_in s span)
 
-pub list_begins : (s : Stored) (t : ℕ) (span : Span) (found : List Entry) (rows : List (List ℕ × List ℕ)) → found ≡ entries_of s span → RisingKeys (keys_of found) → rows ≡ [] → IsListing s t span found rows
+pub list_begins : (s : Stored) (t : ℕ) (span : Span) (found : List Entry) (rows : List (List ℕ × List ℕ)) → found ≡ entries_of s span → RisingKeys (keys_of s.entries) → rows ≡ [] → IsListing s t span found rows
 list_begins s t span found rows those rising none = record {
   each = each_found s span found [] found those rising refl;
   listed = ap (λ l. l ++ rows_in s t (keys_of found)) none ∙ ap (λ es. rows_in s t (keys_of es)) those;

@@ -1,20 +1,20 @@
 -- A read of one key, noted.
+use std.Path.{fun_ext}
 use Rattle.std.proofs.Common.{Bool, List, None, Option, Some, arith, eq-eqb, false, refl, subst, suc, sym, true, zero, ℕ, ◌<◌, ◌≤◌, ◌==◌, ◌≡◌, ◌∙◌, [], ◌∷◌, ap}
 use Rattle.std.specs.Prelude.{bytes_eq, is_some, nat_lt, unwrap_or}
-use Rattle.std.specs.List.{Contains}
 use Rattle.std.proofs.lemmas.Bool.Decides.{nat_tests}
 use Rattle.timestamps.specs.declared.ts.TheConstants.{MAX}
 use Rattle.spans.specs.Effects.{After}
 use Rattle.spans.specs.Kept.{Kept}
-use Rattle.spans.specs.Keys.{in_span}
-use Rattle.spans.specs.declared.span.Span.{Span}
 use Rattle.spans.proofs.Steps.{by_test, key_itself}
 use Rattle.kept.specs.Changes.{IsReadBy}
 use Rattle.kept.specs.Finding.{IsNextAbove, seen}
 use Rattle.kept.specs.Marks.{IsNoted, IsPiece, until}
 use Rattle.kept.proofs.Noting.{merged_noted, own_noted}
-use Rattle.read_marks.specs.declared.piece.Piece.{Piece}
-use Rattle.version_chain.specs.Stores.{Stored, after_of, version_in}
+use Rattle.version_chain.specs.Marking.{IsMarkedAt}
+use Rattle.version_chain.specs.Stores.{IsAsBefore, Stored, after_of, marked_in, version_in}
+use Rattle.mvto_rules.specs.Holding.{holding, marked_of}
+use Rattle.mvto_rules.specs.declared.rules.Rules.{Rules}
 use Rattle.version_chain.specs.Chains.{chain_of}
 use Rattle.version_chain.specs.Versions.{version_of}
 use Rattle.version_chain.specs.declared.chain.Version.{Version}
@@ -55,35 +55,21 @@ own_read k s x t is own =
 pub own_is_read : (k : Kept) (s : Stored) (x : List ℕ) (t : ℕ) → k.version ≡ version_in s → (seen k x t).ts ≡ t → IsReadBy k k t x
 own_is_read k s x t is own = record { noted = own_read k s x t is own; others = λ y off n. refl; rest = refl }
 
-pub until_is : (next : Option ℕ) (n : ℕ) → n ≡ unwrap_or next 18446744073709551615 → n ≡ until next
-until_is None n is = is
-until_is (Some s) n is = is
-
 pub past_until : (f : ℕ → Option After) (t : ℕ) (next : Option ℕ) → t ≤ MAX → IsNextAbove f t next → t ≤ until next
 past_until f t None low next = omega arith
 past_until f t (Some s) low next = omega (arith, next.0)
 
--- a read of another's version is noted by its piece
-pub piece_read : (k : Kept) (m' : List ℕ → ℕ → Bool) (x : List ℕ) (t above to : ℕ) (next : Option ℕ) → (seen k x t).ts ≡ above → above < t → t ≤ MAX → IsNextAbove (k.version x) t next → to ≡ until next
-    → IsPiece (k.marked x) (m' x) t above to → ((y : List ℕ) → bytes_eq x y ≡ false → (n : ℕ) → m' y n ≡ k.marked y n) → IsReadBy k (record k { marked = m' }) t x
-piece_read k m' x t above to next at low high is_next until_next piece others = record {
-  noted = merged_noted k x t next (m' x) is_next (subst (λ n. n < t) (sym at) low) high (subst (λ n. IsPiece (k.marked x) (m' x) t n (until next)) (sym at) (subst (λ n. IsPiece (k.marked x) (m' x) t above n) until_next piece));
-  others = others;
-  rest = refl;
+-- where each version is what it was, marks alone have changed
+pub only_marks : (k : Kept) (r : Rules) (s' : Stored) → IsAsBefore r.store s' → holding k (record r { store = s' }) ≡ record (holding k r) { marked = marked_in s' }
+only_marks k r s' before =
+    ap (λ v. record (holding k (record r { store = s' })) { version = v }) (fun_ext (λ y. fun_ext (λ i. before.version y i)))
+    ∙ ap (λ c. record (holding k r) { committed = c; marked = marked_in s' }) (fun_ext (λ y. fun_ext (λ i. before.committed y i)))
+
+-- a read of another's version is noted in its gap
+pub gap_read : (k : Kept) (r : Rules) (s' : Stored) (x : List ℕ) (t above : ℕ) (next : Option ℕ) → above < t → t ≤ MAX → IsNextAbove (version_in r.store x) t next → IsAsBefore r.store s' → IsMarkedAt r.store s' x t above (until next)
+    → (seen (holding k r) x t).ts ≡ above → IsReadBy (holding k r) (holding k (record r { store = s' })) t x
+gap_read k r s' x t above next low high is_next before marked at = record {
+  noted = merged_noted (holding k r) x t next (marked_in s' x) is_next (subst (λ n. n < t) (sym at) low) high (subst (λ n. IsPiece (marked_of r x) (marked_in s' x) t n (until next)) (sym at) marked.piece);
+  others = marked.others;
+  rest = only_marks k r s' before;
 }
-
-only_one : (p q : Piece) → Contains (p ∷ []) q → p ≡ q
-only_one p q (zero, low, e) = e
-only_one p q (suc n, low, e) = absurd (omega arith)
-
--- a read of another's version is noted by the piece of its key alone
-pub spot_read : (k : Kept) (m' : List ℕ → ℕ → Bool) (x : List ℕ) (t above to : ℕ) (next : Option ℕ) (span : Span) → above < t → t ≤ MAX → IsNextAbove (k.version x) t next → to ≡ unwrap_or next 18446744073709551615 → ((y : List ℕ) → in_span span y ≡ bytes_eq x y)
-    → ((p : Piece) → Contains (record { span = span; above = above; until = to } ∷ []) p → (y : List ℕ) → in_span p.span y ≡ true → IsPiece (k.marked y) (m' y) t p.above p.until)
-    → ((y : List ℕ) → ((p : Piece) → Contains (record { span = span; above = above; until = to } ∷ []) p → in_span p.span y ≡ false) → (j : ℕ) → m' y j ≡ k.marked y j)
-    → (seen k x t).ts ≡ above → IsReadBy k (record k { marked = m' }) t x
-spot_read k m' x t above to next span low high is_next until_next alone inside outside at =
-    let piece : Piece = record { span = span; above = above; until = to } in
-    let there : Contains (piece ∷ []) piece = (0, omega arith, refl) in
-    piece_read k m' x t above to next at low high is_next (until_is next to until_next)
-    (inside piece there x (alone x ∙ key_itself x))
-    (λ y off. outside y (λ p is. subst (λ q. in_span q.span y ≡ false) (only_one piece p is) (alone y ∙ off)))

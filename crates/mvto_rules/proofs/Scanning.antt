@@ -15,28 +15,26 @@ use Rattle.spans.specs.declared.calls.replies.Refusal.TheVariants.{Blocked}
 use Rattle.spans.specs.declared.calls.replies.Reply.{Reply}
 use Rattle.spans.specs.declared.calls.replies.Reply.TheVariants.{Refused, Rows}
 use Rattle.spans.proofs.Keyed.{IsIn, RisingKeys}
-use Rattle.spans.proofs.Steps.{by_test}
+use Rattle.spans.proofs.Steps.{by_test, newest_is}
 use Rattle.spans.proofs.WriteSets.{has, has_in}
 use Rattle.kept.specs.Answered.{IsScanReply}
 use Rattle.kept.specs.Changes.{IsScannedBy}
 use Rattle.kept.specs.Finding.{AreKeysOf}
-use Rattle.kept.specs.Marks.{IsPiece, until}
+use Rattle.kept.specs.Marks.{until}
 use Rattle.kept.specs.Replies.{scan_reply, unless_refused}
 use Rattle.kept.specs.Table.{refusal}
 use Rattle.kept.proofs.Marking.{merged}
-use Rattle.kept.proofs.Noting.{own_noted}
-use Rattle.kept.proofs.Contained.{contains_has}
-use Rattle.read_marks.specs.Marks.{AreApart}
-use Rattle.read_marks.specs.declared.piece.Piece.{Piece}
+use Rattle.timestamps.specs.declared.ts.TheConstants.{MAX}
+use Rattle.version_chain.specs.Marking.{AreMarkedAt, newest_in}
 use Rattle.version_chain.specs.Chains.{AreFilled, Entry, chain_of}
-use Rattle.version_chain.specs.Stores.{Stored, after_of, version_in}
+use Rattle.version_chain.specs.Stores.{IsAsBefore, Stored, after_of, marked_in, version_in}
 use Rattle.version_chain.specs.Versions.{version_of}
 use Rattle.version_chain.specs.declared.chain.Version.{Version}
-use Rattle.version_chain.proofs.InSpans.{chain_nowhere}
+use Rattle.version_chain.proofs.InSpans.{chain_nowhere, rises_filtered}
 use Rattle.mvto_rules.specs.Holding.{holding, marked_of}
-use Rattle.mvto_rules.specs.Scans.{AreAllMade, Marked, MarksAsOwn, entries_of, first_blocker, keys_in, newest_in, rows_in, stops_in}
+use Rattle.mvto_rules.specs.Scans.{entries_of, first_blocker, keys_in, rows_in, stops_in}
 use Rattle.mvto_rules.specs.declared.rules.Rules.{Rules}
-use Rattle.mvto_rules.proofs.Noting.{some_next}
+use Rattle.mvto_rules.proofs.Noting.{only_marks, past_until}
 use Rattle.mvto_rules.proofs.Walking.{each_found, in_each}
 
 -- ---- its reply
@@ -94,73 +92,34 @@ each_filled s span (e ∷ es) x each filled i = elim i [
   | inr there ↦ each_filled s span es x each.1 filled.1 there
 ]
 
-pub keys_are : (k : Kept) (r : Rules) (span : Span) → RisingKeys (keys_in r.store span) → AreFilled (entries_of r.store span) → AreKeysOf (holding k r) span (keys_in r.store span)
+pub keys_are : (k : Kept) (r : Rules) (span : Span) → RisingKeys (keys_of r.store.entries) → AreFilled (entries_of r.store span) → AreKeysOf (holding k r) span (keys_in r.store span)
 keys_are k r span rising filled =
     let each = each_found r.store span (entries_of r.store span) [] (entries_of r.store span) refl rising refl in
     record {
-      rising = rising;
+      rising = rises_filtered _ r.store.entries rising;
       each = λ x. (
         λ i. (let some = each_filled r.store span (entries_of r.store span) x each filled i in (in_each r.store span (entries_of r.store span) x each i, some.0, some.1)),
         λ is. by_test (has x (keys_in r.store span))
             (λ on. (has_in x (keys_in r.store span)).1 on)
             (λ off.
-            let none : chain_of r.store x ≡ [] = chain_nowhere span r.store (entries_of r.store span) x refl is.0 (λ i. both_ways _ off ((has_in x (keys_in r.store span)).0 i)) in
+            let none : chain_of r.store x ≡ [] = chain_nowhere span r.store.entries (entries_of r.store span) x refl is.0 (λ i. both_ways _ off ((has_in x (keys_in r.store span)).0 i)) in
             let no : false ≡ true = sym (ap (λ vs. is_some (after_of (version_of vs is.1))) none) ∙ is.2 in cc),
       );
     }
 
 -- ---- what it marks
 
-pub are_apart : (s : Stored) (m : Marked) (t : ℕ) (span : Span) (ps : List Piece) → AreAllMade s m t span ps → AreApart ps
-are_apart s m t span ps made p q i j x a b = made.apart p q ((contains_has p ps).0 i) ((contains_has q ps).0 j) x a b
-
--- a gap that marks as the own gap of the read made what that makes
-module _ (s : Stored) (marked : Marked) (m' : ℕ → Bool) (t above to : ℕ) (x : List ℕ) (own : MarksAsOwn s marked t x above to) (piece : IsPiece (marked x) m' t above to) where
-  top : piece.top ≤ until own.next
-  top = elim piece.is [ inl itself ↦ omega (arith, itself, own.late) | inr reader ↦ (own.readers piece.top reader (omega (arith, piece.least, own.low, own.other)) piece.most).1 ]
-
-  -- no reader of the wider gap is outside of the own one
-  none_before : (n : ℕ) → above < n → n ≤ to → (n ≤ (newest_in s t x).ts) ⊎ (until own.next < n) → marked x n ≡ false
-  none_before n more less out = false_from_ne_true _ (λ is. let r = own.readers n is more less in elim out [ inl low ↦ absurd (omega (arith, r.0, low)) | inr high ↦ absurd (omega (arith, r.1, high)) ])
-
-  none_now : (n : ℕ) → above < n → n ≤ to → (n ≤ (newest_in s t x).ts) ⊎ (until own.next < n) → m' n ≡ false
-  none_now n more less out = false_from_ne_true _ (λ is. let e : n ≡ piece.top = piece.inside n more less is in elim out [ inl low ↦ absurd (omega (arith, e, low, piece.least, own.other)) | inr high ↦ absurd (omega (arith, e, high, top)) ])
-
-  pub as_own : IsPiece (marked x) m' t (newest_in s t x).ts (until own.next)
-  as_own = record {
-    top = piece.top;
-    marked = piece.marked;
-    is = piece.is;
-    least = piece.least;
-    most = top;
-    greatest = λ n h more less. piece.greatest n h (omega (arith, own.low, more)) (omega (arith, own.high, less));
-    outside = λ n out. by_test (nat_le n above)
-        (λ on. piece.outside n (inl (leb-true n above on)))
-        (λ off. by_test (nat_lt to n)
-        (λ on. piece.outside n (inr (ltb-true to n on)))
-        (λ in'. none_now n (leb-false n above off) (ltb-false to n in') out ∙ sym (none_before n (leb-false n above off) (ltb-false to n in') out)));
-    inside = λ n more less h. piece.inside n (omega (arith, own.low, more)) (omega (arith, own.high, less)) h;
-  }
-
-pub scanned : (k : Kept) (r : Rules) (m' : List ℕ → ℕ → Bool) (t : ℕ) (span : Span) (ps : List Piece) → AreAllMade r.store (marked_of r) t span ps
-    → ((p : Piece) → Contains ps p → (x : List ℕ) → in_span p.span x ≡ true → IsPiece ((holding k r).marked x) (m' x) t p.above p.until)
-    → ((x : List ℕ) → ((p : Piece) → Contains ps p → in_span p.span x ≡ false) → (j : ℕ) → m' x j ≡ (holding k r).marked x j)
-    → IsScannedBy (holding k r) (record (holding k r) { marked = m' }) t span
-scanned k r m' t span ps made inside outside = record {
-  noted = λ x in'. elim (made.each x in' refl) [
-    | inl own ↦ (let next = some_next (chain_of r.store x) t in own_noted (holding k r) x t next.0 (m' x) next.1 own (outside x (λ p i. by_test (in_span p.span x)
-        (λ on. absurd (let gap = (made.within p ((contains_has p ps).0 i) x on).2 in omega (arith, gap.other, own)))
-        (λ off. off))))
-    | inr of ↦ (let own = (made.within of.0 of.1 x of.2).2 in record {
-      next = own.next;
-      is_next = own.is_next;
-      own = λ itself. absurd (omega (arith, own.other, itself));
-      other = λ other. merged (marked_of r x) (m' x) t (newest_in r.store t x).ts (until own.next) own.other own.late
-          (as_own r.store (marked_of r) (m' x) t of.0.above of.0.until x own (inside of.0 ((contains_has of.0 ps).1 of.1) x of.2));
-    })
-  ];
-  others = λ x out. outside x (λ p i. by_test (in_span p.span x)
-      (λ on. absurd (both_ways _ out (made.within p ((contains_has p ps).0 i) x on).0))
-      (λ off. off));
-  rest = refl;
+pub scanned : (k : Kept) (r : Rules) (s' : Stored) (t : ℕ) (span : Span) → t ≤ MAX → AreMarkedAt r.store s' span t → IsAsBefore r.store s' → IsScannedBy (holding k r) (holding k (record r { store = s' })) t span
+scanned k r s' t span high marked before = record {
+  noted = λ x inside. let n = marked.noted x inside in record {
+    next = n.next;
+    is_next = n.is_next;
+    own = n.own;
+    other = λ differs. merged (marked_of r x) (marked_in s' x) t (newest_in r.store t x).ts (until n.next) (below x differs) (past_until (version_in r.store x) t n.next high n.is_next) (n.other differs);
+  };
+  others = marked.others;
+  rest = only_marks k r s' before;
 }
+  where
+    below : (x : List ℕ) → ((newest_in r.store t x).ts == t) ≡ false → (newest_in r.store t x).ts < t
+    below x differs = (let low : (newest_in r.store t x).ts ≤ t = (newest_is (version_in r.store x) t).at_most in grind (arith, nat_tests, differs, low))

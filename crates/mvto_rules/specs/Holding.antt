@@ -4,18 +4,14 @@ use Rattle.spans.specs.Effects.{After}
 use Rattle.spans.specs.Kept.{Kept, Transaction}
 use Rattle.spans.specs.declared.calls.commands.Cmd.{Cmd}
 use Rattle.spans.specs.declared.calls.commands.Cmd.TheVariants.{Del, Put}
-use Rattle.spans.specs.declared.span.Span.{Span}
 use Rattle.spans.specs.declared.calls.replies.Refusal.{Refusal}
 use Rattle.spans.specs.declared.calls.replies.Reply.{Reply}
 use Rattle.spans.specs.declared.calls.replies.Reply.TheVariants.{Refused}
 use Rattle.kept.specs.Answered.{IsStep}
 use Rattle.kept.specs.Changes.{IsAlike}
 use Rattle.closing.specs.Standing.{Standing, closed_in, made_in, protections_in}
-use Rattle.version_chain.specs.Stores.{Stored, is_committed_in, version_in}
-use Rattle.read_marks.specs.Marks.{is_marked_in}
-use Rattle.read_marks.specs.declared.piece.Piece.{Piece}
+use Rattle.version_chain.specs.Stores.{Stored, is_committed_in, marked_in, version_in}
 use Rattle.txn_table.specs.TransactionIn.{transaction_in}
-use Rattle.mvto_rules.specs.Scans.{AreAllMade}
 use Rattle.mvto_rules.specs.declared.rules.Rules.{Rules}
 
 -- what the rules hold
@@ -23,7 +19,7 @@ abbrev pub versions_of : Rules → Stored
 versions_of r = r.store
 
 abbrev pub marked_of : Rules → List ℕ → ℕ → Bool
-marked_of r = is_marked_in r.marks
+marked_of r = marked_in r.store
 
 abbrev pub transactions_of : Rules → ℕ → Option Transaction
 transactions_of r = transaction_in r.txns
@@ -33,10 +29,6 @@ closing_of r = r.closing
 
 abbrev pub horizon_of : Rules → ℕ
 horizon_of r = r.horizon
-
--- the pieces mark all keys of the span for a read by t
-abbrev pub AreMadeFor : Rules → ℕ → Span → List Piece → Type 0
-AreMadeFor r t span pieces = AreAllMade (versions_of r) (marked_of r) t span pieces
 
 -- k with what the rules hold in its place
 abbrev pub holding : Kept → Rules → Kept

@@ -1,6 +1,5 @@
 pub mod Tables
 pub mod Sights
-pub mod Cuts
 pub mod Scans
 pub mod Readings
 pub mod Holding

@@ -7,7 +7,8 @@ use Rattle.spans.specs.declared.span.Span.{Span}
 use Rattle.kept.specs.Finding.{AreKeysOf, is_seen_blocked, seen}
 use Rattle.version_chain.specs.Stores.{Stored}
 use Rattle.version_chain.specs.declared.chain.Version.{Version}
-use Rattle.mvto_rules.specs.Scans.{newest_in, stops_in}
+use Rattle.version_chain.specs.Marking.{newest_in}
+use Rattle.mvto_rules.specs.Scans.{stops_in}
 use Rattle.mvto_rules.specs.declared.room.Room.{Room}
 
 -- the bytes of a row

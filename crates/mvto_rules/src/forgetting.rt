@@ -21,7 +21,7 @@ impl Rules {
         ensures closed { (was : ℕ) → Changes self.old self.new (λ k k'. IsClosedAt (with_closed was k) k' k.closed) }
     {
         let closed = self.closing.closed();
-        self.marks.forget_through(closed);
+        self.store.forget_through(closed);
         self.txns.forget_through(closed);
     }
 }

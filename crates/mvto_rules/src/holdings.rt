@@ -8,12 +8,10 @@ ghost use Rattle.version_chain.specs.Stores as stores;
 
 use crate::rules::Rules;
 use closing::Closing;
-use read_marks::Marks;
 use version_chain::Store;
 
 impl Rules {
-    ghost use Rattle.mvto_rules.specs.Holding.{closing_of, horizon_of, marked_of, transactions_of, versions_of};
-    ghost use Rattle.read_marks.specs.Marks.{is_marked_in};
+    ghost use Rattle.mvto_rules.specs.Holding.{closing_of, horizon_of, transactions_of, versions_of};
 
     /// The versions.
     pub fn versions(&self) -> &Store
@@ -49,13 +47,6 @@ impl Rules {
         ensures { stores.IsCountOf (versions_of self.now) result }
     {
         self.store.versions()
-    }
-
-    /// The marks of readers.
-    pub fn marks(&self) -> &Marks
-        ensures { is_marked_in result.now ≡ marked_of self.now }
-    {
-        &self.marks
     }
 
     /// How many transactions are undecided.

@@ -1,5 +1,5 @@
-//! The read and write rules of multiversion timestamp ordering, over versions, marks of readers, transactions, and what is
-//! closed. [`Rules`] holds them and ties them, and answers each command that is no feed's. `engine` is the caller.
+//! The read and write rules of multiversion timestamp ordering, over versions with marks of readers, transactions, and what
+//! is closed. [`Rules`] holds them and ties them, and answers each command that is no feed's. `engine` is the caller.
 //!
 //! 1. A read sees the newest version at or below its timestamp, and marks its reader. Another's undecided one stops it.
 //! 2. A write is too late where a reader above it has read the version below it. Then its transaction is aborted.
@@ -30,22 +30,14 @@
 //! read_at 46 b -> of 10    10* 50*            60                        48
 //! ```
 //!
-//! Some marks stand for others:
-//!
-//! - Of the readers of one version only the greatest can refuse a write, so a get joins them into that one.
-//! - A scan does so at each key: it joins the readers above the version that it read there, up to the next one.
-//! - Keys whose readers it joins alike are one piece, and so are all keys without a version. A key where the reader has
-//!   its own version is in none: that read marks nothing.
-//!
-//! Costs, where n transactions wrote w keys each, k keys have v versions each, s spans have m readers each, and p
-//! protections stand:
+//! Costs, where n transactions wrote w keys each, k keys have v versions and m readers each, s starts of spans are kept, and
+//! p protections stand:
 //!
 //! - `begin`: O(log n)
-//! - `get`: O(log n + log k + log v + log s + log m), and the readers above its own move
-//! - `write`: O(log n + log w + log k + log v + log s + log m), and a move of the versions
-//!   above its own in their list or block, or as `abort`
-//! - `scan`: O(log n + log k), O(log v) for each key, O(log s + log m) more for one with a version above closed, and
-//!   O(log s + m) for each span between its bounds
+//! - `get`: O(log n + log k + log v + log m), and the readers above its own move
+//! - `write`: O(log n + log w + log k + log v + log m), O(log s) for a key that had no record, and a move of the versions above
+//!   its own in their list or block, or as `abort`
+//! - `scan`: O(log n + log k), O(log v + log m) for each key with a record, and O(log s) for each start between its bounds
 //! - `commit`, `abort`: O(log n), and O(log k + log v) for each key written
 //! - `close`: O(log n) for each transaction that goes; `close_hard`: also an abort of each that it takes back
 //! - `protect`, `release`: O(log p)
@@ -55,8 +47,7 @@
 //! - `closed`, `horizon`: O(1); `undecided_report`: O(log n) for each undecided transaction
 //! - `oldest_undecided`, `reached`: O(log n); `version_at`: O(log k + log v), for each undecided version above it too
 //!
-//! A read copies readers that its key shares with others, and goes over all spans once these have doubled. Memory:
-//! `begin`, reads, writes, `protect` and `undecided_report` take it, but for writes that are too late and reads that are
+//! A read goes over all records where many of them came since it last did so. Memory: `begin`, reads, writes, `protect` and `undecided_report` take it, but for writes that are too late and reads that are
 //! blocked. The others take none.
 //!
 //! Tests: `layer_tests`.
@@ -64,7 +55,6 @@
 
 mod collecting;
 mod commands;
-mod cut;
 mod forgetting;
 mod holdings;
 mod looking;
@@ -74,7 +64,5 @@ mod room;
 mod rules;
 mod sight;
 mod snapshots;
-mod spot;
-mod walk;
 
 pub use rules::Rules;

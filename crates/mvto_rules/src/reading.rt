@@ -1,28 +1,29 @@
 //! What a scan reads of the versions.
-ghost use Rattle.std.specs.Prelude.{◌≡◌, ◌≤◌, IfOk, OnErr, None};
-ghost use Rattle.timestamps.specs.declared.ts.TheConstants.{MAX};
+ghost use Rattle.std.specs.Prelude.{◌≡◌, ◌++◌, [], IfOk, OnErr, OnOk, None};
+ghost use Rattle.std.specs.Option.{option_copied};
+ghost use Rattle.std.specs.Map.{keys_of};
+ghost use Rattle.spans.specs.Keys.{with_value};
 ghost use Rattle.spans.proofs.Keyed.{RisingKeys};
-ghost use Rattle.read_marks.specs.Marks.{is_marked_in};
 ghost use Rattle.version_chain.specs.Chains.{AreFilled};
 ghost use Rattle.mvto_rules.specs.Scans.{entries_of, first_blocker, keys_in};
 ghost use Rattle.mvto_rules.specs.Readings.{IsReading};
+ghost use Rattle.mvto_rules.specs.Sights.{value_in};
 
-use crate::sight::Sight;
-use crate::walk::Walk;
-use read_marks::{Marks, Piece};
+use crate::sight::{Sight, value_of};
 use spans::span::Span;
 use std::alloc::{AllocError, Global};
 use timestamps::key::Key;
 use timestamps::ts::Ts;
 use timestamps::value::Value;
+use version_chain::chain::Version;
 use version_chain::{Steps, Store};
 
 /// The findings of a scan.
 pub(crate) enum Reading {
     /// Nothing: at the least key where something stops the reader, its timestamp.
     Stopped(u64),
-    /// The rows, and the pieces that the scan marks.
-    Through(Vec<(Key, Value)>, Vec<Piece>),
+    /// The rows.
+    Through(Vec<(Key, Value)>),
 }
 
 /// Reads the keys of a span. It goes to the first, and then from each to the next. Where that finds no
@@ -30,17 +31,15 @@ pub(crate) enum Reading {
 pub(crate) fn read_span(
     alloc: Global,
     store: &Store,
-    marks: &Marks,
     span: &Span,
     ts: Ts,
 ) -> Result<Reading, AllocError>
-    requires { (1 ≤ ts) × (ts ≤ MAX) }
-    ensures reading { IfOk result (λ reading. IsReading store.now (is_marked_in marks.now) ts span.now reading) }
+    ensures reading { IfOk result (IsReading store.now ts span.now) }
     ensures free { OnErr result (first_blocker store.now ts (keys_in store.now span.now) ≡ None) }
-    ensures rising { RisingKeys (keys_in store.now span.now) }
+    ensures rising { RisingKeys (keys_of store.now.entries) }
     ensures filled { AreFilled (entries_of store.now span.now) }
 {
-    match read_rows(alloc, store, marks, span, ts) {
+    match read_rows(alloc, store, span, ts) {
         Ok(reading) => Ok(reading),
         Err(refused) => match first_blocker(store, span, ts) {
             None => Err(refused),
@@ -53,25 +52,38 @@ pub(crate) fn read_span(
 fn read_rows(
     alloc: Global,
     store: &Store,
-    marks: &Marks,
     span: &Span,
     ts: Ts,
 ) -> Result<Reading, AllocError>
-    requires { (1 ≤ ts) × (ts ≤ MAX) }
-    ensures reading { IfOk result (λ reading. IsReading store.now (is_marked_in marks.now) ts span.now reading) }
-    ensures rising { RisingKeys (keys_in store.now span.now) }
+    ensures reading { IfOk result (IsReading store.now ts span.now) }
+    ensures rising { RisingKeys (keys_of store.now.entries) }
     ensures filled { AreFilled (entries_of store.now span.now) }
 {
     let found = store.in_span(span);
-    let mut walk = Walk::new(alloc, span)?;
+    let mut rows = Vec::new(alloc);
     for (key, chain) in found {
-        if let Some(by) = walk.visit(key, chain, marks, ts)? {
+        let newest = chain.newest_at(ts.get(), &mut Steps::new());
+        if let Sight::Blocked(by) = Sight::of(newest, ts) {
             return Ok(Reading::Stopped(by));
         }
+        add_row(&mut rows, key, newest)?;
     }
-    let Walk { rows, cut, .. } = walk;
-    let pieces = cut.finish(span)?;
-    Ok(Reading::Through(rows, pieces))
+    Ok(Reading::Through(rows))
+}
+
+/// Adds the row of a key, where the version has a value.
+pub(crate) fn add_row(
+    rows: &mut Vec<(Key, Value)>,
+    key: &Key,
+    newest: Option<&Version>,
+) -> Result<(), AllocError>
+    ensures { OnOk result (rows.new.items ≡ rows.old.items ++ with_value key.now (value_in (option_copied newest.entry)) []) }
+{
+    if let Some(value) = value_of(newest)? {
+        let key = key.copy()?;
+        rows.push((key, value))?;
+    }
+    Ok(())
 }
 
 /// At the least key of a span where something stops the reader, its timestamp. It needs no memory.

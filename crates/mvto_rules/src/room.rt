@@ -9,6 +9,7 @@
 //! ```
 
 ghost use Rattle.std.specs.Prelude.{◌≡◌, true};
+ghost use Rattle.std.specs.Map.{keys_of};
 ghost use Rattle.std.specs.Option.{option_copied};
 ghost use Rattle.spans.proofs.Keyed.{RisingKeys};
 ghost use Rattle.version_chain.specs.Chains.{AreFilled};
@@ -57,7 +58,7 @@ impl Rules {
 
 /// The keys of a span rise, and each has a version. It goes to the first of them, and no further.
 fn keys_rise(store: &Store, span: &Span)
-    ensures rising { RisingKeys (keys_in store.now span.now) }
+    ensures rising { RisingKeys (keys_of store.now.entries) }
     ensures filled { AreFilled (entries_of store.now span.now) }
 {
     let _found = store.in_span(span);

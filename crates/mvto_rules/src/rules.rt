@@ -1,11 +1,10 @@
-//! The versions, the marks of readers, the transactions and what is closed, under the rules that tie them.
+//! The versions with the marks of readers, the transactions and what is closed, under the rules that tie them.
 //! `Sight::of` is the read rule, which gets and scans apply, and `is_too_late` the write rule.
 ghost use Rattle.std.specs.Prelude.{◌≡◌, ◌<◌, ◌≤◌, is_some, true, Some, None, IfOk, IfErr, OnOk, OnErr};
 ghost use Rattle.std.specs.Option.{option_copied};
 ghost use Rattle.timestamps.specs.declared.ts.TheConstants.{MAX};
 ghost use Rattle.spans.specs.Effects.{After};
 ghost use Rattle.spans.specs.Legal.{is_accepted};
-ghost use Rattle.spans.specs.declared.span.Span.{Span};
 ghost use Rattle.spans.specs.declared.calls.replies.Refusal.{Refusal};
 ghost use Rattle.spans.specs.declared.calls.replies.Refusal.TheVariants.{TooLate};
 ghost use Rattle.spans.specs.declared.calls.replies.Reply.TheVariants.{Found, Refused, Started, Written};
@@ -26,9 +25,7 @@ ghost use Rattle.mvto_rules.specs.Tables.{AreInRange};
 
 use crate::reading::{Reading, read_span};
 use crate::sight::{Sight, value_of};
-use crate::spot::span_of;
 use closing::Closing;
-use read_marks::{Marks, Piece};
 use spans::calls::{Refusal, Reply, Rows};
 use spans::span::Span;
 use spans::state::State;
@@ -39,8 +36,8 @@ use timestamps::value::Value;
 use txn_table::{Outcome, Txns};
 use version_chain::Store;
 
-/// The versions, the marks of readers, the transactions, the closed timestamp with the protections, and
-/// the horizon, under the rules that tie them.
+/// The versions with the marks of readers, the transactions, the closed timestamp with the protections, and the
+/// horizon, under the rules that tie them.
 ///
 /// A call takes the seat that asks, where that matters, and the timestamp of its transaction as the
 /// command says it, which may be any number. A refused growth leaves all as it was.
@@ -48,7 +45,6 @@ use version_chain::Store;
 pub struct Rules {
     pub(crate) alloc: Global,
     pub(crate) store: Store,
-    pub(crate) marks: Marks,
     pub(crate) txns: Txns,
     pub(crate) closing: Closing,
     /// Below it, versions may be gone.
@@ -58,7 +54,7 @@ pub struct Rules {
 }
 
 impl Rules {
-    ghost use Rattle.mvto_rules.specs.Holding.{AreMadeFor, Changes, Holds, Stays, StaysIfRefused, holding, versions_of};
+    ghost use Rattle.mvto_rules.specs.Holding.{Changes, Holds, Stays, StaysIfRefused, holding, versions_of};
 
     /// Nothing has happened.
     pub fn new(alloc: Global) -> Rules
@@ -67,7 +63,6 @@ impl Rules {
         Rules {
             alloc,
             store: Store::new(alloc),
-            marks: Marks::new(alloc),
             txns: Txns::new(alloc),
             closing: Closing::new(alloc),
             horizon: 0,
@@ -132,9 +127,7 @@ impl Rules {
         ensures ok { OnOk result (Changes self.old self.new (λ k k'. (seen k key.now ts).ts ≡ above → IsReadBy k k' ts key.now)) }
         ensures err { OnErr result (Stays self.old self.new) }
     {
-        let until = next.unwrap_or(u64::MAX);
-        let span = span_of(self.alloc, key)?;
-        self.marks.add_pieces(&[Piece { span, above, until }], ts)
+        self.store.mark(key, ts, above, next)
     }
 
     /// Writes a value, or a delete where there is none, unless a later reader has read the version
@@ -166,16 +159,11 @@ impl Rules {
     }
 
     /// Whether a write is too late: a reader above it has read the version below it. That reader is not
-    /// above the next version. Mostly no reader at all is above the write, and then its chain isn't searched.
+    /// above the next version.
     fn is_too_late(&self, key: &Key, ts: Ts) -> bool
         ensures { Holds self.now (λ k. IsLate k key.now ts result) }
     {
-        let at = ts.get();
-        if !self.marks.any_between(key, at, None) {
-            return false;
-        }
-        let next = self.store.next_above(key, at);
-        self.marks.any_between(key, at, next)
+        self.store.is_crossed(key, ts.get())
     }
 
     /// Reads the keys of a span, and marks the reader at all of them, those without a version too, but
@@ -191,22 +179,22 @@ impl Rules {
             Err(refusal) => return Ok(Reply::Refused(refusal)),
             Ok(ts) => ts,
         };
-        match read_span(self.alloc, &self.store, &self.marks, span, ts)? {
+        match read_span(self.alloc, &self.store, span, ts)? {
             Reading::Stopped(by) => Ok(Reply::Refused(Refusal::Blocked { by })),
-            Reading::Through(rows, pieces) => {
-                self.mark_all(&pieces, ts)?;
+            Reading::Through(rows) => {
+                self.mark_all(span, ts)?;
                 Ok(Reply::Rows(Rows::from_vec(rows)))
             }
         }
     }
 
-    /// Marks the reader of a span by its pieces.
-    fn mark_all(&mut self, pieces: &[Piece], ts: Ts) -> Result<(), AllocError>
-        requires pieces { (span : Span) × AreMadeFor self.old ts span pieces.now }
-        ensures ok { OnOk result (Changes self.old self.new (λ k k'. (span : Span) → AreMadeFor self.old ts span pieces.now → IsScannedBy k k' ts span)) }
+    /// Marks the reader of a span.
+    fn mark_all(&mut self, span: &Span, ts: Ts) -> Result<(), AllocError>
+        requires { ts ≤ MAX }
+        ensures ok { OnOk result (Changes self.old self.new (λ k k'. IsScannedBy k k' ts span.now)) }
         ensures err { OnErr result (Stays self.old self.new) }
     {
-        self.marks.add_pieces(pieces, ts)
+        self.store.mark_all(span, ts)
     }
 
     /// Commits what a transaction wrote, notes that it has committed, and says how many keys it wrote.

@@ -1,5 +1,6 @@
 //! Reads at a closed timestamp, of what was committed there, which mark nothing; and protections of it.
 ghost use Rattle.std.specs.Prelude.{ℕ, ◌≡◌, ◌<◌, ◌≤◌, IfOk, IfSome, OnErr};
+ghost use Rattle.std.specs.Map.{keys_of};
 ghost use Rattle.std.specs.Option.{option_copied};
 ghost use Rattle.spans.specs.declared.calls.commands.Cmd.TheVariants.{Protect, ReadAt, ScanAt};
 ghost use Rattle.spans.proofs.Keyed.{RisingKeys};
@@ -9,9 +10,9 @@ ghost use Rattle.version_chain.specs.Chains.{AreFilled};
 ghost use Rattle.mvto_rules.specs.Scans.{entries_of, keys_in, rows_in};
 ghost use Rattle.mvto_rules.specs.Snapshots.{horizon_refusal, snapshot_refusal};
 
+use crate::reading::add_row;
 use crate::rules::Rules;
 use crate::sight::value_of;
-use crate::walk::add_row;
 use spans::calls::{Refusal, Reply, Rows};
 use spans::span::Span;
 use std::alloc::{AllocError, Global};
@@ -98,7 +99,7 @@ fn rows_at(
     t: u64,
 ) -> Result<Vec<(Key, Value)>, AllocError>
     ensures rows { IfOk result (λ rows. rows.items ≡ rows_in store.now t (keys_in store.now span.now)) }
-    ensures rising { RisingKeys (keys_in store.now span.now) }
+    ensures rising { RisingKeys (keys_of store.now.entries) }
     ensures filled { AreFilled (entries_of store.now span.now) }
 {
     let found = store.in_span(span);

@@ -9,7 +9,7 @@ use Rattle.mvto_rules.proofs.room.find_end.Goals as goal
 pub loop-key-init : goal.loop-key-init
 loop-key-init c = let found = c.in_span-key-items.ensures in
     subst (λ es. IsEnding c.args.store.now c.args.ts c.args.span.now c.args.room.rows c.args.room.bytes es c.args.room) (sym c.into_iter-key-iterator.ensures.into_iter_gives)
-    (ending_begins c.args.store.now c.args.ts c.args.span.now c.args.room.rows c.args.room.bytes c.in_span-key-items.result found.found found.rising)
+    (ending_begins c.args.store.now c.args.ts c.args.span.now c.args.room.rows c.args.room.bytes c.in_span-key-items.result found.found found.ordered)
 
 pub returns-then-stops : goal.returns-then-stops
 returns-then-stops c =

@@ -9,7 +9,7 @@ use Rattle.mvto_rules.proofs.snapshots.rows_at.Goals as goal
 pub loop-key-init : goal.loop-key-init
 loop-key-init c = let found = c.in_span-found.ensures in
     subst (λ es. IsListing c.args.store.now c.args.t c.args.span.now es c.new-rows.result.items) (sym c.into_iter-key-iterator.ensures.into_iter_gives)
-    (list_begins c.args.store.now c.args.t c.args.span.now c.in_span-found.result c.new-rows.result.items found.found found.rising (search rules))
+    (list_begins c.args.store.now c.args.t c.args.span.now c.in_span-found.result c.new-rows.result.items found.found found.ordered (search rules))
 
 pub loop-key-preserved : goal.loop-key-preserved
 loop-key-preserved c =

@@ -1,10 +1,10 @@
-use Rattle.spans.proofs.Results.{both_ok}
-use Rattle.mvto_rules.specs.Holding.{holding}
-use Rattle.mvto_rules.proofs.Noting.{spot_read}
+use Rattle.std.proofs.lemmas.Result.{on_ok_weaker}
+use Rattle.mvto_rules.proofs.Noting.{gap_read, past_until}
+use Rattle.version_chain.specs.Stores.{version_in}
 use Rattle.mvto_rules.proofs.rules.Rules.mark.Goals as goal
 
+pub mark-requires-clause-high : goal.mark-requires-clause-high
+mark-requires-clause-high c = past_until (version_in c.args.self.now.store c.args.key.now) c.args.ts c.args.next c.requires.in_range c.requires.next
+
 pub returns-clause-ok : goal.returns-clause-ok
-returns-clause-ok c =
-    both_ok c.add_pieces.result
-    (λ inside outside. λ k. spot_read (holding k c.args.self.now) _ c.args.key.now c.args.ts c.args.above c.unwrap_or-until.result c.args.next c.in_ok-span.span c.requires.low c.requires.in_range c.requires.next c.unwrap_or-until.ensures c.in_ok-span.ensures inside outside)
-    c.add_pieces.ensures.inside c.add_pieces.ensures.outside
+returns-clause-ok c = on_ok_weaker c.mark.result (λ marked k at. gap_read k c.args.self.now c.mark.new.self c.args.key.now c.args.ts c.args.above c.args.next c.requires.low c.requires.in_range c.requires.next c.mark.ensures.versions marked at) c.mark.ensures.ok

@@ -1,12 +1,6 @@
-use Rattle.spans.proofs.Results.{both_ok}
-use Rattle.mvto_rules.specs.Holding.{marked_of}
-use Rattle.mvto_rules.proofs.Scanning.{are_apart, scanned}
+use Rattle.std.proofs.lemmas.Result.{on_ok_weaker}
+use Rattle.mvto_rules.proofs.Scanning.{scanned}
 use Rattle.mvto_rules.proofs.rules.Rules.mark_all.Goals as goal
 
-pub add_pieces-requires-clause-apart : goal.add_pieces-requires-clause-apart
-add_pieces-requires-clause-apart c = are_apart c.args.self.now.store (marked_of c.args.self.now) c.args.ts c.requires.pieces.0 c.args.pieces.now c.requires.pieces.1
-
 pub returns-clause-ok : goal.returns-clause-ok
-returns-clause-ok c = both_ok c.add_pieces.result
-    (λ inside outside. λ k span made. scanned k c.args.self.now _ c.args.ts span c.args.pieces.now made inside outside)
-    c.add_pieces.ensures.inside c.add_pieces.ensures.outside
+returns-clause-ok c = on_ok_weaker c.mark_all.result (λ marked k. scanned k c.args.self.now c.mark_all.new.self c.args.ts c.args.span.now c.requires marked c.mark_all.ensures.versions) c.mark_all.ensures.ok
