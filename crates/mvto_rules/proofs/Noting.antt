@@ -7,12 +7,12 @@ use Rattle.timestamps.specs.declared.ts.TheConstants.{MAX}
 use Rattle.spans.specs.Effects.{After}
 use Rattle.spans.specs.Kept.{Kept}
 use Rattle.spans.proofs.Steps.{by_test, key_itself}
-use Rattle.kept.specs.Changes.{IsReadBy}
+use Rattle.kept.specs.Changes.{IsAlike, IsReadBy}
 use Rattle.kept.specs.Finding.{IsNextAbove, seen}
 use Rattle.kept.specs.Marks.{IsNoted, IsPiece, until}
 use Rattle.kept.proofs.Noting.{merged_noted, own_noted}
 use Rattle.version_chain.specs.Marking.{IsMarkedAt}
-use Rattle.version_chain.specs.Stores.{IsAsBefore, Stored, after_of, marked_in, version_in}
+use Rattle.version_chain.specs.Stores.{HaveSameMarks, IsAsBefore, Stored, after_of, marked_in, version_in}
 use Rattle.mvto_rules.specs.Holding.{holding, marked_of}
 use Rattle.mvto_rules.specs.declared.rules.Rules.{Rules}
 use Rattle.version_chain.specs.Chains.{chain_of}
@@ -58,6 +58,25 @@ own_is_read k s x t is own = record { noted = own_read k s x t is own; others = 
 pub past_until : (f : ℕ → Option After) (t : ℕ) (next : Option ℕ) → t ≤ MAX → IsNextAbove f t next → t ≤ until next
 past_until f t None low next = omega arith
 past_until f t (Some s) low next = omega (arith, next.0)
+
+-- each key has the marks that it had
+pub same_marks : (s s' : Stored) → HaveSameMarks s s' → marked_in s' ≡ marked_in s
+same_marks s s' same = fun_ext (λ x. fun_ext (λ j. same x j))
+
+-- all is as it was
+pub stays : (k : Kept) (r : Rules) (s' : Stored) → IsAsBefore r.store s' → HaveSameMarks r.store s' → IsAlike (holding k r) (holding k (record r { store = s' }))
+stays k r s' before same = record {
+  closed = refl;
+  horizon = refl;
+  version = before.version;
+  committed = λ y i b is. before.committed y i;
+  marked = same;
+  transaction = λ i. refl;
+  protections = refl;
+  protections_made = refl;
+  feed = λ f. refl;
+  feeds_opened = refl;
+}
 
 -- where each version is what it was, marks alone have changed
 pub only_marks : (k : Kept) (r : Rules) (s' : Stored) → IsAsBefore r.store s' → holding k (record r { store = s' }) ≡ record (holding k r) { marked = marked_in s' }

@@ -2,6 +2,7 @@
 ghost use Rattle.std.specs.Prelude.{ℕ, ◌≡◌};
 ghost use Rattle.kept.specs.Changes.{IsClosedAt};
 ghost use Rattle.closing.specs.Standing.{closed_in};
+ghost use Rattle.version_chain.specs.Stores.{HaveSameMarks};
 ghost use Rattle.mvto_rules.specs.Closings.{AreTakenBack, IsCountTakenBack, is_taken_back, with_closed};
 ghost use Rattle.mvto_rules.specs.Tables.{AreInRange};
 
@@ -30,6 +31,7 @@ impl Rules {
 pub(crate) fn take_back_through(store: &mut Store, txns: &Txns, to: u64) -> u64
     requires in_range { AreInRange txns.now }
     ensures gone { AreTakenBack store.old store.new (is_taken_back txns.now to) }
+    ensures marks { HaveSameMarks store.old store.new }
     ensures count { IsCountTakenBack txns.now to result }
 {
     let mut count = 0u64;

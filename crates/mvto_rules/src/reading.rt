@@ -49,12 +49,7 @@ pub(crate) fn read_span(
 }
 
 /// Reads the keys of a span up to what stops the reader.
-fn read_rows(
-    alloc: Global,
-    store: &Store,
-    span: &Span,
-    ts: Ts,
-) -> Result<Reading, AllocError>
+fn read_rows(alloc: Global, store: &Store, span: &Span, ts: Ts) -> Result<Reading, AllocError>
     ensures reading { IfOk result (IsReading store.now ts span.now) }
     ensures rising { RisingKeys (keys_of store.now.entries) }
     ensures filled { AreFilled (entries_of store.now span.now) }

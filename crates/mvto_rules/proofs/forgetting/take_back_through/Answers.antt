@@ -17,6 +17,7 @@ overflow_add-count c = omega (arith, c.loop-ts.invariant.counted, ap length c.in
 pub loop-ts-init : goal.loop-ts-init
 loop-ts-init c = record {
   taking = subst (IsTakingBack c.args.store.now c.args.store.now c.args.txns.now c.args.to) (sym c.into_iter-ts-iterator.ensures.into_iter_gives) (taking_begins c.args.store.now c.args.txns.now c.args.to c.undecided_through-ts-items.result c.undecided_through-ts-items.ensures.those);
+  marks = λ x j. refl;
   counted = omega arith;
 }
 
@@ -24,9 +25,10 @@ pub loop-ts-preserved : goal.loop-ts-preserved
 loop-ts-preserved c =
     let taking = subst (IsTakingBack c.args.store.now c.loop-ts.store c.args.txns.now c.args.to) c.in-Some.ensures.steps c.loop-ts.invariant.taking in
     let named : c.unwrap-ts.result ≡ c.in-Some.ts.now = subst (λ o. IfSome o (λ t. t ≡ c.ts.inside.0)) c.unwrap-ts.ensures c.new.ensures.number ∙ c.ts.view_is in
-    let aborted = subst (AreDroppedAt c.loop-ts.store c.abort.new.self) named c.abort.ensures in
+    let aborted = subst (AreDroppedAt c.loop-ts.store c.abort.new.self) named c.abort.ensures.dropped in
     record {
       taking = taking_goes_on c.args.store.now c.loop-ts.store c.abort.new.self c.args.txns.now c.args.to c.in-Some.ts.now c.next.new.self taking aborted;
+      marks = λ x j. c.abort.ensures.marks x j ∙ c.loop-ts.invariant.marks x j;
       counted = omega (arith, c.loop-ts.invariant.counted, ap length c.in-Some.ensures.steps);
     }
 

@@ -1,4 +1,7 @@
-use Rattle.std.proofs.Common.{ap, arith, rules, subst, sym, ◌≤◌, ◌∙◌}
+use Rattle.std.specs.Prelude.{nat_lt}
+use Rattle.kept.specs.Changes.{IsClosedAt}
+use Rattle.mvto_rules.proofs.Noting.{same_marks}
+use Rattle.std.proofs.Common.{ap, arith, ◌&&◌, rules, subst, sym, ◌≤◌, ◌∙◌}
 use Rattle.std.proofs.lemmas.Bool.Decides.{nat_tests}
 use Rattle.timestamps.specs.declared.ts.TheConstants.{MAX}
 use Rattle.closing.specs.Standing.{closed_in, made_in, protections_in}
@@ -20,7 +23,9 @@ returns-clause-step c = λ seat k.
     hard_done (holding k r) (holding k c.forget_closed.new.self) seat c.args.to c.close_hard-at.result c.take_back_through-aborted.result cut.cut low cut.those cut.counted (at.answer ∙ at.closed)
     (hard_closed (holding k r) (holding k c.forget_closed.new.self) versions committed c.args.to c.close_hard-at.result gone.version gone.committed
     (closed_so (record (holding k r) { version = versions; committed = committed }) (holding k c.forget_closed.new.self) (closed_in r.closing) (closed_in now) c.close_hard-at.result (protections_in now) (protections_in r.closing) (made_in now) (made_in r.closing) (sym at.answer) at.protections at.made
-    (c.forget_closed.ensures.closed (closed_in r.closing) k)))
+    (subst (λ m. IsClosedAt (record (holding k r) { version = versions; committed = committed; marked = m; closed = closed_in r.closing; protections = protections_in now; protections_made = made_in now }) (holding k c.forget_closed.new.self) (closed_in now)) (same_marks r.store c.take_back_through-aborted.new.store c.take_back_through-aborted.ensures.marks)
+    (c.forget_closed.ensures.closed (closed_in r.closing) k))))
 
 pub returns-clause-marks : goal.returns-clause-marks
-returns-clause-marks c = λ low. subst (AreMarksForgotten c.args.self.now c.forget_closed.new.self) (ap closed_in (sym c.forget_closed.ensures.closing)) c.forget_closed.ensures.marks
+returns-clause-marks c = λ low. subst (AreMarksForgotten c.args.self.now c.forget_closed.new.self) (ap closed_in (sym c.forget_closed.ensures.closing))
+    (λ x j. c.forget_closed.ensures.marks x j ∙ ap (λ b. nat_lt (closed_in c.close_hard-at.new.self) j && b) (c.take_back_through-aborted.ensures.marks x j))

@@ -1,5 +1,5 @@
-use Rattle.std.proofs.lemmas.Result.{on_ok_weaker}
-use Rattle.mvto_rules.proofs.Noting.{gap_read, past_until}
+use Rattle.std.proofs.lemmas.Result.{on_err_weaker, on_ok_weaker}
+use Rattle.mvto_rules.proofs.Noting.{gap_read, past_until, stays}
 use Rattle.version_chain.specs.Stores.{version_in}
 use Rattle.mvto_rules.proofs.rules.Rules.mark.Goals as goal
 
@@ -8,3 +8,6 @@ mark-requires-clause-high c = past_until (version_in c.args.self.now.store c.arg
 
 pub returns-clause-ok : goal.returns-clause-ok
 returns-clause-ok c = on_ok_weaker c.mark.result (λ marked k at. gap_read k c.args.self.now c.mark.new.self c.args.key.now c.args.ts c.args.above c.args.next c.requires.low c.requires.in_range c.requires.next c.mark.ensures.versions marked at) c.mark.ensures.ok
+
+pub returns-clause-err : goal.returns-clause-err
+returns-clause-err c = on_err_weaker c.mark.result (λ same k. stays k c.args.self.now c.mark.new.self c.mark.ensures.versions same) c.mark.ensures.err

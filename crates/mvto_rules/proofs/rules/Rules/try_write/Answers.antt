@@ -9,6 +9,8 @@ use Rattle.kept.specs.Replies.{unless_refused}
 use Rattle.version_chain.specs.Stores.{IsWrittenTo}
 use Rattle.mvto_rules.specs.Holding.{holding}
 use Rattle.mvto_rules.proofs.Replies.{write_refused, write_tested}
+use Rattle.version_chain.specs.Stores.{is_committed_in, version_in}
+use Rattle.mvto_rules.proofs.Noting.{same_marks}
 use Rattle.mvto_rules.proofs.rules.Rules.try_write.Goals as goal
 
 pub returns-in-Err-clause-reply : goal.returns-in-Err-clause-reply
@@ -30,7 +32,7 @@ returns-then-is_too_late-clause-too_late c = λ k e. subst (λ t. IsAbortedBy (h
 pub returns-clause-written : goal.returns-clause-written
 returns-clause-written c = λ k e.
     let now = subst (λ t. IsWrittenTo c.args.self.now.store c.write.new.self t c.args.key.now (option_copied c.args.after)) c.in-Ok.ensures.ok c.in_ok-write.ensures.ok in
-    record { version = now.version; committed = now.committed; rest = refl }
+    record { version = now.version; committed = now.committed; rest = ap (λ m. record (holding k c.args.self.now) { version = version_in c.write.new.self; committed = is_committed_in c.write.new.self; marked = m }) (same_marks c.args.self.now.store c.write.new.self c.in_ok-write.ensures.marks) }
 
 pub returns-in_err-write-clause-accepted : goal.returns-in_err-write-clause-accepted
 returns-in_err-write-clause-accepted c = any_err c.from_residual.result (λ k. (
