@@ -1,11 +1,11 @@
 -- The values of a span at a timestamp, gathered key by key.
-use Rattle.std.proofs.Common.{append_assoc, Bool, Bor, List, None, Option, Some, [], ap, arith, false, inl, inr, length, refl, subst, sym, true, ℕ, ◌+◌, ◌<◌, ◌≤◌, ◌≡◌, ◌++◌, ◌∷◌, ◌∙◌}
+use Rattle.std.proofs.Common.{append_assoc, Bool, Bor, List, None, Option, Some, [], ap, arith, false, inl, inr, length, refl, subst, sym, true, ◌&&◌, ℕ, ◌+◌, ◌<◌, ◌≤◌, ◌≡◌, ◌++◌, ◌∷◌, ◌∙◌}
 use Rattle.std.specs.Prelude.{MatchOption, IfSome, filter, is_some}
 use Rattle.std.specs.Option.{option_copied}
 use Rattle.std.specs.Map.{keys_of}
 use Rattle.std.specs.Ordering.{is_lt}
 use Rattle.std.specs.declared.cmp.Ordering.TheVariants.{Less}
-use Rattle.std.proofs.lemmas.Bool.{and_from, both_ways, eq-eqb, or_right}
+use Rattle.std.proofs.lemmas.Bool.{and_from, and_parts, both_ways, eq-eqb, or_right}
 use Rattle.std.proofs.lemmas.List.{length-append}
 use Rattle.timestamps.specs.Bytes.{key_cmp}
 use Rattle.timestamps.specs.declared.row.Row.{Row}
@@ -18,10 +18,10 @@ use Rattle.spans.proofs.Steps.{by_test, newest_only}
 use Rattle.spans.proofs.StreamOrder.{IsRowIn, RisingRows, in_append, rises_append}
 use Rattle.spans.proofs.WriteSets.{has, has_in}
 use Rattle.version_chain.specs.declared.chain.Version.{Version}
-use Rattle.version_chain.specs.Chains.{Entry, chain_of}
+use Rattle.version_chain.specs.Chains.{Entry, chain_of, has_versions}
 use Rattle.version_chain.specs.Stores.{Stored, after_of, version_in}
 use Rattle.version_chain.specs.Versions.{IsNewestOf, IsNoneUpTo, version_of}
-use Rattle.version_chain.proofs.InSpans.{chain_among, chain_nowhere, passes_among}
+use Rattle.version_chain.proofs.InSpans.{chain_among, chain_nowhere, rises_filtered}
 use Rattle.catch_up.specs.Firsts.{AreFirstsIn, IsFirstIn, is_past, one_at, one_in, value_in}
 
 -- what the store has of a key
@@ -103,14 +103,14 @@ firsts_rise s span t (x ∷ xs) rising = rises_append (one_in span t x (found_at
     or_right _ _ (and_from _ _ (eq-eqb r.ts q.ts (a.at ∙ sym b.1.at)) (ap is_lt less)))
 
 -- of entries that pass, each passes
-pub passed_in : (p : List ℕ → Bool) (x : List ℕ) (es : List Entry) → IsIn x (keys_of (filter (λ (e : Entry). p e.0) es)) → p x ≡ true
+pub passed_in : (p : List ℕ → Bool) (x : List ℕ) (es : List Entry) → IsIn x (keys_of (filter (λ (e : Entry). p e.0 && has_versions e.1) es)) → p x ≡ true
 passed_in p x [] i = absurd i
-passed_in p x (e ∷ es) i = by_test (p e.0)
-    (λ on. let j : IsIn x (e.0 ∷ keys_of (filter (λ (d : Entry). p d.0) es)) = rw on at i in elim j [
-      | inl here ↦ subst (λ z. p z ≡ true) here on
+passed_in p x (e ∷ es) i = by_test (p e.0 && has_versions e.1)
+    (λ on. let j : IsIn x (e.0 ∷ keys_of (filter (λ (d : Entry). p d.0 && has_versions d.1) es)) = rw on at i in elim j [
+      | inl here ↦ subst (λ z. p z ≡ true) here (and_parts _ _ on).0
       | inr there ↦ passed_in p x es there
     ])
-    (λ off. let j : IsIn x (keys_of (filter (λ (d : Entry). p d.0) es)) = rw off at i in passed_in p x es j)
+    (λ off. let j : IsIn x (keys_of (filter (λ (d : Entry). p d.0 && has_versions d.1) es)) = rw off at i in passed_in p x es j)
 
 -- a key without versions has no value
 nothing_at : (s : Stored) (t : ℕ) (x : List ℕ) → chain_of s x ≡ [] → found_at s t x ≡ None
@@ -121,17 +121,17 @@ nothing_at s t x none = ap (λ v. v.after) (newest_only (version_in s x) t 0 Non
 }))
 
 -- what the entries of the narrowed span give is what is asked for
-pub are_firsts : (s : Stored) (span rest : Span) (key : Option (List ℕ)) (t : ℕ) (found : List Entry) → ((x : List ℕ) → in_span span x ≡ true → in_span rest x ≡ is_past key x) → found ≡ filter (λ (e : Entry). in_span rest e.0) s → RisingKeys (keys_of found)
+pub are_firsts : (s : Stored) (span rest : Span) (key : Option (List ℕ)) (t : ℕ) (found : List Entry) → ((x : List ℕ) → in_span span x ≡ true → in_span rest x ≡ is_past key x) → found ≡ filter (λ (e : Entry). in_span rest e.0 && has_versions e.1) s.entries → RisingKeys (keys_of s.entries)
     → AreFirstsIn s span key t (firsts_at s span t (keys_of found))
 are_firsts s span rest key t found narrow those rising = record {
-  rising = firsts_rise s span t (keys_of found) rising;
+  rising = firsts_rise s span t (keys_of found) (subst (λ es. RisingKeys (keys_of es)) (sym those) (rises_filtered _ s.entries rising));
   each = λ r. (
     λ i. let o = firsts_only s span t (keys_of found) r i in record {
       at = o.1.at;
       found = o.1.found;
       value = o.1.value;
       inside = o.1.inside;
-      later = sym (narrow r.key o.1.inside) ∙ passed_in (in_span rest) r.key s (subst (λ es. IsIn r.key (keys_of es)) those o.0);
+      later = sym (narrow r.key o.1.inside) ∙ passed_in (in_span rest) r.key s.entries (subst (λ es. IsIn r.key (keys_of es)) those o.0);
     },
     λ h. has_it r r.after refl h,
   );
@@ -145,7 +145,7 @@ are_firsts s span rest key t found narrow those rising = record {
         let i : IsIn r.key (keys_of found) = by_test (has r.key (keys_of found))
         (λ on. (has_in r.key (keys_of found)).1 on)
         (λ off.
-        let none : chain_of s r.key ≡ [] = chain_nowhere rest s found r.key those (narrow r.key h.inside ∙ h.later) (λ j. both_ways _ off ((has_in r.key (keys_of found)).0 j)) in
+        let none : chain_of s r.key ≡ [] = chain_nowhere rest s.entries found r.key those (narrow r.key h.inside ∙ h.later) (λ j. both_ways _ off ((has_in r.key (keys_of found)).0 j)) in
         let no' : None ≡ Some v = sym (nothing_at s t r.key none) ∙ at_it in
         cc) in
         subst (λ q. IsRowIn q (firsts_at s span t (keys_of found))) same (firsts_has s span t (keys_of found) r.key v i h.inside at_it)
@@ -156,11 +156,10 @@ abbrev pub AreChained : Stored → List Entry → Type 0
 AreChained s [] = Unit {0}
 AreChained s (e ∷ es) = (chain_of s e.0 ≡ e.1) × AreChained s es
 
-pub chained : (s : Stored) (rest : Span) (found done es : List Entry) → found ≡ filter (λ (e : Entry). in_span rest e.0) s → RisingKeys (keys_of found) → found ≡ done ++ es → AreChained s es
+pub chained : (s : Stored) (rest : Span) (found done es : List Entry) → found ≡ filter (λ (e : Entry). in_span rest e.0 && has_versions e.1) s.entries → RisingKeys (keys_of s.entries) → found ≡ done ++ es → AreChained s es
 chained s rest found done [] those rising is = tt
 chained s rest found done (e ∷ es) those rising is =
-    let inside : in_span rest e.0 ≡ true = passes_among (in_span rest) s done es e (sym those ∙ is) in
-    (chain_among rest s found done es e those rising is inside, chained s rest found (done ++ e ∷ []) es those rising (is ∙ sym (append_assoc done (e ∷ []) es)))
+    (chain_among rest s.entries found done es e rising those is, chained s rest found (done ++ e ∷ []) es those rising (is ∙ sym (append_assoc done (e ∷ []) es)))
 
 -- the rows of the entries before these
 pub record IsSnapping (s : Stored) (span : Span) (key : Option (List ℕ)) (t n : ℕ) (entries : List Entry) (rows : List Row) : Type 0 where
@@ -170,7 +169,7 @@ pub record IsSnapping (s : Stored) (span : Span) (key : Option (List ℕ)) (t n 
   pub chains : AreChained s entries
   pub few : length rows ≤ n
 
-pub snap_begins : (s : Stored) (span rest : Span) (key : Option (List ℕ)) (t n : ℕ) (found : List Entry) (rows : List Row) → ((x : List ℕ) → in_span span x ≡ true → in_span rest x ≡ is_past key x) → found ≡ filter (λ (e : Entry). in_span rest e.0) s → RisingKeys (keys_of found)
+pub snap_begins : (s : Stored) (span rest : Span) (key : Option (List ℕ)) (t n : ℕ) (found : List Entry) (rows : List Row) → ((x : List ℕ) → in_span span x ≡ true → in_span rest x ≡ is_past key x) → found ≡ filter (λ (e : Entry). in_span rest e.0 && has_versions e.1) s.entries → RisingKeys (keys_of s.entries)
     → rows ≡ [] → IsSnapping s span key t n found rows
 snap_begins s span rest key t n found rows narrow those rising empty = record {
   all = firsts_at s span t (keys_of found);

@@ -12,7 +12,7 @@ use Rattle.spans.specs.declared.span.Span.{Span}
 use Rattle.spans.proofs.Steps.{by_test, same_key}
 use Rattle.spans.proofs.StreamOrder.{IsRowIn, RisingRows}
 use Rattle.version_chain.specs.declared.chain.Version.{Version}
-use Rattle.version_chain.specs.Chains.{found_in}
+use Rattle.version_chain.specs.Chains.{Entry, chain_in, found_in}
 use Rattle.version_chain.specs.Following.{is_after_place}
 use Rattle.version_chain.specs.Stores.{Stored, after_of, is_committed, is_committed_in, version_in}
 use Rattle.version_chain.specs.Versions.{version_of}
@@ -32,9 +32,12 @@ names_in x [] = []
 names_in x (v ∷ vs) = (x, v.ts) ∷ names_in x vs
 
 -- the versions of a store
+abbrev pub names_among : List Entry → List Name
+names_among [] = []
+names_among (e ∷ es) = names_in e.0 e.1 ++ names_among es
+
 abbrev pub names_of : Stored → List Name
-names_of [] = []
-names_of (e ∷ es) = names_in e.0 e.1 ++ names_of es
+names_of s = names_among s.entries
 
 named_left : (n : Name) (ms ns : List Name) → IsNamed n ms → IsNamed n (ms ++ ns)
 named_left n [] ns i = absurd i
@@ -50,12 +53,15 @@ in_chain x t v (w ∷ vs) is = by_test (w.ts == t)
     (λ here. inl (ap (λ i. (x, i)) (eqb-true w.ts t here)))
     (λ off. let more : version_of vs t ≡ Some v = rw off at is in inr (in_chain x t v vs more))
 
-pub found_named : (s : Stored) (x : List ℕ) (t : ℕ) (v : Version) → found_in s x t ≡ Some v → IsNamed (x, t) (names_of s)
-found_named [] x t v is = cc
-found_named (e ∷ es) x t v is = by_test (is_at (key_cmp x) e.0)
+found_among : (es : List Entry) (x : List ℕ) (t : ℕ) (v : Version) → version_of (chain_in es x) t ≡ Some v → IsNamed (x, t) (names_among es)
+found_among [] x t v is = cc
+found_among (e ∷ es) x t v is = by_test (is_at (key_cmp x) e.0)
     (λ here. let at : version_of e.1 t ≡ Some v = rw here at is in let key : x ≡ e.0 = same_key x e.0 (sym (is_eq-slice_cmp x e.0) ∙ here) in
-    named_left (x, t) (names_in e.0 e.1) (names_of es) (subst (λ k. IsNamed (k, t) (names_in e.0 e.1)) (sym key) (in_chain e.0 t v e.1 at)))
-    (λ off. let more : found_in es x t ≡ Some v = rw off at is in named_right (x, t) (names_in e.0 e.1) (names_of es) (found_named es x t v more))
+    named_left (x, t) (names_in e.0 e.1) (names_among es) (subst (λ k. IsNamed (k, t) (names_in e.0 e.1)) (sym key) (in_chain e.0 t v e.1 at)))
+    (λ off. let more : version_of (chain_in es x) t ≡ Some v = rw off at is in named_right (x, t) (names_in e.0 e.1) (names_among es) (found_among es x t v more))
+
+pub found_named : (s : Stored) (x : List ℕ) (t : ℕ) (v : Version) → found_in s x t ≡ Some v → IsNamed (x, t) (names_of s)
+found_named s x t v is = found_among s.entries x t v is
 
 pub committed_named : (s : Stored) (x : List ℕ) (t : ℕ) → is_committed_in s x t ≡ true → IsNamed (x, t) (names_of s)
 committed_named s x t done = by (found_in s x t) refl

@@ -1,5 +1,5 @@
 -- The heads of a span's keys: one is added, and the first is taken.
-use Rattle.std.proofs.Common.{Bool, List, None, Option, Some, [], add-one, ap, arith, false, inl, inr, length, length-append, refl, subst, suc, sym, true, zero, ℕ, ◌+◌, ◌-◌, ◌<◌, ◌≤◌, ◌⊎◌, ◌≡◌, ◌++◌, ◌∷◌, ◌∙◌}
+use Rattle.std.proofs.Common.{Bool, List, None, Option, Some, [], add-one, ap, arith, false, inl, inr, length, length-append, refl, subst, suc, sym, true, zero, ◌&&◌, ℕ, ◌+◌, ◌-◌, ◌<◌, ◌≤◌, ◌⊎◌, ◌≡◌, ◌++◌, ◌∷◌, ◌∙◌}
 use Rattle.std.specs.Prelude.{IfSome, is_some, nat_lt, ◌&&◌, ◌==◌, ◌||◌}
 use Rattle.std.specs.BTreeMap.{BTreeMap, IsOrdered, insert_entry}
 use Rattle.std.specs.List.{AllByRecursion, filter}
@@ -21,7 +21,7 @@ use Rattle.spans.proofs.Keyed.{IsIn, RisingKeys}
 use Rattle.spans.proofs.Steps.{by_test, same_key}
 use Rattle.spans.proofs.WriteSets.{has, has_in}
 use Rattle.version_chain.specs.declared.chain.Version.{Version}
-use Rattle.version_chain.specs.Chains.{Entry, chain_of}
+use Rattle.version_chain.specs.Chains.{Entry, chain_of, has_versions}
 use Rattle.version_chain.specs.Following.{IsLeft, is_before}
 use Rattle.version_chain.specs.Stores.{Stored, after_of, is_committed}
 use Rattle.version_chain.specs.Versions.{version_of}
@@ -179,17 +179,17 @@ module _ (s : Stored) (span : Span) (t : ℕ) (x : List ℕ) (through : ℕ) whe
     pub inside : (y : List ℕ) → IsIn y (keys_of entries) → in_span span y ≡ true
     pub are : AreHeads s span t x through n (keys_of entries) heads
 
-  pub heads_begin : (n : ℕ) (found : List Entry) (heads : BTreeMap Spot Found) → found ≡ filter (λ (e : Entry). in_span span e.0) s → RisingKeys (keys_of found) → heads.entries ≡ [] → IsOrdered spot_cmp heads → IsHeading n found heads
+  pub heads_begin : (n : ℕ) (found : List Entry) (heads : BTreeMap Spot Found) → found ≡ filter (λ (e : Entry). in_span span e.0 && has_versions e.1) s.entries → RisingKeys (keys_of s.entries) → heads.entries ≡ [] → IsOrdered spot_cmp heads → IsHeading n found heads
   heads_begin n found heads those rising empty ordered = record {
     chains = chained s span found [] found those rising refl;
-    inside = λ y i. passed_in (in_span span) y s (subst (λ es. IsIn y (keys_of es)) those i);
+    inside = λ y i. passed_in (in_span span) y s.entries (subst (λ es. IsIn y (keys_of es)) those i);
     are = record {
       rising = ordered;
       each = subst (AllHeads s span t x through) (sym empty) tt;
       all = λ y i inside left. inl (by_test (has y (keys_of found))
           (λ on. (has_in y (keys_of found)).1 on)
           (λ off.
-          let none : chain_of s y ≡ [] = chain_nowhere span s found y those inside (λ j. both_ways _ off ((has_in y (keys_of found)).0 j)) in
+          let none : chain_of s y ≡ [] = chain_nowhere span s.entries found y those inside (λ j. both_ways _ off ((has_in y (keys_of found)).0 j)) in
           let no' : false ≡ true = sym (ap (λ vs. is_committed (version_of vs i)) none) ∙ left.committed in
           cc));
     };

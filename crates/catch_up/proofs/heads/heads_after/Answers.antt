@@ -8,7 +8,7 @@ loop-key-init c =
     let found = c.in_span-key-items.ensures in
     let none : length c.new-heads.result.entries ≡ 0 = ap length c.new-heads.ensures.empty in (
       subst (λ (es : List Entry). IsHeading c.args.store.now c.args.span.now c.args.ts c.args.place.now c.args.through c.args.n es c.new-heads.result) (sym c.into_iter-key-iterator.ensures.into_iter_gives)
-          (heads_begin c.args.store.now c.args.span.now c.args.ts c.args.place.now c.args.through c.args.n c.in_span-key-items.result c.new-heads.result found.found found.rising c.new-heads.ensures.empty c.new-heads.ensures.ordered),
+          (heads_begin c.args.store.now c.args.span.now c.args.ts c.args.place.now c.args.through c.args.n c.in_span-key-items.result c.new-heads.result found.found found.ordered c.new-heads.ensures.empty c.new-heads.ensures.ordered),
       omega arith,
     )
 
