@@ -1,5 +1,4 @@
 //! The read and write rules in worked histories: who is blocked, who comes too late, which spans are marked.
-use super::marks::put_readers;
 use super::script::{Asked, Words, put_number};
 use mvto_rules::Rules;
 use spans::calls::{Refusal, Reply};
@@ -7,18 +6,18 @@ use std::alloc::Global;
 use timestamps::key::Key;
 use timestamps::value::Value;
 
-/// Scripts, each of rules whose transactions are of seat 0. `marks` counts the spans that have readers, and `readers` has
-/// those of a key. `transactions` are those that are undecided, each with how many keys it wrote. `forget` closes and `hard`
+/// Scripts, each of rules whose transactions are of seat 0. `x` has the timestamps where a write of a key would be refused
+/// for a reader. `transactions` are those that are undecided, each with how many keys it wrote. `forget` closes and `hard`
 /// closes hard, each with where closed then stands and how many it aborted. `look` and `over` read at a closed timestamp,
-/// `keep` protects one, `end` ends a protection, and `jump` collects. `newest` tells a key's version at a timestamp, `waits` the oldest undecided
-/// transaction, and `young` the greatest timestamp that began or was closed.
+/// `keep` protects one, `end` ends a protection, and `jump` collects. `newest` tells a key's version at a timestamp,
+/// `waits` the oldest undecided transaction, and `young` the greatest timestamp that began or was closed.
 pub(super) const SCRIPTS: [&str; 10] = [
     // an own read leaves no mark
     "begin 10=started
 begin 20=started
 put 20 a 1=written
 get 20 a=found 1
-marks=0
+x a=
 put 10 a 2=written
 scan 20 a b=rows a1
 del 10 a=written
@@ -31,7 +30,7 @@ begin 20=started
 put 10 b 1=written
 get 20 b=blocked 10
 scan 20 - -=blocked 10
-marks=0
+x b=
 put 15 a 2=written
 scan 20 - -=blocked 15
 abort 10=aborted
@@ -51,7 +50,7 @@ put 10 b 1=written
 commit 10=committed 1
 scan 30 a -=rows b1
 get 40 b=found 1
-readers b= 40
+x b= 10-39
 put 50 b 2=written
 commit 50=committed 1
 get 60 b=found 2
@@ -69,10 +68,9 @@ put 8 b 1=written
 commit 8=committed 1
 get 9 b=found 1
 scan 7 a c=rows
-marks=2
-readers a= 7
-readers b= 7 9
-readers b\0= 7
+x a= 0-6
+x b= 0-6 8-8
+x b\0= 0-6
 ",
     // a scan marks the keys that it did not find
     "begin 10=started
@@ -84,7 +82,9 @@ scan 20 b b=rows
 put 10 b 1=written
 abort 10=aborted
 scan 20 b d=rows
-marks=1
+x b= 0-19
+x c= 0-19
+x d=
 put 11 c 1=toolate
 put 12 d 1=written
 put 20 c 1=written
@@ -102,24 +102,23 @@ put 10 h 2=written
 put 10 z 3=written
 commit 10=committed 3
 scan 20 - -=rows a1 h2 z3
-marks=1
+x a= 10-19
+x b= 0-19
 put 30 h 4=written
 commit 30=committed 1
 scan 40 - -=rows a1 h4 z3
-marks=3
-readers a= 40
-readers b= 40
-readers h= 20 40
-readers y= 40
-readers z= 40
+x a= 10-39
+x b= 0-39
+x h= 10-19 30-39
+x y= 0-39
+x z= 10-39
 scan 15 - -=rows a1 h2 z3
 put 50 h 5=written
 commit 50=committed 1
 scan 60 - -=rows a1 h5 z3
-marks=3
-readers a= 60
-readers h= 20 40 60
-readers z= 60
+x a= 10-59
+x h= 10-19 30-39 50-59
+x z= 10-59
 ",
     // a closing forgets the readers through its timestamp, and no version. All above it stand
     "begin 10=started
@@ -136,19 +135,19 @@ get 40 b=none
 abort 10=aborted
 commit 15=committed 0
 commit 30=committed 0
-readers a= 15 30
-readers b= 40
+x a= 0-14 20-29
+x b= 0-39
 transactions= 40 0
 forget 20=closed 20 0
-readers a= 30
-readers b= 40
+x a= 20-29
+x b= 0-39
 transactions= 40 0
 forget 15=closed 20 0
-readers a= 30
+x a= 20-29
 transactions= 40 0
 forget 30=closed 30 0
-readers a=
-readers b= 40
+x a=
+x b= 0-39
 transactions= 40 0
 undecided=1
 versions=1
@@ -181,7 +180,7 @@ undecided=1
 versions=2
 put 30 a 4=written
 versions=3
-marks=0
+x b=
 keep 26=protected 2
 end 1=released
 end 1=noprotection
@@ -256,8 +255,7 @@ scan 30 - -=rows b3
 impl Asked for Rules {
     fn ask(&mut self, alloc: Global, mut words: Words<'_>, out: &mut Vec<u8>) -> Option<()> {
         match words.word().first() {
-            Some(b'm') => put_number(alloc, out, self.marks().spans()),
-            Some(b'r') => put_readers(alloc, self.marks(), &mut words, out),
+            Some(b'x') => put_crossed(alloc, self, &words.key(alloc)?, out),
             Some(b'u') => put_number(alloc, out, self.undecided_count()),
             Some(b'v') => put_number(alloc, out, self.version_count()),
             Some(b't') => put_transactions(alloc, self, out),
@@ -274,6 +272,24 @@ impl Asked for Rules {
             None => None,
         }
     }
+}
+
+/// Writes the timestamps below 100 where a write of a key would be refused for a reader, from the first to the last of each
+/// run.
+fn put_crossed(alloc: Global, rules: &Rules, key: &Key, out: &mut Vec<u8>) -> Option<()> {
+    let mut first = None;
+    let mut last = 0;
+    for t in 0..100 {
+        if rules.versions().is_crossed(key, t) {
+            first = Some(first.unwrap_or(t));
+            last = t;
+        } else if let Some(from) = first {
+            let text = format!(in alloc; " {from}-{last}").ok()?;
+            out.extend_from_slice(text.as_bytes()).ok()?;
+            first = None;
+        }
+    }
+    Some(())
 }
 
 pub(super) fn reply_to(
