@@ -30,7 +30,7 @@
 //! - `begin`, `protect`, `release`, `open`, `cancel`: O(log n)
 //! - `get`, `put`, `del`, `readat`: O(log n + log v log b + log m), and a move of the readers above the new one,
 //!   or of the versions above it in its list or block
-//! - `scan`, `scanat`: O(log n), and as a get for each key and each marked span that it meets
+//! - `scan`, `scanat`: O(log n), as a get for each key with a record, and O(log n) for each start of a marked span
 //! - `commit`, `abort`: O(log n + log v log b) for each key written
 //! - `close`, `closehard`: O(log n) for each transaction that is forgotten. Where a feed lives also
 //!   O(log n + log v log b + log f) for each version that became closed, and the feeds whose spans hold its key

@@ -47,8 +47,8 @@
 //! - `closed`, `horizon`: O(1); `undecided_report`: O(log n) for each undecided transaction
 //! - `oldest_undecided`, `reached`: O(log n); `version_at`: O(log k + log v), for each undecided version above it too
 //!
-//! A read goes over all records where many of them came since it last did so. Memory: `begin`, reads, writes, `protect` and `undecided_report` take it, but for writes that are too late and reads that are
-//! blocked. The others take none.
+//! A read goes over all records where many of them came since it last did so. Memory: `begin`, reads, writes, `protect`
+//! and `undecided_report` take it, but for writes that are too late and reads that are blocked. The others take none.
 //!
 //! Tests: `layer_tests`.
 #![tactic(auto)]

@@ -183,7 +183,7 @@ impl Dice {
     }
 }
 
-/// What a key was read by, as plain lists.
+/// The readers of a key, as plain lists.
 #[derive(Drop)]
 struct Plain {
     alloc: Global,

@@ -8,7 +8,7 @@ use spans::span::Span;
 use std::ops::Bound;
 use timestamps::small_bytes::SmallBytes;
 
-/// Where a span begins, and where it ends if it does. `least` has no byte: a span without a lower bound begins there.
+/// The start of a span, and its end if it has one. `least` has no byte: a span without a lower bound begins there.
 pub(super) fn ends_of<'a>(
     span: &'a Span,
     least: &'a SmallBytes,
