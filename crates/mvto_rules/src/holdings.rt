@@ -1,9 +1,9 @@
 //! What the rules hold, to be read.
 ghost use Rattle.std.specs.Prelude.{◌≡◌, ◌≤◌};
 ghost use Rattle.timestamps.specs.declared.ts.TheConstants.{MAX};
+ghost use Rattle.kept.specs.Lists.{IsNumberOf};
 ghost use Rattle.kept.specs.Table.{is_open};
 ghost use Rattle.closing.specs.Standing.{closed_in};
-ghost use Rattle.txn_table.specs.TransactionIn.{IsCountOf};
 ghost use Rattle.version_chain.specs.Stores as stores;
 
 use crate::rules::Rules;
@@ -51,7 +51,7 @@ impl Rules {
 
     /// How many transactions are undecided.
     pub fn undecided_count(&self) -> u64
-        ensures { IsCountOf (λ t. is_open (transactions_of self.now t)) result }
+        ensures { IsNumberOf (λ t. is_open (transactions_of self.now t)) result }
     {
         self.txns.undecided()
     }

@@ -2,27 +2,26 @@
 ghost use Rattle.std.specs.Prelude.{◌≡◌, ◌&&◌, ℕ, None, IfOk, OnOk, OnErr, nat_le, nat_lt, option_map, is_none, if◌then◌else◌, length, ◌<◌, ◌^◌};
 ghost use Rattle.std.specs.List.Sorted.{IsStrictlyIncreasing};
 ghost use Rattle.spans.specs.Kept.{Transaction};
-ghost use Rattle.kept.specs.Lists.{AreThose};
+ghost use Rattle.kept.specs.Lists.{AreThose, IsNumberOf};
 ghost use Rattle.kept.specs.Table.{IsOldest, is_open};
 ghost use Rattle.txn_table.specs.States.{begun, decided};
-ghost use Rattle.txn_table.specs.TransactionIn.{transaction_in, IsCountOf, IsGreatest, IsSetAt};
+ghost use Rattle.txn_table.specs.TransactionIn.{transaction_in, IsGreatest, IsSetAt};
 
-use crate::changes::{decide_at, forget_transactions, forget_undecided};
-use crate::transaction::{Outcome, Transaction};
+use crate::changes::{begin_at, decide_at, drop_through};
+use crate::ending::{Ending, Outcome};
+use crate::undecided::Undecided;
 use spans::state::State;
 use std::alloc::{AllocError, Global};
-use std::collections::btree_map::Entry;
-use std::collections::btree_set::Range;
-use std::collections::{BTreeMap, BTreeSet};
+use std::collections::BTreeMap;
 use std::marker::Model;
 use timestamps::ts::Ts;
 use timestamps::ts_key::TsKey;
 
-/// The transactions, and which of them are undecided.
+/// The transactions, of which the undecided ones stand apart.
 #[derive(Drop)]
 pub struct Txns {
-    table: BTreeMap<TsKey, Transaction>,
-    undecided: BTreeSet<TsKey>,
+    undecided: BTreeMap<TsKey, u8>,
+    endings: BTreeMap<TsKey, Ending>,
 }
 
 impl Model for Txns {
@@ -31,9 +30,9 @@ impl Model for Txns {
 
     ghost Value = { Table };
 
-    ghost view = { λ t. t.table.entries };
+    ghost view = { λ t. record { undecided = t.undecided.entries; endings = t.endings.entries } };
 
-    ghost invariant = { λ t. AreUndecided t.table.entries t.undecided };
+    ghost invariant = { λ t. AreUndecided t.undecided.entries t.endings.entries };
 }
 
 impl Txns {
@@ -42,8 +41,8 @@ impl Txns {
         ensures { (i : ℕ) → transaction_in result i ≡ None }
     {
         Txns {
-            table: BTreeMap::new(alloc),
-            undecided: BTreeSet::new(alloc),
+            undecided: BTreeMap::new(alloc),
+            endings: BTreeMap::new(alloc),
         }
     }
 
@@ -55,24 +54,19 @@ impl Txns {
         ensures err { OnErr result (self.new ≡ self.old) }
         ensures free { OnErr result (transaction_in self.old ts ≡ None) }
     {
-        let ts = TsKey(ts.get());
-        match self.table.entry(ts)? {
-            Entry::Occupied(_) => Ok(false),
-            Entry::Vacant(place) => {
-                self.undecided.insert(ts)?;
-                place.insert(Transaction::new(seat));
-                Ok(true)
-            }
-        }
+        begin_at(&mut self.undecided, &mut self.endings, ts.get(), seat)
     }
 
     /// The seat that began the transaction of `ts`, and how it stands.
     pub fn standing(&self, ts: u64) -> Option<(u8, State)>
         ensures { result ≡ option_map (λ (n : Transaction). (n.seat, n.state)) (transaction_in self.now ts) }
     {
-        match self.table.get(&TsKey(ts)) {
+        if let Some(seat) = self.undecided.get(&TsKey(ts)) {
+            return Some((*seat, State::Undecided));
+        }
+        match self.endings.get(&TsKey(ts)) {
             None => None,
-            Some(transaction) => Some(transaction.standing()),
+            Some(ending) => Some(ending.standing()),
         }
     }
 
@@ -80,17 +74,16 @@ impl Txns {
     pub fn decide(&mut self, ts: Ts, outcome: Outcome)
         ensures { IsSetAt self.old self.new ts (option_map (decided outcome)) }
     {
-        decide_at(&mut self.table, ts.get(), outcome);
-        self.undecided.remove(&TsKey(ts.get()));
+        decide_at(&mut self.undecided, &mut self.endings, ts.get(), outcome);
     }
 
     /// The least timestamp that is undecided.
     pub fn oldest_undecided(&self) -> Option<u64>
         ensures { IsOldest (transaction_in self.now) result }
     {
-        match self.undecided.first() {
+        match self.undecided.first_key_value() {
             None => None,
-            Some(oldest) => Some(oldest.0),
+            Some((oldest, _)) => Some(oldest.0),
         }
     }
 
@@ -98,7 +91,7 @@ impl Txns {
     pub fn greatest(&self) -> Option<u64>
         ensures { IsGreatest self.now result }
     {
-        match self.table.last_key_value() {
+        match self.endings.last_key_value() {
             None => None,
             Some((greatest, _)) => Some(greatest.0),
         }
@@ -106,18 +99,18 @@ impl Txns {
 
     /// How many transactions are undecided.
     pub fn undecided(&self) -> u64
-        ensures { IsCountOf (λ t. is_open (transaction_in self.now t)) result }
+        ensures { IsNumberOf (λ t. is_open (transaction_in self.now t)) result }
     {
         self.undecided.len() as u64
     }
 
     /// The undecided timestamps at or below `to`, rising.
-    pub fn undecided_through(&self, to: u64) -> Range<'_, TsKey>
+    pub fn undecided_through(&self, to: u64) -> Undecided<'_>
         ensures those { AreThose (λ t. nat_le t to && is_open (transaction_in self.now t)) result }
         ensures rising { IsStrictlyIncreasing result }
         ensures fits { length result < 2 ^ 63 }
     {
-        self.undecided.range(..=TsKey(to))
+        Undecided::of(self.undecided.range(..=TsKey(to)))
     }
 
     /// Forgets the transactions at or below `ts`, undecided ones too. It takes no memory.
@@ -125,7 +118,7 @@ impl Txns {
         ensures { (i : ℕ) → transaction_in self.new i
             ≡ (if nat_lt ts i then transaction_in self.old i else None) }
     {
-        forget_transactions(&mut self.table, ts);
-        forget_undecided(&mut self.undecided, ts);
+        drop_through(&mut self.undecided, ts);
+        drop_through(&mut self.endings, ts);
     }
 }

@@ -1,5 +1,10 @@
-use Rattle.txn_table.proofs.Standing.{those}
+use Rattle.std.proofs.Common.{sym, ◌∙◌}
+use Rattle.std.proofs.lemmas.Map.Entries.{length-keys_of}
+use Rattle.txn_table.specs.TransactionIn.{Table}
+use Rattle.txn_table.proofs.Times.{those, times}
 use Rattle.txn_table.proofs.txns.Txns.undecided.Goals as goal
 
 pub returns : goal.returns
-returns c = rw (← c.self.view_is) (c.self.inside.undecided.keys, those c.self.inside.table.entries c.self.inside.undecided c.len.ensures.ordered c.self.invariant, c.len.ensures.len)
+returns c =
+    let table : Table = record { undecided = c.self.inside.undecided.entries; endings = c.self.inside.endings.entries } in
+    rw (← c.self.view_is) (times table, those table c.len.ensures.ordered, c.len.ensures.len ∙ sym (length-keys_of table.undecided))

@@ -1,0 +1,50 @@
+//! Undecided timestamps, in turn.
+ghost use Rattle.std.specs.Prelude.{◌≡◌, length};
+ghost use Rattle.std.specs.Iterator.{at_most};
+ghost use Rattle.std.specs.Map.{keys_of};
+ghost use Rattle.std.specs.Map.Iter.{TakesFirst, deref};
+
+use std::collections::btree_map::Range;
+use std::iter::Iterator;
+use std::marker::Model;
+use timestamps::ts_key::TsKey;
+
+/// Undecided timestamps, rising, each as it is asked for.
+#[derive(Drop)]
+pub struct Undecided<'a> {
+    seats: Range<'a, TsKey, u8>,
+}
+
+impl<'a> Model for Undecided<'a> {
+    ghost use Rattle.std.specs.Prelude.{List, ℕ};
+    ghost use Rattle.std.specs.Map.{keys_of};
+
+    ghost Value = { List ℕ };
+
+    ghost view = { λ u. keys_of u.seats };
+}
+
+impl<'a> Undecided<'a> {
+    /// Those of a part of the small map.
+    pub(crate) fn of(seats: Range<'a, TsKey, u8>) -> Undecided<'a>
+        ensures { result ≡ keys_of seats.entry }
+    {
+        Undecided { seats }
+    }
+}
+
+impl<'a> Iterator for Undecided<'a> {
+    type Item = &'a TsKey;
+
+    ghost next_gives = { TakesFirst deref };
+
+    ghost remaining = { λ s. at_most (length s) };
+
+    #[inline]
+    fn next(&mut self) -> Option<&'a TsKey> {
+        match self.seats.next() {
+            None => None,
+            Some((ts, _)) => Some(ts),
+        }
+    }
+}
