@@ -208,6 +208,89 @@ def narrow_scans(size, dice):
     yield "0 commit %d" % ts
 
 
+@workload(8_000, "a queue of jobs: one is added, and the first of ten is taken")
+def job_queue(size, dice):
+    taken = 0
+    for number in range(size):
+        ts = 2 * number + 2
+        yield from write_one(ts, key(number), dice.value())
+        if number % 10 == 9 or number - taken > 20:
+            yield "1 begin %d" % (ts + 1)
+            yield "1 scan %d %s %s" % (ts + 1, key(taken), key(taken + 10))
+            yield "1 del %d %s" % (ts + 1, key(taken))
+            yield "1 commit %d" % (ts + 1)
+            taken += 1
+        if number % 50 == 49:
+            yield "0 close %d" % ts
+        if number % 1000 == 999:
+            yield "0 collect %d" % ts
+
+
+@workload(4_000, "eight sessions that raise one counter")
+def hot_counter(size, dice):
+    ts = 0
+    for turn in range(size // 8):
+        for seat in range(8):
+            yield "%d begin %d" % (seat, ts + seat + 1)
+        for seat in dice.order(range(8)):
+            yield "%d get %d counter" % (seat, ts + seat + 1)
+            yield "%d put %d counter %d" % (seat, ts + seat + 1, turn)
+            yield "%d commit %d" % (seat, ts + seat + 1)
+        ts += 8
+        if turn % 10 == 9:
+            yield "0 close %d" % ts
+        if turn % 100 == 99:
+            yield "0 collect %d" % ts
+
+
+def long_key(number):
+    return "tenant-000000042/table-customers/index-by-full-name/" + key(number)
+
+
+@workload(15_000, "keys of 60 bytes, of which 52 are the same")
+def long_keys(size, dice):
+    for ts in range(1, size + 1):
+        seat = ts % 4
+        yield "%d begin %d" % (seat, ts)
+        yield "%d get %d %s" % (seat, ts, long_key(dice.below(10_000)))
+        yield "%d put %d %s %s" % (seat, ts, long_key(dice.below(10_000)), dice.value())
+        yield "%d commit %d" % (seat, ts)
+        if ts % 100 == 0:
+            yield "0 close %d" % (ts - 8)
+        if ts % 1000 == 0:
+            yield "0 collect %d" % ts
+
+
+@workload(4_000, "snapshot scans of 2,000 keys beside writers")
+def snapshot_scans(size, dice):
+    yield from load(10_000)
+    first = after_load(10_000)
+    for ts in range(first, first + size):
+        yield from write_one(ts, dice.key(10_000), dice.value())
+        if ts % 100 == 0:
+            low = dice.below(8_000)
+            yield "0 close %d" % ts
+            yield "1 scanat %d %s %s" % (ts - 50, key(low), key(low + 2_000))
+        if ts % 1000 == 0:
+            yield "0 collect %d" % (ts - 100)
+
+
+@workload(6_400, "64 sessions, whose reads others block")
+def blocked_reads(size, dice):
+    ts = 0
+    for turn in range(size // 64):
+        for seat in range(64):
+            yield "%d begin %d" % (seat, ts + seat + 1)
+            yield "%d put %d %s %d" % (seat, ts + seat + 1, key(seat), turn)
+        for seat in dice.order(range(64)):
+            yield "%d get %d %s" % (seat, ts + seat + 1, dice.key(64))
+            yield "%d commit %d" % (seat, ts + seat + 1)
+        ts += 64
+        yield "0 close %d" % ts
+        if turn % 10 == 9:
+            yield "0 collect %d" % ts
+
+
 # -- feeds
 
 
@@ -305,6 +388,22 @@ def quiet_polls(size, dice):
             yield from write_one(ts, dice.key(1000), dice.value())
             yield "0 close %d" % ts
         yield "0 poll %d 10" % (turn % 64 + 1)
+
+
+@workload(8_000, "feeds that are cancelled and opened again")
+def turnover(size, dice):
+    keys, opened = 10_000, 64
+    for _ in range(64):
+        yield "0 open - - 0"
+    for ts in range(1, size + 1):
+        yield from write_one(ts, dice.key(keys), dice.value(), seat=1)
+        if ts % 20 == 0:
+            low = dice.below(keys)
+            yield "0 close %d" % ts
+            yield "0 poll %d 100" % (opened - 63)
+            yield "0 cancel %d" % (opened - 63)
+            yield "0 open %s %s %d" % (key(low), key(low + 500), ts)
+            opened += 1
 
 
 # -- the rest
