@@ -5,7 +5,7 @@
 //! passed is offered to every feed. A feed wants it where its span holds the key and its place is below the timestamp.
 //!
 //! 1. A ring has the rows that were offered to its feed, that it wanted, and that it has still to tell. All rings share
-//!    one copy of a row.
+//!    one copy of a row. A ring grows as rows come, up to the size that was asked for.
 //! 2. Where a ring is full the feed falls behind: it lets its ring go, and is served from the store until a poll leaves
 //!    nothing to tell there. A feed that is behind has an empty ring.
 //! 3. An order of the spans has a slot for each feed, and finds the feeds that a row concerns.

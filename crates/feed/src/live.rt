@@ -29,6 +29,9 @@ use timestamps::row::Row;
 use timestamps::ts::Ts;
 use version_chain::Store;
 
+/// The least room that a ring makes for rows, where so many are allowed.
+const LEAST_ROOM: usize = 8;
+
 /// A feed with its place and its ring.
 #[derive(Drop)]
 pub(crate) struct LiveFeed {
@@ -39,7 +42,10 @@ pub(crate) struct LiveFeed {
     after: u64,
     row: Option<RowName>,
     behind: bool,
+    /// It grows as rows come. One that has let its rows go has no memory.
     ring: HeapCircularBuffer<Arc<Row>>,
+    /// How many rows it holds at most.
+    most: usize,
 }
 
 impl Model for LiveFeed {
@@ -70,7 +76,7 @@ impl LiveFeed {
         ensures { IfOk result (λ f. f ≡ opened_at seat kind span.now cursor behind) }
     {
         let span = span.copy()?;
-        let ring = HeapCircularBuffer::with_capacity(alloc, ring)?;
+        let rows = HeapCircularBuffer::with_capacity(alloc, 0)?;
         Ok(LiveFeed {
             seat,
             kind,
@@ -79,7 +85,8 @@ impl LiveFeed {
             after: kind.start(cursor),
             row: None,
             behind,
-            ring,
+            ring: rows,
+            most: ring,
         })
     }
 
@@ -148,15 +155,31 @@ impl LiveFeed {
         }
     }
 
-    /// Takes a row that it wants into its ring, or falls behind where that is full.
+    /// Takes a row that it wants into its ring, or falls behind where that is full and can't grow.
     fn take_in(&mut self, row: Arc<Row>)
         requires { self.old.behind ≡ false }
         ensures { (self.new ≡ with_row row.value self.old) ⊎ (self.new ≡ sent_behind self.old) }
     {
+        let Err(row) = self.ring.try_push_back(row) else {
+            return;
+        };
+        self.grow();
         let Err(_) = self.ring.try_push_back(row) else {
             return;
         };
         self.send_behind();
+    }
+
+    /// Makes its ring twice as large, unless that is as large as it may be, or there is no memory.
+    fn grow(&mut self)
+        ensures { self.new ≡ self.old }
+    {
+        let room = self.ring.capacity();
+        if room < self.most {
+            let more = room.saturating_mul(2).max(LEAST_ROOM).min(self.most);
+            // Where that is refused, the ring is full.
+            let _ = self.ring.resize(more);
+        }
     }
 
     /// Lets its ring go.
@@ -164,6 +187,8 @@ impl LiveFeed {
         ensures { self.new ≡ sent_behind self.old }
     {
         self.ring.clear();
+        // It keeps its memory where that is refused.
+        let _ = self.ring.resize(0);
         self.behind = true;
     }
 
