@@ -1,4 +1,6 @@
 //! Readers of keys and marks of spans: worked scripts, and random calls beside plain lists.
+ghost use Rattle.std.specs.Prelude.{◌<◌};
+
 use super::script::{Asked, Words, put_number};
 use read_marks::{Readers, SpanMarks};
 use spans::bound::Bound;
@@ -174,6 +176,7 @@ struct Dice {
 impl Dice {
     fn below(&mut self, limit: u64) -> u64
         requires { 0 < limit }
+        ensures { result < limit }
     {
         self.state = self
             .state
@@ -311,7 +314,12 @@ pub(super) fn notes_agree(alloc: Global) -> Option<bool> {
 
 /// Whether both have the same readers above what is forgotten.
 fn have_same(readers: &Readers, list: &[u64], forgotten: u64) -> bool {
-    (forgotten..forgotten + 120).all(|reader| {
-        readers.any_between(reader, Some(reader + 1)) == list.contains(&(reader + 1))
-    })
+    for step in 0..120 {
+        let before = forgotten.saturating_add(step);
+        let reader = before.saturating_add(1);
+        if readers.any_between(before, Some(reader)) != list.contains(&reader) {
+            return false;
+        }
+    }
+    true
 }
