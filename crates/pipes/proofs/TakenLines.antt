@@ -27,7 +27,8 @@ use Rattle.word_lines.specs.Spelling.{spelling}
 use Rattle.word_lines.specs.Words.{text_at}
 use Rattle.word_lines.proofs.JoinedParts.{IsWord, Lacks, decimal_all, is_false, text_again, words_again}
 use Rattle.word_lines.proofs.Spellings.{both}
-use Rattle.word_lines.proofs.WrittenWords.{bytes_few, bytes_word, command_words, joined_few, number_word, room, words_then}
+use Rattle.word_lines.proofs.ReadParts.{command_words}
+use Rattle.word_lines.proofs.WrittenWords.{bytes_few, bytes_word, joined_few, number_word, room, words_then}
 use Rattle.script.specs.Lines.{lines_of}
 use Rattle.script.proofs.CutLines.{lines_again, words_line_again}
 use Rattle.script.proofs.WrittenReplies.{reply_are_words}

@@ -35,9 +35,11 @@ use Rattle.script.specs.ReplyReading.{refusal_at, stats_at, shape_at, named_at, 
 use Rattle.script.specs.EventLines.{behind_arrow, heading_of, heading_at, pair_at, pair_of, row_line_at, message_line_at}
 use Rattle.script.specs.Transcripts.{Fault, next_at, many_at, following_at, event_at, events_at, body_at, transcript_at, events_text, transcript_text}
 use Rattle.word_lines.proofs.JoinedParts.{Lacks, IsWord, text_again, words_again, decimal_all}
-use Rattle.word_lines.proofs.WrittenWords.{room, number_word, number_length, bytes_word, bytes_few, words_then, joined_few, command_words}
+use Rattle.word_lines.proofs.WrittenWords.{room, number_word, number_length, bytes_word, bytes_few, words_then, joined_few}
+use Rattle.word_lines.proofs.ReadParts.{command_words}
 use Rattle.script.proofs.WrittenReplies.{reply_are_words}
-use Rattle.word_lines.proofs.CommandsAgain.{number_again, session_again, key_again, value_again, read_again}
+use Rattle.word_lines.proofs.ReadWords.{number_again, session_again, key_again, value_again}
+use Rattle.word_lines.proofs.CommandsAgain.{read_again}
 use Rattle.script.proofs.MessageLines.{message_only, base64_all}
 use Rattle.word_lines.proofs.Joining.{some_words}
 use Rattle.script.proofs.CutLines.{lines_again, words_line_again}

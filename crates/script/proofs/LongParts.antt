@@ -5,7 +5,8 @@ use Rattle.std.proofs.lemmas.List.Folds.{list_any-append}
 use Rattle.spelled_words.specs.Memory.{is_long}
 use Rattle.word_lines.specs.Memory.{byte_words}
 use Rattle.word_lines.specs.Reading.{◌>>=◌, number_at, session_at, row_at}
-use Rattle.word_lines.specs.Table.{Row, table}
+use Rattle.word_lines.specs.Table.{table}
+use Rattle.word_lines.specs.declared.table.Form.{Form}
 use Rattle.script.specs.EventLines.{behind_arrow}
 use Rattle.script.specs.Memory.{event_words_of, ok_has, value_words}
 
@@ -13,7 +14,7 @@ or_true : (b : Bool) → (b || true) ≡ true
 or_true true = refl
 or_true false = refl
 
-pub answer_long : (words left behind arguments answer : List (List ℕ)) (position seat : ℕ) (row : Row) → number_at words ≡ Ok (position, left) → session_at 64 left ≡ Ok (seat, behind)
+pub answer_long : (words left behind arguments answer : List (List ℕ)) (position seat : ℕ) (row : Form) → number_at words ≡ Ok (position, left) → session_at 64 left ≡ Ok (seat, behind)
     → row_at table behind ≡ Ok (row, arguments) → behind_arrow row.arguments arguments ≡ Ok answer → list_any is_long (value_words answer) ≡ true → ok_has (list_any is_long) (event_words_of words) ≡ true
 unfolding event_words_of
 answer_long words left behind arguments answer position seat row number session name arrow long = rw (number, session, name, arrow)

@@ -36,52 +36,12 @@ use Rattle.script.specs.EventLines.{behind_arrow, heading_of, heading_at, pair_a
 use Rattle.script.specs.Transcripts.{next_at, many_at, following_at, event_at, events_at, body_at, transcript_at, events_text, transcript_text, Tells}
 use Rattle.script.specs.declared.fault.TranscriptError.{TranscriptError}
 use Rattle.word_lines.proofs.ReadWords.{bind_ok, guarded, refused, some_ok, ok_is, number_word, session_word, key_word, value_word, word_found}
-use Rattle.word_lines.proofs.ReadCommands.{IsRight, Begins, name_of, arity_of, arguments_found, text_found, words_found, row_word}
+use Rattle.word_lines.proofs.ReadCommands.{Begins, name_of, arity_of, arguments_found, text_found, words_found, row_word}
 use Rattle.script.proofs.ReadReplies.{shape_words, IsShape, reply_found, ended, told}
 use Rattle.script.proofs.MessageLines.{message_found}
 use Rattle.script.proofs.TakeLines.{next_found, event_fewer}
 use Rattle.script.proofs.CutLines.{lines_whole}
 use Rattle.script.proofs.Headers.{behind_header, header_is, no_header}
-
--- each row of the table says what its command is
-table_right : AllByRecursion IsRight table
-table_right = (
-  record { name = refl; arguments = refl },
-  (
-    record { name = refl; arguments = refl },
-    (
-      record { name = refl; arguments = refl },
-      (
-        record { name = refl; arguments = refl },
-        (
-          record { name = refl; arguments = refl },
-          (
-            record { name = refl; arguments = refl },
-            (
-              record { name = refl; arguments = refl },
-              (
-                record { name = refl; arguments = refl },
-                (
-                  record { name = refl; arguments = refl },
-                  (
-                    record { name = refl; arguments = refl },
-                    (
-                      record { name = refl; arguments = refl },
-                      (
-                        record { name = refl; arguments = refl },
-                        (record { name = refl; arguments = refl }, (record { name = refl; arguments = refl }, (record { name = refl; arguments = refl }, (record { name = refl; arguments = refl }, (record { name = refl; arguments = refl }, (record { name = refl; arguments = refl }, (record { name = refl; arguments = refl }, (record { name = refl; arguments = refl }, (record { name = refl; arguments = refl }, tt))))))))),
-                      ),
-                    ),
-                  ),
-                ),
-              ),
-            ),
-          ),
-        ),
-      ),
-    ),
-  ),
-)
 
 -- ---- the first line
 
@@ -133,7 +93,7 @@ module _ (format : Format) where
       let k = bind_ok (behind_arrow r.0.0.arguments r.0.1) (λ answer. arguments_at format r.0.0.verb r.0.1 >>= λ c. reply_at format answer >>= λ y. Ok (heading position seat c.0 y)) x r.2 in
       let c = bind_ok (arguments_at format r.0.0.verb r.0.1) (λ c. reply_at format k.0 >>= λ y. Ok (heading position seat c.0 y)) x k.2 in
       let y = bind_ok (reply_at format k.0) (λ y. Ok (heading position seat c.0.0 y)) x c.2 in
-      let row = row_word table others r.0 table_right r.1 in
+      let row = row_word others r.0 r.1 in
       let begins = arguments_found format r.0.0.verb r.0.1 c.0 c.1 in
       let answer = reply_found format k.0 y.0 y.1 in
       let arrow : drop (arity_of r.0.0.verb) r.0.1 ≡ codes "=>" ∷ k.0 = subst (λ (n : ℕ). drop n r.0.1 ≡ codes "=>" ∷ k.0) row.1 (behind_found r.0.0.arguments r.0.1 k.0 k.1) in

@@ -21,7 +21,8 @@ use Rattle.word_lines.proofs.ReadCommands.{command_found}
 use Rattle.word_lines.proofs.CommandsAgain.{command_again}
 use Rattle.script.proofs.CutLines.{lines_whole, words_line_again}
 use Rattle.word_lines.proofs.JoinedParts.{IsWord}
-use Rattle.word_lines.proofs.WrittenWords.{number_word, command_words}
+use Rattle.word_lines.proofs.WrittenWords.{number_word}
+use Rattle.word_lines.proofs.ReadParts.{command_words}
 
 -- ---- a loop over lines
 

@@ -8,7 +8,8 @@ use Rattle.spans.specs.declared.calls.replies.Reply.{Reply}
 use Rattle.spans.specs.declared.calls.replies.Reply.TheVariants as reply
 use Rattle.spans.specs.declared.calls.replies.Refusal.{Refusal}
 use Rattle.spans.specs.declared.calls.replies.Refusal.TheVariants as refusal
-use Rattle.word_lines.specs.Commands.{joined, words_of, command_line}
+use Rattle.word_lines.specs.Commands.{joined, words_in, words_of, command_line}
+use Rattle.word_lines.specs.Table.{pieces_of}
 use Rattle.word_lines.specs.Replies.{reply_words, refusal_words, following_lines, reply_text}
 
 pub joined_more : (word : List ℕ) (words : List (List ℕ)) → 0 < length words → joined (word ∷ words) ≡ word ++ 32 ∷ joined words
@@ -22,65 +23,25 @@ joined_two (word ∷ next ∷ words) more some rest =
     ap (λ (x : List ℕ). word ++ 32 ∷ x) (joined_two (next ∷ words) more (omega arith) rest)
     ∙ sym (append_assoc word (32 ∷ joined (next ∷ words)) (32 ∷ joined more))
 
-pub some_words : (c : Cmd) → 0 < length (words_of c)
+-- a command's words are those of its pieces
+pub words_are : (c : Cmd) → words_of c ≡ words_in (pieces_of c)
 unfolding words_of
-some_words (cmd.Begin ts) = omega arith
-some_words (cmd.Get ts key) = omega arith
-some_words (cmd.Scan ts span) = omega arith
-some_words (cmd.Put ts key value) = omega arith
-some_words (cmd.Del ts key) = omega arith
-some_words (cmd.Commit ts) = omega arith
-some_words (cmd.Abort ts) = omega arith
-some_words (cmd.Close to) = omega arith
-some_words (cmd.CloseHard to) = omega arith
-some_words (cmd.ReadAt t key) = omega arith
-some_words (cmd.ScanAt t span) = omega arith
-some_words (cmd.Protect t) = omega arith
-some_words (cmd.Release id) = omega arith
-some_words (cmd.Collect to) = omega arith
-some_words (cmd.Open span cursor) = omega arith
-some_words (cmd.OpenInitial span cursor) = omega arith
-some_words (cmd.OpenEvery span cursor gap) = omega arith
-some_words (cmd.OpenInitialEvery span cursor gap) = omega arith
-some_words (cmd.Poll feed max) = omega arith
-some_words (cmd.Cancel feed) = omega arith
-some_words cmd.Stats = omega arith
+words_are (cmd.Begin ts) = refl
+words_are (_) = refl
+
+pub some_words : (c : Cmd) → 0 < length (words_of c)
+some_words c = omega (arith, ap length (words_are c))
 
 some_refusal_words : (r : Refusal) → 0 < length (refusal_words r)
 some_refusal_words (refusal.BelowClosed closed) = omega arith
-some_refusal_words refusal.TsUsed = omega arith
-some_refusal_words refusal.TsRange = omega arith
-some_refusal_words (refusal.Blocked by) = omega arith
-some_refusal_words refusal.NoTxn = omega arith
-some_refusal_words refusal.NotOwner = omega arith
-some_refusal_words refusal.Ended = omega arith
-some_refusal_words refusal.TooLate = omega arith
-some_refusal_words (refusal.NotClosed closed) = omega arith
-some_refusal_words (refusal.BelowHorizon horizon) = omega arith
-some_refusal_words refusal.NoProtection = omega arith
-some_refusal_words refusal.NoFeed = omega arith
-some_refusal_words refusal.FeedCancelled = omega arith
-some_refusal_words refusal.NoMemory = omega arith
-some_refusal_words refusal.GapRange = omega arith
+some_refusal_words (_) = omega arith
 
 pub some_reply_words : (r : Reply) → 0 < length (reply_words r)
 unfolding reply_words
-some_reply_words reply.Started = omega arith
 some_reply_words (reply.Found None) = omega arith
 some_reply_words (reply.Found (Some value)) = omega arith
-some_reply_words (reply.Rows rows) = omega arith
-some_reply_words reply.Written = omega arith
-some_reply_words (reply.Committed keys) = omega arith
-some_reply_words reply.Aborted = omega arith
-some_reply_words (reply.Closed at aborted) = omega arith
-some_reply_words (reply.Protected id) = omega arith
-some_reply_words reply.Released = omega arith
-some_reply_words (reply.Collected horizon removed) = omega arith
-some_reply_words (reply.Opened feed) = omega arith
-some_reply_words (reply.Messages messages) = omega arith
-some_reply_words reply.Cancelled = omega arith
-some_reply_words (reply.Stats versions undecided feeds closed horizon) = omega arith
 some_reply_words (reply.Refused r) = some_refusal_words r
+some_reply_words (_) = omega arith
 
 -- a command's line, in the pieces in which it is written
 pub command_in_pieces : (seat : ℕ) (c : Cmd) → command_line seat c ≡ (decimal seat ++ 32 ∷ joined (words_of c)) ++ 10 ∷ []

@@ -6,9 +6,9 @@ pub use Rattle.spelled_words.proofs.LongWords
 pub mod Writing
 pub mod ReadCommands
 pub mod ReadWords
+pub mod ReadParts
 pub mod Joining
 pub mod JoinedParts
 pub mod WrittenWords
 pub mod CommandsAgain
-pub mod Counting
 pub mod LongArguments

@@ -1,5 +1,5 @@
 -- A long value among a command's arguments.
-use Rattle.std.proofs.Common.{◌≡◌, ℕ, true, List, Ok, sym, ap, subst, ◌∙◌}
+use Rattle.std.proofs.Common.{◌≡◌, ℕ, true, List, Ok, ap, ◌∙◌}
 use Rattle.std.specs.Prelude.{drop}
 use Rattle.text_format.specs.declared.Format.{Format}
 use Rattle.spelled_words.specs.Memory.{has_long}

@@ -1,7 +1,7 @@
--- What is read of a word is written so.
-use Rattle.std.proofs.Common.{◌≡◌, ℕ, ◌<◌, ◌≤◌, Bool, true, false, cond, List, [], ◌∷◌, length, Option, Some, None, Result, Ok, Err, refl, ap, subst, ◌∙◌}
+-- What is read of words is written so, and what is written of words is read so.
+use Rattle.std.proofs.Common.{◌≡◌, ℕ, ◌<◌, ◌≤◌, Bool, true, false, cond, List, [], ◌∷◌, length, Option, Some, None, Result, Ok, Err, refl, sym, ap, subst, ◌∙◌, arith}
 use Rattle.std.specs.Prelude.{codes, decimal, bytes_eq, ok_or, ◌&&◌, nat_le, nat_lt}
-use Rattle.std.proofs.lemmas.Bool.{leb-true, ltb-true}
+use Rattle.std.proofs.lemmas.Bool.{leb-true, ltb-true, lt-ltb, le-leb, false_from_ne_true}
 use Rattle.std.proofs.lemmas.Slice.Eq.{bytes_eq-Decides}
 use Rattle.text_format.specs.Limits.{key_limit, value_limit, bound_limit}
 use Rattle.text_format.specs.declared.Format.{Format}
@@ -13,9 +13,9 @@ use Rattle.word_lines.specs.Spelling.{spelling, bytes_of, AreBytes}
 use Rattle.word_lines.specs.Commands.{bound_word}
 use Rattle.json_lines.specs.Messages.{IsKey}
 use Rattle.word_lines.specs.Limits.{IsNumber, IsValue, IsBound, IsSpan}
-use Rattle.word_lines.specs.Reading.{◌>>=◌, word_at, number_at, session_at, bytes_at, key_at, value_at, bound_at, span_at, number_and_key_at, number_and_span_at, opening_at, opening_every_at}
-use Rattle.word_lines.proofs.NumberWords.{number_found}
-use Rattle.word_lines.proofs.SpelledWords.{spelled_found}
+use Rattle.word_lines.specs.Reading.{◌>>=◌, word_at, number_at, session_at, bytes_at, key_at, value_at, bound_at, span_at}
+use Rattle.word_lines.proofs.NumberWords.{number_found, number_only}
+use Rattle.word_lines.proofs.SpelledWords.{spelled_found, some_of, some_is, spelled_only}
 use Rattle.word_lines.proofs.Spellings.{both}
 
 -- the value of a step that did not fail
@@ -108,46 +108,44 @@ module _ (format : Format) where
       let made : Span × List (List ℕ) = (record { lo = lo.0.0; hi = hi.0.0 }, hi.0.1) in
       subst (λ (y : Span × List (List ℕ)). (words ≡ bound_word y.0.lo ∷ bound_word y.0.hi ∷ y.1) × IsSpan format y.0) (ok_is made x hi.2) (l.0 ∙ ap (λ (v : List (List ℕ)). bound_word lo.0.0 ∷ v) h.0, (l.1, h.1))
 
-  pub number_and_key_words : (words : List (List ℕ)) (x : (ℕ × List ℕ) × List (List ℕ)) → number_and_key_at format words ≡ Ok x → (words ≡ decimal x.0.0 ∷ spelling x.0.1 ∷ x.1) × IsNumber x.0.0 × IsKey format x.0.1
-  unfolding number_and_key_at
-  number_and_key_words words x e =
-      let n = bind_ok (number_at words) (λ n. key_at format n.1 >>= λ key. Ok ((n.0, key.0), key.1)) x e in
-      let k = bind_ok (key_at format n.0.1) (λ key. Ok ((n.0.0, key.0), key.1)) x n.2 in
-      let a = number_word words n.0 n.1 in
-      let b = key_word n.0.1 k.0 k.1 in
-      subst (λ (y : (ℕ × List ℕ) × List (List ℕ)). (words ≡ decimal y.0.0 ∷ spelling y.0.1 ∷ y.1) × IsNumber y.0.0 × IsKey format y.0.1) (ok_is ((n.0.0, k.0.0), k.0.1) x k.2)
-      (a.0 ∙ ap (λ (v : List (List ℕ)). decimal n.0.0 ∷ v) b.0, a.1, b.1)
+-- ---- what is written of a word is read so
 
-  pub number_and_span_words : (words : List (List ℕ)) (x : (ℕ × Span) × List (List ℕ)) → number_and_span_at format words ≡ Ok x
-      → (words ≡ decimal x.0.0 ∷ bound_word x.0.1.lo ∷ bound_word x.0.1.hi ∷ x.1) × IsNumber x.0.0 × IsSpan format x.0.1
-  unfolding number_and_span_at
-  number_and_span_words words x e =
-      let n = bind_ok (number_at words) (λ n. span_at format n.1 >>= λ span. Ok ((n.0, span.0), span.1)) x e in
-      let s = bind_ok (span_at format n.0.1) (λ span. Ok ((n.0.0, span.0), span.1)) x n.2 in
-      let a = number_word words n.0 n.1 in
-      let b = span_words n.0.1 s.0 s.1 in
-      subst (λ (y : (ℕ × Span) × List (List ℕ)). (words ≡ decimal y.0.0 ∷ bound_word y.0.1.lo ∷ bound_word y.0.1.hi ∷ y.1) × IsNumber y.0.0 × IsSpan format y.0.1) (ok_is ((n.0.0, s.0.0), s.0.1) x s.2)
-      (a.0 ∙ ap (λ (v : List (List ℕ)). decimal n.0.0 ∷ v) b.0, a.1, b.1)
+-- a number word is read as its number
+pub number_again : (n : ℕ) (rest : List (List ℕ)) → IsNumber n → number_at (decimal n ∷ rest) ≡ Ok (n, rest)
+unfolding number_at
+number_again n rest is = rw (number_only n is) refl
 
-  pub opening_words : (words : List (List ℕ)) (x : (Span × ℕ) × List (List ℕ)) → opening_at format words ≡ Ok x
-      → (words ≡ bound_word x.0.0.lo ∷ bound_word x.0.0.hi ∷ decimal x.0.1 ∷ x.1) × IsSpan format x.0.0 × IsNumber x.0.1
-  unfolding opening_at
-  opening_words words x e =
-      let s = bind_ok (span_at format words) (λ span. number_at span.1 >>= λ n. Ok ((span.0, n.0), n.1)) x e in
-      let n = bind_ok (number_at s.0.1) (λ n. Ok ((s.0.0, n.0), n.1)) x s.2 in
-      let a = span_words words s.0 s.1 in
-      let b = number_word s.0.1 n.0 n.1 in
-      subst (λ (y : (Span × ℕ) × List (List ℕ)). (words ≡ bound_word y.0.0.lo ∷ bound_word y.0.0.hi ∷ decimal y.0.1 ∷ y.1) × IsSpan format y.0.0 × IsNumber y.0.1) (ok_is ((s.0.0, n.0.0), n.0.1) x n.2)
-      (a.0 ∙ ap (λ (v : List (List ℕ)). bound_word s.0.0.lo ∷ bound_word s.0.0.hi ∷ v) b.0, a.1, b.1)
+-- and as a session, below the seats
+pub session_again : (seats n : ℕ) (rest : List (List ℕ)) → n < seats → IsNumber n → session_at seats (decimal n ∷ rest) ≡ Ok (n, rest)
+unfolding session_at
+session_again seats n rest lt is = rw (number_only n is, lt-ltb n seats lt) refl
 
-  pub opening_every_words : (words : List (List ℕ)) (x : (Span × ℕ × ℕ) × List (List ℕ)) → opening_every_at format words ≡ Ok x
-      → (words ≡ bound_word x.0.0.lo ∷ bound_word x.0.0.hi ∷ decimal x.0.1 ∷ decimal x.0.2 ∷ x.1) × IsSpan format x.0.0 × IsNumber x.0.1 × IsNumber x.0.2
-  unfolding opening_every_at
-  opening_every_words words x e =
-      let o = bind_ok (opening_at format words) (λ o. number_at o.1 >>= λ gap. Ok ((o.0.0, o.0.1, gap.0), gap.1)) x e in
-      let g = bind_ok (number_at o.0.1) (λ gap. Ok ((o.0.0.0, o.0.0.1, gap.0), gap.1)) x o.2 in
-      let a = opening_words words o.0 o.1 in
-      let b = number_word o.0.1 g.0 g.1 in
-      subst (λ (y : (Span × ℕ × ℕ) × List (List ℕ)). (words ≡ bound_word y.0.0.lo ∷ bound_word y.0.0.hi ∷ decimal y.0.1 ∷ decimal y.0.2 ∷ y.1) × IsSpan format y.0.0 × IsNumber y.0.1 × IsNumber y.0.2)
-      (ok_is ((o.0.0.0, o.0.0.1, g.0.0), g.0.1) x g.2)
-      (a.0 ∙ ap (λ (v : List (List ℕ)). bound_word o.0.0.0.lo ∷ bound_word o.0.0.0.hi ∷ decimal o.0.0.1 ∷ v) b.0, a.1, a.2, b.1)
+-- a spelling is read as its bytes
+bytes_again : (least most : ℕ) (fault : LineFault) (bytes : List ℕ) (rest : List (List ℕ)) → least ≤ length bytes → length bytes ≤ most → AreBytes bytes → bytes_at least most fault (spelling bytes ∷ rest) ≡ Ok (bytes, rest)
+bytes_again least most fault bytes rest low high fits = rw (spelled_only bytes fits, le-leb least (length bytes) low, le-leb (length bytes) most high) refl
+
+module _ (format : Format) where
+  pub key_again : (key : List ℕ) (rest : List (List ℕ)) → IsKey format key → key_at format (spelling key ∷ rest) ≡ Ok (key, rest)
+  unfolding key_at
+  key_again key rest is = bytes_again 1 (key_limit format) _ key rest is.0 is.1 is.2
+
+  pub value_again : (value : List ℕ) (rest : List (List ℕ)) → IsValue format value → value_at format (spelling value ∷ rest) ≡ Ok (value, rest)
+  unfolding value_at
+  value_again value rest is = bytes_again 0 (value_limit format) _ value rest (omega arith) is.0 is.1
+
+-- a bound isn't written as none is
+no_dash : (bound : List ℕ) → 1 ≤ length bound → AreBytes bound → bytes_eq (spelling bound) (codes "-") ≡ false
+unfolding bytes_of
+no_dash bound some fits =
+    false_from_ne_true _ (λ t. let none : some_of bound ≡ some_of [] = sym (spelled_only bound fits) ∙ ap bytes_of ((bytes_eq-Decides (spelling bound) (codes "-")).0 t) in
+    absurd (omega (arith, ap length (some_is bound [] none))))
+
+module _ (format : Format) where
+  bound_again : (bound : Option (List ℕ)) (rest : List (List ℕ)) → IsBound format bound → bound_at format (bound_word bound ∷ rest) ≡ Ok (bound, rest)
+  unfolding bound_at
+  bound_again None rest is = refl
+  bound_again (Some bound) rest is = rw (no_dash bound is.0 is.2, bytes_again 1 (bound_limit format) _ bound rest is.0 is.1 is.2) refl
+
+  pub span_again : (span : Span) (rest : List (List ℕ)) → IsSpan format span → span_at format (bound_word span.lo ∷ bound_word span.hi ∷ rest) ≡ Ok (span, rest)
+  unfolding span_at
+  span_again span rest is = rw (bound_again span.lo (bound_word span.hi ∷ rest) is.0, bound_again span.hi rest is.1) refl

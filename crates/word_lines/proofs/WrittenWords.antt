@@ -10,10 +10,12 @@ use Rattle.text_format.specs.Limits.{key_limit, value_limit, bound_limit, line_l
 use Rattle.text_format.specs.declared.Format.TheVariants.{One, Two}
 use Rattle.text_format.specs.declared.Format.{Format}
 use Rattle.spans.specs.declared.calls.commands.Cmd.{Cmd}
-use Rattle.spans.specs.declared.calls.commands.Cmd.TheVariants as cmd
 use Rattle.word_lines.specs.Spelling.{is_plain, hex_digit, escape, spelled, spelling, AreBytes}
-use Rattle.word_lines.specs.Commands.{joined, bound_word, words_of}
-use Rattle.word_lines.specs.Limits.{IsNumber, IsBound, IsCommand}
+use Rattle.word_lines.specs.Commands.{joined, bound_word, parts_words, words_of}
+use Rattle.word_lines.specs.Table.{Signature, Nothing, Number, Numbers, NumberKey, NumberKeyValue, NumberSpan, SpanNumber, SpanNumbers, Parts, layout_of, pieces_of}
+use Rattle.word_lines.specs.declared.table.Verb.{Verb}
+use Rattle.word_lines.specs.Limits.{IsNumber, IsBound, AreParts, IsCommand}
+use Rattle.word_lines.proofs.Joining.{words_are}
 use Rattle.word_lines.proofs.JoinedParts.{is_graphic, IsWord, decimal_all}
 use Rattle.word_lines.proofs.Spellings.{both}
 
@@ -87,7 +89,7 @@ bytes_few bytes most fits le = let s = spelling_spelled bytes fits in omega (ari
 
 module _ (format : Format) where
   -- a bound is a word
-  bound_is_word : (bound : Option (List ℕ)) → IsBound format bound → IsWord (bound_word bound)
+  pub bound_is_word : (bound : Option (List ℕ)) → IsBound format bound → IsWord (bound_word bound)
   bound_is_word None is = (omega arith, refl)
   bound_is_word (Some bytes) is = bytes_word bytes is.2
 
@@ -118,53 +120,28 @@ pub room : (format : Format) → (3 * key_limit format + 3 * value_limit format 
 room One = (omega arith, omega arith)
 room Two = (omega arith, omega arith)
 
-module _ (format : Format) where
-  -- what is written of a command is words
-  pub command_words : (c : Cmd) → IsCommand format c → AllByRecursion IsWord (words_of c)
-  unfolding words_of IsCommand
-  command_words (cmd.Begin ts) is = ((omega arith, refl), (number_word ts is, tt))
-  command_words (cmd.Get ts key) is = ((omega arith, refl), (number_word ts is.0, (bytes_word key is.1.2, tt)))
-  command_words (cmd.Scan ts span) is = ((omega arith, refl), (number_word ts is.0, (bound_is_word format span.lo is.1.0, (bound_is_word format span.hi is.1.1, tt))))
-  command_words (cmd.Put ts key value) is = ((omega arith, refl), (number_word ts is.0, (bytes_word key is.1.2, (bytes_word value is.2.1, tt))))
-  command_words (cmd.Del ts key) is = ((omega arith, refl), (number_word ts is.0, (bytes_word key is.1.2, tt)))
-  command_words (cmd.Commit ts) is = ((omega arith, refl), (number_word ts is, tt))
-  command_words (cmd.Abort ts) is = ((omega arith, refl), (number_word ts is, tt))
-  command_words (cmd.Close to) is = ((omega arith, refl), (number_word to is, tt))
-  command_words (cmd.CloseHard to) is = ((omega arith, refl), (number_word to is, tt))
-  command_words (cmd.ReadAt t key) is = ((omega arith, refl), (number_word t is.0, (bytes_word key is.1.2, tt)))
-  command_words (cmd.ScanAt t span) is = ((omega arith, refl), (number_word t is.0, (bound_is_word format span.lo is.1.0, (bound_is_word format span.hi is.1.1, tt))))
-  command_words (cmd.Protect t) is = ((omega arith, refl), (number_word t is, tt))
-  command_words (cmd.Release id) is = ((omega arith, refl), (number_word id is, tt))
-  command_words (cmd.Collect to) is = ((omega arith, refl), (number_word to is, tt))
-  command_words (cmd.Open span cursor) is = ((omega arith, refl), (bound_is_word format span.lo is.0.0, (bound_is_word format span.hi is.0.1, (number_word cursor is.1, tt))))
-  command_words (cmd.OpenInitial span cursor) is = ((omega arith, refl), (bound_is_word format span.lo is.0.0, (bound_is_word format span.hi is.0.1, (number_word cursor is.1, tt))))
-  command_words (cmd.OpenEvery span cursor gap) is = ((omega arith, refl), (bound_is_word format span.lo is.0.0, (bound_is_word format span.hi is.0.1, (number_word cursor is.1, (number_word gap is.2, tt)))))
-  command_words (cmd.OpenInitialEvery span cursor gap) is = ((omega arith, refl), (bound_is_word format span.lo is.0.0, (bound_is_word format span.hi is.0.1, (number_word cursor is.1, (number_word gap is.2, tt)))))
-  command_words (cmd.Poll feed max) is = ((omega arith, refl), (number_word feed is.0, (number_word max is.1, tt)))
-  command_words (cmd.Cancel feed) is = ((omega arith, refl), (number_word feed is, tt))
-  command_words cmd.Stats is = ((omega arith, refl), tt)
+-- a name is a word, and short
+pub names : (v : Verb) → list_all is_graphic (layout_of v).name ≡ true
+names v = grind arith
 
-  -- the longest command is a `put` with a key and a value of escaped bytes
+pub names_some : (v : Verb) → 0 < length (layout_of v).name
+names_some v = grind arith
+
+names_few : (v : Verb) → length (layout_of v).name ≤ 16
+names_few v = grind arith
+
+module _ (format : Format) where
+  -- the longest have a key and a value of escaped bytes
+  parts_few : (s : Signature) (p : Parts s) → AreParts format s p → letters (parts_words s p) + 113 ≤ line_limit format
+  parts_few Nothing p is = let r = room format in omega (arith, r.0)
+  parts_few Number n is = let r = room format in omega (arith, r.0, number_length n is)
+  parts_few Numbers p is = let r = room format in omega (arith, r.0, number_length p.0 is.0, number_length p.1 is.1)
+  parts_few NumberKey p is = let r = room format in omega (arith, r.0, number_length p.0 is.0, bytes_few p.1 (key_limit format) is.1.2 is.1.1)
+  parts_few NumberKeyValue p is = let r = room format in omega (arith, r.0, number_length p.0 is.0, bytes_few p.1 (key_limit format) is.1.2 is.1.1, bytes_few p.2 (value_limit format) is.2.1 is.2.0)
+  parts_few NumberSpan p is = let r = room format in omega (arith, r.1, number_length p.0 is.0, bound_few format p.1.lo is.1.0, bound_few format p.1.hi is.1.1)
+  parts_few SpanNumber p is = let r = room format in omega (arith, r.1, bound_few format p.0.lo is.0.0, bound_few format p.0.hi is.0.1, number_length p.1 is.1)
+  parts_few SpanNumbers p is = let r = room format in omega (arith, r.1, bound_few format p.0.lo is.0.0, bound_few format p.0.hi is.0.1, number_length p.1 is.1, number_length p.2 is.2)
+
   pub command_few : (c : Cmd) → IsCommand format c → letters (words_of c) + 96 ≤ line_limit format
-  unfolding words_of IsCommand
-  command_few (cmd.Begin ts) is = let r = room format in omega (arith, r.0, r.1, number_length ts is)
-  command_few (cmd.Get ts key) is = let r = room format in omega (arith, r.0, r.1, number_length ts is.0, bytes_few key (key_limit format) is.1.2 is.1.1)
-  command_few (cmd.Scan ts span) is = let r = room format in omega (arith, r.0, r.1, number_length ts is.0, bound_few format span.lo is.1.0, bound_few format span.hi is.1.1)
-  command_few (cmd.Put ts key value) is = let r = room format in omega (arith, r.0, r.1, number_length ts is.0, bytes_few key (key_limit format) is.1.2 is.1.1, bytes_few value (value_limit format) is.2.1 is.2.0)
-  command_few (cmd.Del ts key) is = let r = room format in omega (arith, r.0, r.1, number_length ts is.0, bytes_few key (key_limit format) is.1.2 is.1.1)
-  command_few (cmd.Commit ts) is = let r = room format in omega (arith, r.0, r.1, number_length ts is)
-  command_few (cmd.Abort ts) is = let r = room format in omega (arith, r.0, r.1, number_length ts is)
-  command_few (cmd.Close to) is = let r = room format in omega (arith, r.0, r.1, number_length to is)
-  command_few (cmd.CloseHard to) is = let r = room format in omega (arith, r.0, r.1, number_length to is)
-  command_few (cmd.ReadAt t key) is = let r = room format in omega (arith, r.0, r.1, number_length t is.0, bytes_few key (key_limit format) is.1.2 is.1.1)
-  command_few (cmd.ScanAt t span) is = let r = room format in omega (arith, r.0, r.1, number_length t is.0, bound_few format span.lo is.1.0, bound_few format span.hi is.1.1)
-  command_few (cmd.Protect t) is = let r = room format in omega (arith, r.0, r.1, number_length t is)
-  command_few (cmd.Release id) is = let r = room format in omega (arith, r.0, r.1, number_length id is)
-  command_few (cmd.Collect to) is = let r = room format in omega (arith, r.0, r.1, number_length to is)
-  command_few (cmd.Open span cursor) is = let r = room format in omega (arith, r.0, r.1, bound_few format span.lo is.0.0, bound_few format span.hi is.0.1, number_length cursor is.1)
-  command_few (cmd.OpenInitial span cursor) is = let r = room format in omega (arith, r.0, r.1, bound_few format span.lo is.0.0, bound_few format span.hi is.0.1, number_length cursor is.1)
-  command_few (cmd.OpenEvery span cursor gap) is = let r = room format in omega (arith, r.0, r.1, bound_few format span.lo is.0.0, bound_few format span.hi is.0.1, number_length cursor is.1, number_length gap is.2)
-  command_few (cmd.OpenInitialEvery span cursor gap) is = let r = room format in omega (arith, r.0, r.1, bound_few format span.lo is.0.0, bound_few format span.hi is.0.1, number_length cursor is.1, number_length gap is.2)
-  command_few (cmd.Poll feed max) is = let r = room format in omega (arith, r.0, r.1, number_length feed is.0, number_length max is.1)
-  command_few (cmd.Cancel feed) is = let r = room format in omega (arith, r.0, r.1, number_length feed is)
-  command_few cmd.Stats is = let r = room format in omega (arith, r.0)
+  unfolding IsCommand
+  command_few c is = let p = pieces_of c in omega (arith, ap letters (words_are c), names_few p.verb, parts_few (layout_of p.verb).signature p.parts is)

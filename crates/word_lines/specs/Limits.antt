@@ -7,13 +7,13 @@ use Rattle.spans.specs.declared.calls.replies.Refusal.TheVariants as refusal
 use Rattle.spans.specs.declared.calls.replies.Reply.{Reply}
 use Rattle.spans.specs.declared.calls.replies.Reply.TheVariants as reply
 use Rattle.spans.specs.declared.calls.commands.Cmd.{Cmd}
-use Rattle.spans.specs.declared.calls.commands.Cmd.TheVariants as cmd
 use Rattle.spans.specs.declared.span.Span.{Span}
 use Rattle.text_format.specs.declared.Format.{Format}
 use Rattle.text_format.specs.Limits.{value_limit, bound_limit, line_limit}
 use Rattle.word_lines.specs.Events.{heading_text}
 use Rattle.json_lines.specs.Messages.{IsKey, IsAfter, IsMessage}
 use Rattle.word_lines.specs.Spelling.{AreBytes}
+use Rattle.word_lines.specs.Table.{Signature, Nothing, Number, Numbers, NumberKey, NumberKeyValue, NumberSpan, SpanNumber, SpanNumbers, Parts, Pieces, layout_of, pieces_of}
 
 abbrev pub IsNumber : ℕ → Type 0
 IsNumber n = n < 2 ^ 64
@@ -28,28 +28,21 @@ IsBound format (Some bound) = (1 ≤ length bound) × (length bound ≤ bound_li
 abbrev pub IsSpan : Format → Span → Type 0
 IsSpan format span = IsBound format span.lo × IsBound format span.hi
 
+abbrev pub AreParts : Format → (signature : Signature) → Parts signature → Type 0
+AreParts format Nothing p = Unit {0}
+AreParts format Number n = IsNumber n
+AreParts format Numbers p = IsNumber p.0 × IsNumber p.1
+AreParts format NumberKey p = IsNumber p.0 × IsKey format p.1
+AreParts format NumberKeyValue p = IsNumber p.0 × IsKey format p.1 × IsValue format p.2
+AreParts format NumberSpan p = IsNumber p.0 × IsSpan format p.1
+AreParts format SpanNumber p = IsSpan format p.0 × IsNumber p.1
+AreParts format SpanNumbers p = IsSpan format p.0 × IsNumber p.1 × IsNumber p.2
+
+abbrev pub ArePieces : Format → Pieces → Type 0
+ArePieces format p = AreParts format (layout_of p.verb).signature p.parts
+
 unfoldable pub IsCommand : Format → Cmd → Type 0
-IsCommand format (cmd.Begin ts) = IsNumber ts
-IsCommand format (cmd.Get ts key) = IsNumber ts × IsKey format key
-IsCommand format (cmd.Scan ts span) = IsNumber ts × IsSpan format span
-IsCommand format (cmd.Put ts key value) = IsNumber ts × IsKey format key × IsValue format value
-IsCommand format (cmd.Del ts key) = IsNumber ts × IsKey format key
-IsCommand format (cmd.Commit ts) = IsNumber ts
-IsCommand format (cmd.Abort ts) = IsNumber ts
-IsCommand format (cmd.Close to) = IsNumber to
-IsCommand format (cmd.CloseHard to) = IsNumber to
-IsCommand format (cmd.ReadAt t key) = IsNumber t × IsKey format key
-IsCommand format (cmd.ScanAt t span) = IsNumber t × IsSpan format span
-IsCommand format (cmd.Protect t) = IsNumber t
-IsCommand format (cmd.Release id) = IsNumber id
-IsCommand format (cmd.Collect to) = IsNumber to
-IsCommand format (cmd.Open span cursor) = IsSpan format span × IsNumber cursor
-IsCommand format (cmd.OpenInitial span cursor) = IsSpan format span × IsNumber cursor
-IsCommand format (cmd.OpenEvery span cursor gap) = IsSpan format span × IsNumber cursor × IsNumber gap
-IsCommand format (cmd.OpenInitialEvery span cursor gap) = IsSpan format span × IsNumber cursor × IsNumber gap
-IsCommand format (cmd.Poll feed max) = IsNumber feed × IsNumber max
-IsCommand format (cmd.Cancel feed) = IsNumber feed
-IsCommand format cmd.Stats = Unit {0}
+IsCommand format c = ArePieces format (pieces_of c)
 
 abbrev pub IsPair : Format → List ℕ × List ℕ → Type 0
 IsPair format row = IsKey format row.0 × IsValue format row.1

@@ -1,10 +1,10 @@
 //! Commands as lines: the session's number, the command's name and its arguments.
 
 ghost use Rattle.std.specs.Prelude.{◌≡◌, ◌++◌, ◌∷◌, [], ◌<◌, decimal, true, IfOk, IfErr, OnOk, OnErr};
-ghost use Rattle.word_lines.specs.Reading.{Gives, Takes, TakesFree, TakesForm, session_at, row_at, arguments_at, counted_at, taken_of, command_at};
+ghost use Rattle.word_lines.specs.Reading.{Gives, Takes, TakesFree, session_at, row_at, arguments_at, counted_at, taken_of, command_at};
 ghost use Rattle.std.specs.List.{list_any};
 ghost use Rattle.spelled_words.specs.Memory.{is_long};
-ghost use Rattle.word_lines.specs.Memory.{WantsMemory, has_bytes, byte_words, byte_words_of, byte_words_at};
+ghost use Rattle.word_lines.specs.Memory.{WantsMemory, byte_words, byte_words_of, byte_words_at};
 ghost use Rattle.spelled_words.specs.declared.fault.ReadError.TheVariants.{NoMemory};
 ghost use Rattle.word_lines.specs.Table.{table};
 ghost use Rattle.word_lines.specs.Words.{words};
@@ -35,7 +35,7 @@ use timestamps::key::Key;
 ///
 /// A line that parses passes the tests of bytes and of the count of words by itself. They run only after a parse has
 /// failed, to tell the fault that comes first.
-#[tactic(auto, using(crate::proofs::Counting::counted_right, crate::proofs::Counting::counted_fault), unfolding(crate::specs::Reading::command_at, crate::specs::Memory::byte_words_at))]
+#[tactic(auto, using(crate::proofs::ReadCommands::counted_right, crate::proofs::ReadCommands::counted_fault), unfolding(crate::specs::Reading::command_at, crate::specs::Memory::byte_words_at))]
 #[inline(always)]
 pub fn read_command(
     alloc: Global,
@@ -118,7 +118,7 @@ pub fn take_seat(words: &mut Words, seats: u8) -> Result<u8, LineFault>
 #[inline(always)]
 #[tactic(auto, unfolding(crate::specs::Reading::row_at))]
 pub fn take_form(words: &mut Words) -> Result<Form, LineFault>
-    ensures { TakesForm result words.new (row_at table words.old) }
+    ensures { TakesFree result words.new (row_at table words.old) }
 {
     let name = words.take_word().ok_or(LineFault::WordCount)?;
     form_of(name).ok_or(LineFault::UnknownCommand)
@@ -126,7 +126,7 @@ pub fn take_form(words: &mut Words) -> Result<Form, LineFault>
 
 /// The command, from the words of its arguments.
 #[inline(always)]
-#[tactic(auto, unfolding(crate::specs::Reading::arguments_at))]
+#[tactic(auto, unfolding(crate::specs::Reading::arguments_at, crate::specs::Reading::parts_at))]
 pub fn take_arguments(
     alloc: Global,
     verb: Verb,
@@ -169,24 +169,6 @@ pub fn take_arguments(
             feed: take_number(words)?,
         }),
         Verb::Stats => Ok(Cmd::Stats),
-        _ => take_bytes(alloc, verb, words, format),
-    }
-}
-
-/// The command, where it has a key, a value or a span.
-#[inline(always)]
-#[tactic(auto, unfolding(crate::specs::Reading::arguments_at))]
-fn take_bytes(
-    alloc: Global,
-    verb: Verb,
-    words: &mut Words,
-    format: Format,
-) -> Result<Cmd, ReadError>
-    requires { has_bytes verb ≡ true }
-    ensures exact { Takes result words.new (arguments_at format verb words.old) }
-    ensures memory { IfErr result (λ e. e ≡ NoMemory → list_any is_long (byte_words verb words.old) ≡ true) }
-{
-    match verb {
         Verb::Get => {
             let (ts, key) = take_number_and_key(alloc, words, format)?;
             Ok(Cmd::Get { ts, key })
@@ -228,7 +210,6 @@ fn take_bytes(
             let (span, cursor, gap) = take_opening_every(alloc, words, format)?;
             Ok(Cmd::OpenInitialEvery { span, cursor, gap })
         }
-        _ => unreachable!(),
     }
 }
 

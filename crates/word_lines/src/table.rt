@@ -1,5 +1,5 @@
 //! The table of commands: the name of each, and how many arguments stand behind it.
-ghost use Rattle.std.specs.Prelude.{◌≡◌, map, option_map};
+ghost use Rattle.std.specs.Prelude.{◌≡◌, map};
 ghost use Rattle.word_lines.specs.Table.{row_of, row_view, table};
 
 /// A command's name, as a value.
@@ -28,138 +28,56 @@ pub enum Verb {
     Stats,
 }
 
-/// A row of the table.
+/// The command of a name, and how many arguments it takes.
 #[derive(Clone, Copy)]
 pub struct Form {
-    pub name: &'static [u8],
     pub verb: Verb,
     pub arguments: usize,
 }
 
-/// All commands, the most frequent first.
-pub(crate) static FORMS: [Form; 21] = [
-    Form {
-        name: b"begin",
-        verb: Verb::Begin,
-        arguments: 1,
-    },
-    Form {
-        name: b"get",
-        verb: Verb::Get,
-        arguments: 2,
-    },
-    Form {
-        name: b"put",
-        verb: Verb::Put,
-        arguments: 3,
-    },
-    Form {
-        name: b"del",
-        verb: Verb::Del,
-        arguments: 2,
-    },
-    Form {
-        name: b"commit",
-        verb: Verb::Commit,
-        arguments: 1,
-    },
-    Form {
-        name: b"abort",
-        verb: Verb::Abort,
-        arguments: 1,
-    },
-    Form {
-        name: b"close",
-        verb: Verb::Close,
-        arguments: 1,
-    },
-    Form {
-        name: b"scan",
-        verb: Verb::Scan,
-        arguments: 3,
-    },
-    Form {
-        name: b"closehard",
-        verb: Verb::CloseHard,
-        arguments: 1,
-    },
-    Form {
-        name: b"readat",
-        verb: Verb::ReadAt,
-        arguments: 2,
-    },
-    Form {
-        name: b"scanat",
-        verb: Verb::ScanAt,
-        arguments: 3,
-    },
-    Form {
-        name: b"protect",
-        verb: Verb::Protect,
-        arguments: 1,
-    },
-    Form {
-        name: b"release",
-        verb: Verb::Release,
-        arguments: 1,
-    },
-    Form {
-        name: b"collect",
-        verb: Verb::Collect,
-        arguments: 1,
-    },
-    Form {
-        name: b"open",
-        verb: Verb::Open,
-        arguments: 3,
-    },
-    Form {
-        name: b"openinitial",
-        verb: Verb::OpenInitial,
-        arguments: 3,
-    },
-    Form {
-        name: b"openevery",
-        verb: Verb::OpenEvery,
-        arguments: 4,
-    },
-    Form {
-        name: b"openinitialevery",
-        verb: Verb::OpenInitialEvery,
-        arguments: 4,
-    },
-    Form {
-        name: b"poll",
-        verb: Verb::Poll,
-        arguments: 2,
-    },
-    Form {
-        name: b"cancel",
-        verb: Verb::Cancel,
-        arguments: 1,
-    },
-    Form {
-        name: b"stats",
-        verb: Verb::Stats,
-        arguments: 0,
-    },
+/// All commands, the most frequent first: the name of each, and its form.
+static FORMS: [(&'static [u8], Verb, usize); 21] = [
+    (b"begin", Verb::Begin, 1),
+    (b"get", Verb::Get, 2),
+    (b"put", Verb::Put, 3),
+    (b"del", Verb::Del, 2),
+    (b"commit", Verb::Commit, 1),
+    (b"abort", Verb::Abort, 1),
+    (b"close", Verb::Close, 1),
+    (b"scan", Verb::Scan, 3),
+    (b"closehard", Verb::CloseHard, 1),
+    (b"readat", Verb::ReadAt, 2),
+    (b"scanat", Verb::ScanAt, 3),
+    (b"protect", Verb::Protect, 1),
+    (b"release", Verb::Release, 1),
+    (b"collect", Verb::Collect, 1),
+    (b"open", Verb::Open, 3),
+    (b"openinitial", Verb::OpenInitial, 3),
+    (b"openevery", Verb::OpenEvery, 4),
+    (b"openinitialevery", Verb::OpenInitialEvery, 4),
+    (b"poll", Verb::Poll, 2),
+    (b"cancel", Verb::Cancel, 1),
+    (b"stats", Verb::Stats, 0),
 ];
 
-/// The row of a name.
+/// The form of a name.
 #[inline(always)]
 pub(crate) fn form_of(name: &[u8]) -> Option<Form>
-    ensures { option_map row_view result ≡ row_of table name.now }
+    ensures { result ≡ row_of table name.now }
 {
     form_among(&FORMS, name)
 }
 
 #[inline(always)]
-fn form_among(forms: &[Form], name: &[u8]) -> Option<Form>
-    ensures { option_map row_view result ≡ row_of (map row_view forms.now) name.now }
+fn form_among(rows: &[(&'static [u8], Verb, usize)], name: &[u8]) -> Option<Form>
+    ensures { result ≡ row_of (map row_view rows.now) name.now }
 {
-    for form in forms {
-        if form.name == name {
-            return Some(*form);
+    for row in rows {
+        if row.0 == name {
+            return Some(Form {
+                verb: row.1,
+                arguments: row.2,
+            });
         }
     }
     None

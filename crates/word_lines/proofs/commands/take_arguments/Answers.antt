@@ -1,6 +1,6 @@
 use Rattle.std.proofs.lemmas.Result.{err_from_is_err_and}
 use Rattle.word_lines.proofs.LongArguments.{value_long}
-use Rattle.word_lines.proofs.commands.take_bytes.Goals as goal
+use Rattle.word_lines.proofs.commands.take_arguments.Goals as goal
 
 pub returns-in_err-value-in-Put-clause-memory : goal.returns-in_err-value-in-Put-clause-memory
 returns-in_err-value-in-Put-clause-memory c =
