@@ -1,58 +1,50 @@
--- A follower that stopped, once what waited is written.
+-- A follower that stopped, once what is kept was written.
 use Rattle.std.proofs.Common.{◌≡◌, ◌≢◌, ℕ, ◌+◌, Bool, List, [], ◌∷◌, ◌++◌, refl, sym, ap, ◌∙◌, subst, arith, append-nil, append_assoc, inl, inr}
 use Rattle.spans.specs.declared.calls.messages.Message.{Message}
-use Rattle.word_lines.specs.Events.{spent_line}
-use Rattle.ticket_lock.specs.Lists.{StartsWith}
 use Rattle.sessions.specs.Devices.{Reads, Writes}
-use Rattle.sessions.specs.Writing.{HasTaken}
 use Rattle.follow.specs.declared.ending.FollowEnd.{FollowEnd}
 use Rattle.follow.specs.declared.ending.FollowEnd.TheVariants as ends
 use Rattle.follow.specs.declared.options.FollowOptions.{FollowOptions}
-use Rattle.follow.specs.declared.fault.FollowFault.{FollowFault}
+use Rattle.follow.specs.declared.fault.FollowError.{FollowError}
 use Rattle.follow.specs.declared.fault.FollowError.TheVariants as errors
-use Rattle.follow.specs.Followed.{IsUnbegun, fault_line}
+use Rattle.follow.specs.Followed.{IsUnbegun}
 use Rattle.follow.specs.Following.{followed_at}
-use Rattle.follow.specs.Reports.{IsFollowReport}
-use Rattle.follow.specs.Ends.{IsReportWith, IsPart, EndsBy, FailsAt, IsFollowed}
-use Rattle.follow.specs.Told.{kept_at}
-use Rattle.follow.specs.Steps.{IsStopped}
-use Rattle.follow.proofs.Told.{CantWrite}
-
--- a beginning of a beginning
-starts_trans : (whole part less : List ℕ) → StartsWith whole part → StartsWith part less → StartsWith whole less
-starts_trans whole part less a b = (b.0 ++ a.0, a.1 ∙ (ap (λ (xs : List ℕ). xs ++ a.0) b.1 ∙ append_assoc less b.0 a.0))
-
--- the report, and no line behind it
-pub whole_told : (o : FollowOptions) (ms : List Message) (text : List ℕ) → IsFollowReport o ms text → IsReportWith o ms [] text
-whole_told o ms text report = (text, report, sym (append-nil text))
+use Rattle.follow.specs.Ends.{ComesBy, CouldBegin, EndsBy, FailsAt, HasLine, IsFollowed, IsOwed, last_line}
+use Rattle.follow.specs.Steps.{EndsWritten, IsOver, IsStopped, end_by}
 
 module _ (o : FollowOptions) (input : List ℕ) (ended : Bool) (ms : List Message) where
-  -- what begins the report is a part
-  pub part_of : (whole output : List ℕ) → IsReportWith o ms [] whole → StartsWith whole output → IsPart o input ended ms output
-  part_of whole output report s = record { last = []; is_last = inl refl; whole = whole; report = report; begins = s }
+  -- all that is owed was written
+  owed_at : (e : FollowEnd) (output : List ℕ) → e ≢ ends.Output → IsOwed o input ended ms e output → EndsBy o input ended ms output e
+  owed_at ends.Done output ne owed = owed
+  owed_at ends.NoMessages output ne owed = owed
+  owed_at (ends.Fault line fault) output ne owed = owed
+  owed_at ends.Spent output ne owed = owed
+  owed_at ends.Input output ne owed = owed
+  owed_at ends.Output output ne owed = absurd (ne refl)
+  owed_at ends.Memory output ne owed = owed
 
-  -- where the rest can't be written, what was is a part
-  cut_off : (e : FollowEnd) (whole output : List ℕ) → EndsBy o input ended ms whole e → StartsWith whole output → IsPart o input ended ms output
-  cut_off ends.Done whole output h s = part_of whole output h.3 s
-  cut_off ends.NoMessages whole output h s = part_of whole output ([], subst (λ (xs : List Message). IsFollowReport o xs []) (sym h.2) refl, h.3) s
-  cut_off (ends.Fault line fault) whole output h s = record { last = fault_line line fault; is_last = inr (inl (line, fault, h.0, refl)); whole = whole; report = h.1; begins = s }
-  cut_off ends.Spent whole output h s = record { last = spent_line h.1.0; is_last = inr (inr (h.1.0, h.0, refl)); whole = whole; report = h.1.1; begins = s }
-  cut_off ends.Input whole output h s = part_of whole output h.1 s
-  cut_off ends.Output whole output h s = record { last = h.last; is_last = h.is_last; whole = h.whole; report = h.report; begins = starts_trans h.whole whole output h.begins s }
-  cut_off ends.Memory whole output (inl h) s = part_of whole output h.0 s
-  cut_off ends.Memory whole output (inr (before, m, is, next, inl untold)) s =
-      part_of (whole ++ untold.2) output (subst (λ (xs : List Message). IsReportWith o xs [] (whole ++ untold.2)) (sym is) (whole_told o (before ++ m ∷ []) (whole ++ untold.2) untold.6))
-      (starts_trans (whole ++ untold.2) whole output (untold.2, refl) s)
-  cut_off ends.Memory whole output (inr (before, m, is, next, inr told)) s = part_of whole output (subst (λ (xs : List Message). IsReportWith o xs [] whole) (sym is) told.3) s
+  -- memory is wanted for the line of the end
+  comes_unlined : (e : FollowEnd) → HasLine e → ComesBy o input ended ms e → ComesBy o input ended ms ends.Memory
+  comes_unlined (ends.Fault line fault) lined (inl begun) = inl begun.1
+  comes_unlined (ends.Fault line fault) lined (inr stop) = inr (inr (inl (line, fault, stop)))
+  comes_unlined ends.Spent lined endless = inr (inl endless)
+  comes_unlined ends.Done lined comes = absurd lined
+  comes_unlined ends.NoMessages lined comes = absurd lined
+  comes_unlined ends.Input lined comes = absurd lined
+  comes_unlined ends.Output lined comes = absurd lined
+  comes_unlined ends.Memory lined comes = absurd lined
 
-kept_else : (e : FollowEnd) (out waits : List ℕ) → e ≢ ends.Output → kept_at e out waits ≡ out ++ waits
-kept_else ends.Done out waits ne = refl
-kept_else ends.NoMessages out waits ne = refl
-kept_else (ends.Fault line fault) out waits ne = refl
-kept_else ends.Spent out waits ne = refl
-kept_else ends.Input out waits ne = refl
-kept_else ends.Output out waits ne = absurd (ne refl)
-kept_else ends.Memory out waits ne = refl
+fails_unlined : (e : FollowEnd) (r r' : Reads) (w w' : Writes) → HasLine e → FailsAt e r w r' w' → FailsAt ends.Memory r w r' w'
+fails_unlined (ends.Fault line fault) r r' w w' lined f = f
+fails_unlined ends.Spent r r' w w' lined f = f
+fails_unlined ends.Done r r' w w' lined f = absurd lined
+fails_unlined ends.NoMessages r r' w w' lined f = absurd lined
+fails_unlined ends.Input r r' w w' lined f = absurd lined
+fails_unlined ends.Output r r' w w' lined f = absurd lined
+fails_unlined ends.Memory r r' w w' lined f = absurd lined
+
+lined_else : (e : FollowEnd) → HasLine e → e ≢ ends.Output
+lined_else e lined is = let none : HasLine ends.Output = subst HasLine is lined in none
 
 -- all that was left is written, and no write fails
 fails_still : (e : FollowEnd) (r r' : Reads) (w w' w'' : Writes) → w''.failures ≡ w'.failures → FailsAt e r w r' w' → FailsAt e r w r' w''
@@ -74,50 +66,80 @@ fails_more ends.Input r r' w w' w'' ne more f = let a = f.0 in let b = f.1 in (o
 fails_more ends.Output r r' w w' w'' ne more f = absurd (ne refl)
 fails_more ends.Memory r r' w w' w'' ne more f = let a = f.0 in let b = f.1 in (omega arith, omega arith, omega arith)
 
-module _ (o : FollowOptions) (r r' : Reads) (w w' : Writes) (kept : List ℕ) (e : FollowEnd) where
-  followed_by : (s : IsStopped o r r' w w' kept e) (e' : FollowEnd) (w'' : Writes) (output : List ℕ) → w''.taken ≡ w.taken ++ output → EndsBy o s.input r'.ended s.messages output e' → FailsAt e' r w r' w'' → IsFollowed o r r' w w'' e'
-  followed_by s e' w'' output wrote ends failed = record { messages = s.messages; input = s.input; read = s.read; output = output; wrote = wrote; begins = s.begins; ends = ends; failed = failed }
+module _ (o : FollowOptions) (r r' : Reads) (w w' : Writes) (kept : List ℕ) (e : FollowEnd) (s : IsStopped o r r' w w' kept e) where
+  followed_by : (e' : FollowEnd) (w'' : Writes) (output : List ℕ) → w''.taken ≡ w.taken ++ output → EndsBy o s.over.input r'.ended s.messages output e' → FailsAt e' r w r' w'' → IsFollowed o r r' w w'' e'
+  followed_by e' w'' output wrote ends failed = record { messages = s.messages; input = s.over.input; read = s.over.read; output = output; wrote = wrote; begins = s.over.begins; ends = ends; failed = failed }
 
   -- a write has failed before
-  pub followed_cut : e ≡ ends.Output → IsStopped o r r' w w' kept e → IsFollowed o r r' w w' ends.Output
-  followed_cut is s =
-      followed_by s ends.Output w' s.out s.wrote (subst (λ (x : FollowEnd). EndsBy o s.input r'.ended s.messages (kept_at x s.out kept) x) is s.ends)
+  pub followed_cut : e ≡ ends.Output → IsFollowed o r r' w w' ends.Output
+  followed_cut is =
+      followed_by ends.Output w' s.out s.wrote (ends.Output, s.told ++ [], (tt, (s.told, s.report, refl)), (s.rest, append-nil s.told ∙ s.left))
       (subst (λ (x : FollowEnd). FailsAt x r w r' w') is s.failed)
 
-  -- what was left is written
-  pub followed_whole : (w'' : Writes) (rest : List ℕ) → e ≢ ends.Output → rest ≡ [] → HasTaken w'.taken w''.taken kept rest → w''.failures ≡ w'.failures → IsStopped o r r' w w' kept e → IsFollowed o r r' w w'' e
-  followed_whole w'' rest ne none t same s =
-      let all : kept ≡ t.part = t.left ∙ (ap (λ (xs : List ℕ). t.part ++ xs) none ∙ append-nil t.part) in
-      followed_by s e w'' (s.out ++ kept) (t.took ∙ (ap (λ (xs : List ℕ). xs ++ t.part) s.wrote ∙ (append_assoc w.taken s.out t.part ∙ ap (λ (xs : List ℕ). w.taken ++ (s.out ++ xs)) (sym all))))
-      (subst (λ (xs : List ℕ). EndsBy o s.input r'.ended s.messages xs e) (kept_else e s.out kept ne) s.ends)
-      (fails_still e r r' w w' w'' same s.failed)
+  -- what was left, and the line of the end, is written, or a write fails
+  pub followed_told : (kept' : List ℕ) (w'' : Writes) (e' : FollowEnd) → e ≢ ends.Output → kept' ≡ kept ++ last_line e → EndsWritten kept' e w' w'' e' → IsFollowed o r r' w w'' e'
+  followed_told kept' w'' e' ne keeps written =
+      let whole : s.told ++ last_line e ≡ s.out ++ kept' = ap (λ (xs : List ℕ). xs ++ last_line e) (s.left ∙ ap (λ (xs : List ℕ). s.out ++ xs) (s.keeps ne)) ∙ (append_assoc s.out kept (last_line e) ∙ ap (λ (xs : List ℕ). s.out ++ xs) (sym keeps)) in
+      elim written [
+        | inl t ↦ subst (IsFollowed o r r' w w'') (sym t.0)
+            (followed_by e w'' (s.out ++ kept')
+            (t.1.took ∙ (ap (λ (xs : List ℕ). xs ++ t.1.part) s.wrote ∙ (append_assoc w.taken s.out t.1.part ∙ ap (λ (xs : List ℕ). w.taken ++ (s.out ++ xs)) (sym (t.1.left ∙ append-nil t.1.part)))))
+            (owed_at o s.over.input r'.ended s.messages e (s.out ++ kept') ne (s.over.comes, (s.told, s.report, sym whole)))
+            (fails_still e r r' w w' w'' t.2 s.failed))
+        | inr t ↦ subst (IsFollowed o r r' w w'') (sym t.0)
+            (followed_by ends.Output w'' (s.out ++ t.1.1.part)
+            (t.1.1.took ∙ (ap (λ (xs : List ℕ). xs ++ t.1.1.part) s.wrote ∙ append_assoc w.taken s.out t.1.1.part))
+            (e, s.told ++ last_line e, (s.over.comes, (s.told, s.report, refl)), (t.1.0, whole ∙ (ap (λ (xs : List ℕ). s.out ++ xs) t.1.1.left ∙ sym (append_assoc s.out t.1.1.part t.1.0))))
+            (fails_more e r r' w w' w'' ne t.2 s.failed))
+      ]
 
-  -- what was left can't be written
-  pub followed_part : (w'' : Writes) → e ≢ ends.Output → CantWrite w' w'' kept → IsStopped o r r' w w' kept e → IsFollowed o r r' w w'' ends.Output
-  followed_part w'' ne cant s =
-      let t = cant.0.1 in
-      followed_by s ends.Output w'' (s.out ++ t.part) (t.took ∙ (ap (λ (xs : List ℕ). xs ++ t.part) s.wrote ∙ append_assoc w.taken s.out t.part))
-      (cut_off o s.input r'.ended s.messages e (s.out ++ kept) (s.out ++ t.part) (subst (λ (xs : List ℕ). EndsBy o s.input r'.ended s.messages xs e) (kept_else e s.out kept ne) s.ends)
-      (cant.0.0, ap (λ (xs : List ℕ). s.out ++ xs) t.left ∙ sym (append_assoc s.out t.part cant.0.0)))
-      (fails_more e r r' w w' w'' ne cant.1 s.failed)
+-- or memory is wanted for that line
+pub followed_unlined : (o : FollowOptions) (r r' : Reads) (w w' w'' : Writes) (kept kept' : List ℕ) (e e' : FollowEnd) → HasLine e → kept' ≡ kept → EndsWritten kept' ends.Memory w' w'' e' → IsStopped o r r' w w' kept e → IsFollowed o r r' w w'' e'
+followed_unlined o r r' w w' w'' kept kept' e e' lined same written s =
+    followed_told o r r' w w' kept ends.Memory (record {
+      messages = s.messages;
+      over = record { input = s.over.input; read = s.over.read; begins = s.over.begins; comes = comes_unlined o s.over.input r'.ended s.messages e lined s.over.comes };
+      told = s.told;
+      report = s.report;
+      out = s.out;
+      wrote = s.wrote;
+      rest = s.rest;
+      left = s.left;
+      keeps = λ ne. s.keeps (lined_else e lined);
+      failed = fails_unlined e r r' w w' lined s.failed;
+    }) kept' w'' e' (λ is. cc) (same ∙ sym (append-nil kept)) written
 
 -- ---- nothing was begun
 
 module _ (o : FollowOptions) (r : Reads) (w : Writes) where
-  followed_nothing : (e : FollowEnd) (w' : Writes) (output : List ℕ) → w'.taken ≡ w.taken ++ output → EndsBy o [] r.ended [] output e → FailsAt e r w r w' → IsFollowed o r r w w' e
-  followed_nothing e w' output wrote ends failed = record { messages = []; input = []; read = sym (append-nil r.given); output = output; wrote = wrote; begins = λ whole may. ((followed_at o whole).messages, refl); ends = ends; failed = failed }
+  stopped_nothing : (e : FollowEnd) (kept : List ℕ) → kept ≡ [] → ComesBy o [] r.ended [] e → FailsAt e r w r w → IsStopped o r r w w kept e
+  stopped_nothing e kept none comes failed = record {
+    messages = [];
+    over = record { input = []; read = sym (append-nil r.given); begins = λ whole may. ((followed_at o whole).messages, refl); comes = comes };
+    told = [];
+    report = refl;
+    out = [];
+    wrote = sym (append-nil w.taken);
+    rest = kept;
+    left = sym none;
+    keeps = λ ne. refl;
+    failed = failed;
+  }
 
   -- memory is wanted
   pub followed_memory : IsFollowed o r r w w ends.Memory
-  followed_memory = followed_nothing ends.Memory w [] (sym (append-nil w.taken)) (inl (([], refl, refl), inl refl)) (refl, refl)
+  followed_memory = followed_told o r r w w [] ends.Memory (stopped_nothing ends.Memory [] refl (inl refl) (refl, refl)) [] w ends.Memory (λ is. cc) refl (inl (refl, record { part = []; took = sym (append-nil w.taken); left = refl }, refl))
 
-  -- the replica can't begin, and that is told
-  pub followed_fault : (w' : Writes) (fault : FollowFault) (text : List ℕ) → IsUnbegun o.span o.start (errors.Fault fault) → text ≡ fault_line 0 fault → HasTaken w.taken w'.taken text [] → w'.failures ≡ w.failures → IsFollowed o r r w w' (ends.Fault 0 fault)
-  followed_fault w' fault text why told t same = followed_nothing (ends.Fault 0 fault) w' t.part t.took (inl (refl, refl, refl, why), ([], refl, sym (append-nil t.part) ∙ (sym t.left ∙ told))) (refl, same)
+  -- the replica can't begin
+  pub stopped_unbegun : (error : FollowError) (kept : List ℕ) → kept ≡ [] → IsUnbegun o.span o.start error → IsStopped o r r w w kept (end_by 0 error)
+  stopped_unbegun (errors.Fault fault) kept none why = stopped_nothing (ends.Fault 0 fault) kept none (inl (refl, refl, refl, why)) (refl, refl)
+  stopped_unbegun errors.NoMemory kept none why = stopped_nothing ends.Memory kept none (inl refl) (refl, refl)
 
-  -- or can't be written
-  pub followed_fault_part : (w' : Writes) (fault : FollowFault) (text : List ℕ) → IsUnbegun o.span o.start (errors.Fault fault) → text ≡ fault_line 0 fault → CantWrite w w' text → IsFollowed o r r w w' ends.Output
-  followed_fault_part w' fault text why told cant =
-      followed_nothing ends.Output w' cant.0.1.part cant.0.1.took
-      (record { last = fault_line 0 fault; is_last = inr (inl (0, fault, inl (refl, refl, refl, why), refl)); whole = fault_line 0 fault; report = ([], refl, refl); begins = (cant.0.0, sym told ∙ cant.0.1.left) })
-      (omega arith, omega arith, cant.1)
+  pub could_unbegun : (error : FollowError) → CouldBegin o r r (end_by 0 error)
+  could_unbegun (errors.Fault fault) = tt
+  could_unbegun errors.NoMemory = inl refl
+
+  -- a write that fails changes nothing of that
+  pub could_written : (e e' : FollowEnd) (w' w'' : Writes) (bytes : List ℕ) → EndsWritten bytes e w' w'' e' → CouldBegin o r r e → CouldBegin o r r e'
+  could_written e e' w' w'' bytes (inl t) could = subst (CouldBegin o r r) (sym t.0) could
+  could_written e e' w' w'' bytes (inr t) could = subst (CouldBegin o r r) (sym t.0) (inl refl)

@@ -1,5 +1,3 @@
-pub mod SpanWords
-pub mod Told
 pub mod Tellings
 pub mod Reports
 pub mod MessagesRead

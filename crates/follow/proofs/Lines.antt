@@ -251,19 +251,3 @@ takes_more o input ms after more t = record {
   before = t.before;
   behind = t.behind;
 }
-
--- ---- why a replica refuses a message
-
--- the fault that is told
-pub refused_as : (fault : Fault) (told : FollowFault) → error_of_replica fault ≡ errors.Fault told → (test : ApplyFault) × (test_of fault ≡ Some test) × (error_of_test test ≡ errors.Fault told)
-refused_as replica_faults.NotAfter told is = (consumer.NotAfter, refl, is)
-refused_as replica_faults.OutsideSpan told is = (consumer.OutsideSpan, refl, is)
-refused_as replica_faults.ResolvedBack told is = (consumer.ResolvedBack, refl, is)
-refused_as replica_faults.NoMemory told is = absurd cc
-
--- of the faults that a replica tells, out of memory is one
-pub is_memory : (fault : Fault) → error_of_replica fault ≡ errors.NoMemory → fault ≡ replica_faults.NoMemory
-is_memory replica_faults.NotAfter is = absurd cc
-is_memory replica_faults.OutsideSpan is = absurd cc
-is_memory replica_faults.ResolvedBack is = absurd cc
-is_memory replica_faults.NoMemory is = refl

@@ -93,21 +93,3 @@ resolved_last first [] (messages.Row r) = refl
 resolved_last first [] (messages.Resolved t) = refl
 resolved_last first (messages.Row r ∷ ms) m = resolved_last None ms m
 resolved_last first (messages.Resolved t ∷ ms) m = resolved_last (Some t) ms m
-
--- a message that shows before it is taken that rows are complete is a row, which the replica takes
-shows_row : (f : Option ApplyFault) (new : Bool) (t at : ℕ) → cond (is_none f && new) (Some t) None ≡ Some at → f ≡ None
-shows_row None new t at e = refl
-shows_row (Some f) new t at e = absurd cc
-
-ready_row : (span : Span) (start cursor : ℕ) (before : List Message) (m : Message) (at : ℕ) → ready_after span start cursor before m ≡ Some at → (apply_fault span start before m ≡ None) × (resolved_by m ≡ None)
-ready_row span start cursor before (messages.Row r) at e = (shows_row (apply_fault span start before (messages.Row r)) (is_new cursor before r.ts) (r.ts - 1) at e, refl)
-ready_row span start cursor before (messages.Resolved t) at e = absurd cc
-
-told_ready : (complete : Bool) (o : Option ℕ) (at : ℕ) → cond complete o None ≡ Some at → o ≡ Some at
-told_ready true o at e = e
-told_ready false o at e = absurd cc
-
-pub shown_row : (o : FollowOptions) (before : List Message) (m : Message) (at : ℕ) → shown_before o before m ≡ Some at → (apply_fault o.span (start_of o.span o.start).start before m ≡ None) × (resolved_by m ≡ None)
-shown_row o before m at e =
-    ready_row o.span (start_of o.span o.start).start (start_of o.span o.start).cursor before m at
-    (told_ready o.complete (ready_after o.span (start_of o.span o.start).start (start_of o.span o.start).cursor before m) at e)

@@ -1,7 +1,6 @@
 -- How following a feed ends: what was taken of the input, and what was told of it (this project).
 use Rattle.std.specs.Prelude.{ℕ, zero, ◌+◌, ◌≡◌, ◌≢◌, ◌≤◌, ◌⊎◌, Bool, true, List, [], ◌∷◌, ◌++◌, length, position, Some, None}
 use Rattle.spans.specs.declared.calls.messages.Message.{Message}
-use Rattle.replica.specs.Faults.{AddsValue}
 use Rattle.word_lines.specs.Events.{spent_line}
 use Rattle.word_lines.specs.Words.{has_newline}
 use Rattle.script.specs.Lines.{is_newline, lines_of}
@@ -11,12 +10,11 @@ use Rattle.sessions.specs.Runs.{MayHold}
 use Rattle.follow.specs.declared.ending.FollowEnd.{FollowEnd}
 use Rattle.follow.specs.declared.ending.FollowEnd.TheVariants as ends
 use Rattle.follow.specs.declared.options.FollowOptions.{FollowOptions}
-use Rattle.follow.specs.declared.options.Shown.TheVariants as shown
 use Rattle.follow.specs.declared.fault.FollowFault.{FollowFault}
 use Rattle.follow.specs.declared.fault.FollowError.TheVariants as errors
 use Rattle.follow.specs.Followed.{IsUnbegun, MayStart, fault_line}
 use Rattle.follow.specs.Following.{Followed, followed_at, followed_through}
-use Rattle.follow.specs.Reports.{IsFollowReport, shown_before}
+use Rattle.follow.specs.Reports.{IsFollowReport}
 
 -- whatever the source holds, its first messages are these
 abbrev pub BeginWith : FollowOptions → List ℕ → Bool → List Message → Type 0
@@ -44,25 +42,6 @@ IsFaultAt o input ended ms line fault =
 abbrev pub IsEndless : List ℕ → Type 0
 IsEndless input = 18446744073709551615 ≤ length input
 
--- the line that ends the report, if any does
-abbrev pub IsLast : FollowOptions → List ℕ → Bool → List Message → List ℕ → Type 0
-IsLast o input ended ms last =
-    (last ≡ [])
-    ⊎ ((line : ℕ) × (fault : FollowFault) × IsFaultAt o input ended ms line fault × (last ≡ fault_line line fault))
-    ⊎ ((line : ℕ) × IsEndless input × (last ≡ spent_line line))
-
--- the output is the report of the messages, and this line behind it
-abbrev pub IsReportWith : FollowOptions → List Message → List ℕ → List ℕ → Type 0
-IsReportWith o ms last output = (text : List ℕ) × IsFollowReport o ms text × (output ≡ text ++ last)
-
--- the output begins the report of the messages with the line that ends it
-pub record IsPart (o : FollowOptions) (input : List ℕ) (ended : Bool) (ms : List Message) (output : List ℕ) : Type 0 where
-  pub last : List ℕ
-  pub is_last : IsLast o input ended ms last
-  pub whole : List ℕ
-  pub report : IsReportWith o ms last whole
-  pub begins : StartsWith whole output
-
 -- behind these messages stands one whole line, and this is followed with it
 pub record TakesNext (o : FollowOptions) (input : List ℕ) (ms : List Message) (after : Followed) : Type 0 where
   pub lines : List ℕ
@@ -74,33 +53,50 @@ pub record TakesNext (o : FollowOptions) (input : List ℕ) (ms : List Message) 
   pub before : followed_at o lines ≡ followed_through ms
   pub behind : followed_at o (lines ++ line) ≡ after
 
--- the output has all that was told of the messages before this one, and of what is told of it a part is missing; or what is shown
--- before it is taken is told, and then it is one for which memory is wanted
-abbrev pub IsUntold : FollowOptions → List Message → Message → List ℕ → Type 0
-IsUntold o before m output =
-    ((told part rest : List ℕ) × IsFollowReport o before told × (output ≡ told ++ part) × (rest ≢ []) × IsFollowReport o (before ++ m ∷ []) (output ++ rest))
-    ⊎ ((at : ℕ) × (shown_before o before m ≡ Some at) × ((o.shown ≡ shown.Changes) ⊎ AddsValue m) × IsReportWith o (before ++ m ∷ []) [] output)
-
--- memory was wanted before any byte was read, or where lines can't be counted; or for the next line, which is at fault, or isn't passed
--- over: then the output is the whole report. Or it was wanted for what is told of the latest message
-abbrev pub IsWanting : FollowOptions → List ℕ → Bool → List Message → List ℕ → Type 0
-IsWanting o input ended ms output =
-    (IsReportWith o ms [] output
-    × ((input ≡ [])
+-- memory was wanted before any byte was read, or where lines can't be counted; or for the next line, which is at fault, or isn't
+-- passed over. Of that line nothing is told
+abbrev pub IsWanting : FollowOptions → List ℕ → Bool → List Message → Type 0
+IsWanting o input ended ms =
+    (input ≡ [])
     ⊎ IsEndless input
     ⊎ ((line : ℕ) × (fault : FollowFault) × StopAt o input ended ms line fault)
-    ⊎ ((after : Followed) × TakesNext o input ms after × (after ≢ followed_through ms))))
-    ⊎ ((before : List Message) × (m : Message) × (ms ≡ before ++ m ∷ []) × TakesNext o input before (followed_through ms) × IsUntold o before m output)
+    ⊎ ((after : Followed) × TakesNext o input ms after × (after ≢ followed_through ms))
 
--- how each end comes, after these messages and with this output
+-- why each end comes, after these messages
+abbrev pub ComesBy : FollowOptions → List ℕ → Bool → List Message → FollowEnd → Type 0
+ComesBy o input ended ms ends.Done = (ended ≡ true) × (followed_at o input ≡ followed_through ms) × (ms ≢ [])
+ComesBy o input ended ms ends.NoMessages = (ended ≡ true) × (followed_at o input ≡ followed_through []) × (ms ≡ [])
+ComesBy o input ended ms (ends.Fault line fault) = IsFaultAt o input ended ms line fault
+ComesBy o input ended ms ends.Spent = IsEndless input
+ComesBy o input ended ms ends.Input = AreMessages o input ms
+ComesBy o input ended ms ends.Output = Unit {0}
+ComesBy o input ended ms ends.Memory = IsWanting o input ended ms
+
+-- the line that an end puts behind all that is told
+abbrev pub last_line : FollowEnd → List ℕ
+last_line (ends.Fault line fault) = fault_line line fault
+last_line ends.Spent = spent_line 18446744073709551615
+last_line _ = []
+
+-- an end that has a line
+abbrev pub HasLine : FollowEnd → Type 0
+HasLine (ends.Fault line fault) = Unit {0}
+HasLine ends.Spent = Unit {0}
+HasLine _ = ⊥
+
+-- the output is the report of the messages, and this line behind it
+abbrev pub IsReportWith : FollowOptions → List Message → List ℕ → List ℕ → Type 0
+IsReportWith o ms last output = (text : List ℕ) × IsFollowReport o ms text × (output ≡ text ++ last)
+
+-- an end comes so, and this is the report of the messages with its line
+abbrev pub IsOwed : FollowOptions → List ℕ → Bool → List Message → FollowEnd → List ℕ → Type 0
+IsOwed o input ended ms e text = ComesBy o input ended ms e × IsReportWith o ms (last_line e) text
+
+-- how each end comes, after these messages and with this output: all that is owed at this end; or a write failed, and the output
+-- begins what is owed at some end
 abbrev pub EndsBy : FollowOptions → List ℕ → Bool → List Message → List ℕ → FollowEnd → Type 0
-EndsBy o input ended ms output ends.Done = (ended ≡ true) × (followed_at o input ≡ followed_through ms) × (ms ≢ []) × IsReportWith o ms [] output
-EndsBy o input ended ms output ends.NoMessages = (ended ≡ true) × (followed_at o input ≡ followed_through []) × (ms ≡ []) × (output ≡ [])
-EndsBy o input ended ms output (ends.Fault line fault) = IsFaultAt o input ended ms line fault × IsReportWith o ms (fault_line line fault) output
-EndsBy o input ended ms output ends.Spent = IsEndless input × ((line : ℕ) × IsReportWith o ms (spent_line line) output)
-EndsBy o input ended ms output ends.Input = AreMessages o input ms × IsReportWith o ms [] output
-EndsBy o input ended ms output ends.Output = IsPart o input ended ms output
-EndsBy o input ended ms output ends.Memory = IsWanting o input ended ms output
+EndsBy o input ended ms output ends.Output = (e : FollowEnd) × (text : List ℕ) × IsOwed o input ended ms e text × StartsWith text output
+EndsBy o input ended ms output e = IsOwed o input ended ms e output
 
 -- how often reads and writes failed: what waits is written also where a read has failed
 abbrev pub FailsAt : FollowEnd → Reads → Writes → Reads → Writes → Type 0

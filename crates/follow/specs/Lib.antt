@@ -5,9 +5,7 @@ pub mod Reports
 pub mod Ends
 pub mod WorkedFollowing
 pub mod Taking
-pub mod Told
 pub mod Telling
 pub mod Steps
-pub mod Unfound
 pub mod SpanWords
 pub mod Seeds

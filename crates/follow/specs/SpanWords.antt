@@ -3,7 +3,7 @@ use Rattle.std.specs.Prelude.{ℕ, List, [], ◌∷◌, Option, Result, Ok}
 use Rattle.text_format.specs.declared.Format.{Format}
 use Rattle.spans.specs.declared.span.Span.{Span}
 use Rattle.spelled_words.specs.declared.fault.LineFault.{LineFault}
-use Rattle.word_lines.specs.Reading.{◌>>=◌, bound_at, span_at}
+use Rattle.word_lines.specs.Reading.{◌>>=◌, bound_at}
 
 -- the bound that a word spells in a format, or none where it is `-`
 abbrev pub bound_in : Format → List ℕ → Result (Option (List ℕ)) LineFault
@@ -11,8 +11,9 @@ bound_in format word = do
   bound ← bound_at format (word ∷ [])
   Ok bound.0
 
--- the span whose bounds two words spell in a format
+-- the span whose bounds two words spell in a format, the lower one first
 abbrev pub span_in : Format → List ℕ → List ℕ → Result Span LineFault
 span_in format lo hi = do
-  span ← span_at format (lo ∷ hi ∷ [])
-  Ok span.0
+  l ← bound_in format lo
+  h ← bound_in format hi
+  Ok (record { lo = l; hi = h })

@@ -1,11 +1,16 @@
 -- A follower between two lines, and where it stops.
-use Rattle.std.specs.Prelude.{◌≡◌, ◌⊎◌, ℕ, ◌+◌, ◌≤◌, Bool, true, false, List, [], ◌∷◌, ◌++◌, length, is_none, Result, Ok, Err}
+use Rattle.std.specs.Prelude.{◌≡◌, ◌≢◌, ◌⊎◌, ℕ, ◌+◌, ◌≤◌, Bool, true, false, if◌then◌else◌, List, [], ◌∷◌, ◌++◌, length, Option, None, is_none, Result, Ok, Err}
 use Rattle.spans.specs.declared.calls.messages.Message.{Message}
+use Rattle.spans.specs.Completeness.{ready_after}
 use Rattle.spans.specs.Consumer.{apply_fault}
 use Rattle.script.specs.Lines.{lines_of}
+use Rattle.sessions.specs.declared.ending.ServeEnd.{ServeEnd}
+use Rattle.sessions.specs.declared.ending.ServeEnd.TheVariants as serve_ends
 use Rattle.sessions.specs.Devices.{Reads, Writes}
 use Rattle.sessions.specs.Waiting.{waiting, has_ended}
+use Rattle.sessions.specs.Writing.{HasTaken, HasBegun}
 use Rattle.replica.specs.Replicas.{Follows}
+use Rattle.replica.specs.Starts.{Start}
 use Rattle.follow.specs.declared.ending.FollowEnd.{FollowEnd}
 use Rattle.follow.specs.declared.ending.FollowEnd.TheVariants as ends
 use Rattle.follow.specs.declared.options.FollowOptions.{FollowOptions}
@@ -13,12 +18,11 @@ use Rattle.follow.specs.declared.options.Shown.TheVariants as shown
 use Rattle.follow.specs.declared.fault.FollowError.{FollowError}
 use Rattle.follow.specs.declared.fault.FollowError.TheVariants as errors
 use Rattle.follow.specs.declared.follower.Follower.{Follower}
-use Rattle.follow.specs.Followed.{start_of, fault_line}
+use Rattle.follow.specs.Followed.{start_of}
 use Rattle.follow.specs.Following.{Followed, followed_at, followed_lines, onto_followed}
 use Rattle.follow.specs.Reports.{IsFollowReport, named_after}
-use Rattle.follow.specs.Ends.{BeginWith, TakesNext, EndsBy, FailsAt, IsFollowed}
-use Rattle.follow.specs.Told.{kept_at}
-use Rattle.follow.specs.Telling.{waits, named_in}
+use Rattle.follow.specs.Ends.{BeginWith, ComesBy, FailsAt, IsFollowed, TakesNext}
+use Rattle.follow.specs.Telling.{named_in}
 
 -- messages that were taken, ahead of those that come below
 abbrev pub onto_taken : List Message → Followed → Followed
@@ -28,6 +32,10 @@ onto_taken ms below = record { messages = ms ++ below.messages; stop = below.sto
 abbrev pub named_through : FollowOptions → List Message → List (List ℕ) → List Message → List (List ℕ)
 named_through o before named [] = named
 named_through o before named (m ∷ ms) = named_through o (before ++ m ∷ []) (named_after o before named m) ms
+
+-- at which timestamp a replica that began so shows by a message, before it takes it, that its rows are complete, where that is told
+abbrev pub ready_told : Bool → Start → List Message → Message → Option ℕ
+ready_told complete s before m = if complete then ready_after s.span s.start s.cursor before m else None
 
 -- whether there is a message
 abbrev pub are_some : List Message → Bool
@@ -39,11 +47,11 @@ pub record GoesBy (o : FollowOptions) (f : Follower) : Type 0 where
   pub format : f.format ≡ o.format
   pub feed : f.choice.feed ≡ o.feed
   pub shown : f.telling.shown ≡ o.shown
-  pub complete : f.telling.complete ≡ o.complete
+  pub complete : f.complete ≡ o.complete
 
--- so many lines and these messages were taken, and what was told and waits is their report. Behind the lines that were taken, `next`
--- says what is followed of more bytes. No read and no write has failed
-pub record IsUnderway (o : FollowOptions) (next : List ℕ → Followed) (r r' : Reads) (w w' : Writes) (f : Follower) (lines : ℕ) (ms : List Message) : Type 0 where
+-- so many lines and these messages were taken. Behind the lines that were taken, `next` says what is followed of more bytes. No read
+-- has failed
+pub record IsFollowing (o : FollowOptions) (next : List ℕ → Followed) (r r' : Reads) (f : Follower) (lines : ℕ) (ms : List Message) : Type 0 where
   pub by : GoesBy o f
   pub follows : Follows f.replica (start_of o.span o.start) ms
   pub started : f.started ≡ are_some ms
@@ -54,12 +62,16 @@ pub record IsUnderway (o : FollowOptions) (next : List ℕ → Followed) (r r' :
   pub followed : (more : List ℕ) → followed_at o (front ++ more) ≡ onto_taken ms (next more)
   -- each line took a byte at least
   pub counted : lines ≤ length front
+  pub worked : r'.failures ≡ r.failures
+
+-- what was written, with what is kept, is the report of the messages. No write has failed
+pub record HasReported (o : FollowOptions) (ms : List Message) (w w' : Writes) (kept : List ℕ) : Type 0 where
   pub told : List ℕ
   pub report : IsFollowReport o ms told
   pub out : List ℕ
   pub wrote : w'.taken ≡ w.taken ++ out
-  pub keeps : out ++ waits f.telling ≡ told
-  pub worked : (r'.failures ≡ r.failures) × (w'.failures ≡ w.failures)
+  pub keeps : told ≡ out ++ kept
+  pub worked : w'.failures ≡ w.failures
 
 -- what is followed behind so many lines
 abbrev pub lines_ahead : FollowOptions → Follower → List Message → ℕ → List ℕ → Followed
@@ -71,29 +83,38 @@ message_ahead o f ms number m more =
     onto_followed number (apply_fault o.span (start_of o.span o.start).start ms m) m (followed_lines o f.choice.taking (ms ++ m ∷ []) (number + 1) (lines_of more))
 
 -- so many lines were taken
-abbrev pub IsGoing : FollowOptions → Reads → Reads → Writes → Writes → Follower → ℕ → List Message → Type 0
-IsGoing o r r' w w' f lines ms = IsUnderway o (lines_ahead o f ms lines) r r' w w' f lines ms
+abbrev pub IsAhead : FollowOptions → Reads → Reads → Follower → ℕ → List Message → Type 0
+IsAhead o r r' f lines ms = IsFollowing o (lines_ahead o f ms lines) r r' f lines ms
 
--- the same, while the last one's message is still to be
-abbrev pub IsBefore : FollowOptions → Reads → Reads → Writes → Writes → Follower → ℕ → List Message → Message → Type 0
-IsBefore o r r' w w' f lines ms m = IsUnderway o (message_ahead o f ms lines m) r r' w w' f lines ms
+-- the same, while the last one's message is still to be, whose line stands behind those of the other messages
+abbrev pub IsHolding : FollowOptions → Reads → Reads → Follower → ℕ → List Message → Message → Type 0
+IsHolding o r r' f lines ms m = (u : IsFollowing o (message_ahead o f ms lines m) r r' f lines ms) × TakesNext o u.front ms (followed_at o u.front)
 
--- and this line stands behind those of the other messages
-abbrev pub IsHolding : FollowOptions → Reads → Reads → Writes → Writes → Follower → ℕ → List Message → Message → Type 0
-IsHolding o r r' w w' f lines ms m = (u : IsBefore o r r' w w' f lines ms m) × TakesNext o u.front ms (followed_at o u.front)
+-- so many lines were taken, and what is told of their messages was written, or is kept
+abbrev pub IsGoing : FollowOptions → Reads → Reads → Writes → Writes → Follower → List ℕ → ℕ → List Message → Type 0
+IsGoing o r r' w w' f kept lines ms = IsAhead o r r' f lines ms × HasReported o ms w w' kept
 
--- why no line follows, before what waits is written
-pub record IsStopped (o : FollowOptions) (r r' : Reads) (w w' : Writes) (kept : List ℕ) (e : FollowEnd) : Type 0 where
-  pub messages : List Message
+-- why no line follows
+pub record IsOver (o : FollowOptions) (r r' : Reads) (ms : List Message) (e : FollowEnd) : Type 0 where
   pub input : List ℕ
   pub read : r'.given ≡ r.given ++ input
+  pub begins : BeginWith o input r'.ended ms
+  pub comes : ComesBy o input r'.ended ms e
+
+-- the same, before what is kept is written; but where a write failed, what was written begins the report
+pub record IsStopped (o : FollowOptions) (r r' : Reads) (w w' : Writes) (kept : List ℕ) (e : FollowEnd) : Type 0 where
+  pub messages : List Message
+  pub over : IsOver o r r' messages e
+  pub told : List ℕ
+  pub report : IsFollowReport o messages told
   pub out : List ℕ
   pub wrote : w'.taken ≡ w.taken ++ out
-  pub begins : BeginWith o input r'.ended messages
-  pub ends : EndsBy o input r'.ended messages (kept_at e out kept) e
+  pub rest : List ℕ
+  pub left : told ≡ out ++ rest
+  pub keeps : e ≢ ends.Output → rest ≡ kept
   pub failed : FailsAt e r w r' w'
 
--- nothing was read, taken or told
+-- nothing was read or taken
 pub record IsFresh (o : FollowOptions) (f : Follower) : Type 0 where
   pub by : GoesBy o f
   pub taking : f.choice.taking ≡ is_none o.feed
@@ -102,31 +123,16 @@ pub record IsFresh (o : FollowOptions) (f : Follower) : Type 0 where
   pub named : named_in f.telling ≡ []
   pub nothing : waiting f.lines ≡ []
   pub open_ended : has_ended f.lines ≡ false
-  pub silent : waits f.telling ≡ []
 
--- the line of this number is taken, with its message where it is one to take
-abbrev pub TakesLine : Follower → Follower → ℕ → Writes → Writes → Type 0
-TakesLine f f' number w' w'' =
-    (o : FollowOptions) (r r' : Reads) (w : Writes) (lines : ℕ) (ms : List Message) → number ≡ lines + 1 → IsGoing o r r' w w' f lines ms
-    → (ms' : List Message) × IsGoing o r r' w w'' f' number ms'
+-- how it ends at the line of this number, which wasn't taken
+abbrev pub end_by : ℕ → FollowError → FollowEnd
+end_by line (errors.Fault fault) = ends.Fault line fault
+end_by line errors.NoMemory = ends.Memory
 
--- at the line of this number a follower that was going stops
-abbrev pub StopsAtLine : Follower → Follower → ℕ → Writes → Writes → FollowEnd → Type 0
-StopsAtLine f f' number w' w'' e =
-    (o : FollowOptions) (r r' : Reads) (w : Writes) (lines : ℕ) (ms : List Message) → number ≡ lines + 1 → IsGoing o r r' w w' f lines ms
-    → IsStopped o r r' w w'' (waits f'.telling) e
-
--- the message of the line of this number is taken
-abbrev pub TakesMessage : Follower → Follower → ℕ → Message → Writes → Writes → Type 0
-TakesMessage f f' number m w' w'' =
-    (o : FollowOptions) (r r' : Reads) (w : Writes) (ms : List Message) → IsHolding o r r' w w' f number ms m
-    → IsGoing o r r' w w'' f' number (ms ++ m ∷ [])
-
--- with it a follower stops
-abbrev pub StopsAtMessage : Follower → Follower → ℕ → Message → Writes → Writes → FollowEnd → Type 0
-StopsAtMessage f f' number m w' w'' e =
-    (o : FollowOptions) (r r' : Reads) (w : Writes) (ms : List Message) → IsHolding o r r' w w' f number ms m
-    → IsStopped o r r' w w'' (waits f'.telling) e
+-- how it ends where the next line isn't found: a read failed, or else a write
+abbrev pub end_unfound : ServeEnd → FollowEnd
+end_unfound serve_ends.Input = ends.Input
+end_unfound _ = ends.Output
 
 -- how it ends where no line is left
 abbrev pub end_at : Bool → FollowEnd
@@ -138,15 +144,54 @@ abbrev pub end_of : Result (Unit {0}) FollowEnd → FollowEnd
 end_of (Ok _) = ends.Done
 end_of (Err e) = e
 
--- an end is told by its line, unless memory was wanted
-abbrev pub EndsTold : FollowEnd → List ℕ → List ℕ → List ℕ → FollowEnd → Type 0
-EndsTold told line kept kept' e = ((e ≡ told) × (kept' ≡ kept ++ line)) ⊎ ((e ≡ ends.Memory) × (kept' ≡ kept))
+-- the line of this number is taken, with its message where it is one to take
+abbrev pub TakesLine : Follower → Follower → ℕ → (kept kept' : List ℕ) → Writes → Writes → Type 0
+TakesLine f f' number kept kept' w' w'' =
+    (o : FollowOptions) (r r' : Reads) (w : Writes) (lines : ℕ) (ms : List Message) → number ≡ lines + 1 → IsGoing o r r' w w' f kept lines ms
+    → (ms' : List Message) × IsGoing o r r' w w'' f' kept' number ms'
 
--- why the line of this number ends it, and what is told of that
-abbrev pub StopsBy : FollowError → ℕ → List ℕ → List ℕ → FollowEnd → Type 0
-StopsBy errors.NoMemory number kept kept' e = (e ≡ ends.Memory) × (kept' ≡ kept)
-StopsBy (errors.Fault fault) number kept kept' e = EndsTold (ends.Fault number fault) (fault_line number fault) kept kept' e
+-- at the line of this number a follower that was going stops
+abbrev pub StopsAtLine : Follower → ℕ → (kept kept' : List ℕ) → Writes → Writes → FollowEnd → Type 0
+StopsAtLine f number kept kept' w' w'' e =
+    (o : FollowOptions) (r r' : Reads) (w : Writes) (lines : ℕ) (ms : List Message) → number ≡ lines + 1 → IsGoing o r r' w w' f kept lines ms
+    → IsStopped o r r' w w'' kept' e
+
+-- what is told of the messages since is kept too
+pub record GoesOn (o : FollowOptions) (ms ms' : List Message) (kept kept' : List ℕ) : Type 0 where
+  pub text : List ℕ
+  pub keeps : kept' ≡ kept ++ text
+  pub report : (told : List ℕ) → IsFollowReport o ms told → IsFollowReport o ms' (told ++ text)
+
+-- one line is taken, and what is told of it is kept
+abbrev pub TakesMore : Follower → Follower → (kept kept' : List ℕ) → Type 0
+TakesMore f f' kept kept' =
+    (o : FollowOptions) (r r' : Reads) (lines : ℕ) (ms : List Message) → IsAhead o r r' f lines ms
+    → (ms' : List Message) × IsAhead o r r' f' (lines + 1) ms' × GoesOn o ms ms' kept kept'
+
+-- one line isn't taken
+abbrev pub StopsWithLine : Follower → FollowError → Type 0
+StopsWithLine f e = (o : FollowOptions) (r r' : Reads) (lines : ℕ) (ms : List Message) → IsAhead o r r' f lines ms → IsOver o r r' ms (end_by (lines + 1) e)
+
+-- at this timestamp the message in hand shows the rows to be complete, where that is told
+abbrev pub ShowsReady : Follower → Message → Option ℕ → Type 0
+ShowsReady f m at = (s : Start) (before : List Message) → Follows f.replica s before → at ≡ ready_told f.complete s before m
+
+-- the message in hand is taken
+abbrev pub TakesMessage : Follower → Follower → Message → (kept kept' : List ℕ) → Type 0
+TakesMessage f f' m kept kept' =
+    (o : FollowOptions) (r r' : Reads) (number : ℕ) (ms : List Message) → IsHolding o r r' f number ms m
+    → IsAhead o r r' f' number (ms ++ m ∷ []) × GoesOn o ms (ms ++ m ∷ []) kept kept'
+
+-- it isn't
+abbrev pub StopsWithMessage : Follower → Message → FollowError → Type 0
+StopsWithMessage f m e = (o : FollowOptions) (r r' : Reads) (number : ℕ) (ms : List Message) → IsHolding o r r' f number ms m → IsOver o r r' ms (end_by number e)
+
+-- all bytes were written, and the end stays; or a write failed
+abbrev pub EndsWritten : List ℕ → FollowEnd → Writes → Writes → FollowEnd → Type 0
+EndsWritten bytes end w w' e =
+    ((e ≡ end) × HasTaken w.taken w'.taken bytes [] × (w'.failures ≡ w.failures))
+    ⊎ ((e ≡ ends.Output) × HasBegun w.taken w'.taken bytes × (w'.failures ≡ w.failures + 1))
 
 -- a follower that stopped so has followed, by this end
-abbrev pub FollowsAs : Follower → FollowEnd → Writes → Writes → FollowEnd → Type 0
-FollowsAs f e w' w'' e' = (o : FollowOptions) (r r' : Reads) (w : Writes) → IsStopped o r r' w w' (waits f.telling) e → IsFollowed o r r' w w'' e'
+abbrev pub FollowsAs : List ℕ → FollowEnd → Writes → Writes → FollowEnd → Type 0
+FollowsAs kept e w' w'' e' = (o : FollowOptions) (r r' : Reads) (w : Writes) → IsStopped o r r' w w' kept e → IsFollowed o r r' w w'' e'

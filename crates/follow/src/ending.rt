@@ -1,9 +1,9 @@
 //! How a follower ends.
 ghost use Rattle.std.specs.Prelude.{◌≡◌};
+ghost use Rattle.follow.specs.Steps.{end_by, end_unfound};
 
-use crate::fault::FollowFault;
-use sessions::WriteFailed;
-use std::alloc::AllocError;
+use crate::fault::{FollowError, FollowFault};
+use sessions::ServeEnd;
 
 /// Why following came to its end.
 #[derive(Clone, Copy, Debug, PartialEq, Eq)]
@@ -24,22 +24,22 @@ pub enum FollowEnd {
     Memory,
 }
 
-impl From<AllocError> for FollowEnd {
-    ghost use Rattle.follow.specs.declared.ending.FollowEnd.TheVariants as ends;
-
-    ghost from_gives = { λ _ e. e ≡ ends.Memory };
-
-    fn from(_refused: AllocError) -> FollowEnd {
-        FollowEnd::Memory
+/// How it ends at the line of this number, which wasn't taken.
+pub(crate) fn end_by(line: u64, error: FollowError) -> FollowEnd
+    ensures { result ≡ end_by line error }
+{
+    match error {
+        FollowError::Fault(fault) => FollowEnd::Fault { line, fault },
+        FollowError::NoMemory => FollowEnd::Memory,
     }
 }
 
-impl From<WriteFailed> for FollowEnd {
-    ghost use Rattle.follow.specs.declared.ending.FollowEnd.TheVariants as ends;
-
-    ghost from_gives = { λ _ e. e ≡ ends.Output };
-
-    fn from(_failed: WriteFailed) -> FollowEnd {
-        FollowEnd::Output
+/// How it ends where the next line isn't found: a read failed, or else a write.
+pub(crate) fn unfound(end: ServeEnd) -> FollowEnd
+    ensures { result ≡ end_unfound end }
+{
+    match end {
+        ServeEnd::Input => FollowEnd::Input,
+        _ => FollowEnd::Output,
     }
 }

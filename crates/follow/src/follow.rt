@@ -1,17 +1,18 @@
 //! A feed is followed, from the first byte read to the last one written.
+ghost use Rattle.std.specs.Prelude.{◌≡◌, ◌++◌, OnOk, OnErr};
 ghost use Rattle.follow.specs.declared.options.FollowOptions.{FollowOptions};
-ghost use Rattle.follow.specs.declared.fault.FollowError.TheVariants.{Fault};
-ghost use Rattle.follow.specs.Followed.{IsUnbegun};
-ghost use Rattle.follow.specs.Ends.{CouldBegin, IsFollowed};
+ghost use Rattle.follow.specs.Ends.{CouldBegin, IsFollowed, HasLine, last_line};
+ghost use Rattle.follow.specs.Steps.{EndsWritten, FollowsAs};
 ghost use Rattle.sessions.specs.Devices.{Reads};
+ghost use Rattle.sessions.specs.Writing.{pending_of};
 
-use crate::ending::FollowEnd;
-use crate::fault::{FollowError, FollowFault};
+use crate::ending::{FollowEnd, end_by};
 use crate::follower::Follower;
 use crate::options::FollowOptions;
 use crate::texts::put_fault;
-use sessions::{Sink, Source, write_whole};
-use std::alloc::Global;
+use sessions::{Output, Sink, Source};
+use std::alloc::{AllocError, Global};
+use word_lines::events::write_spent;
 
 /// Reads a feed's messages as lines of JSON, applies them to a replica of its span, and writes a line
 /// `resolved T N` at each resolved message: the timestamp and how many rows there are. Where the rows are
@@ -22,11 +23,11 @@ use std::alloc::Global;
 /// Rows to begin with whose keys don't rise, or lie outside the span, are a fault of line 0.
 ///
 /// A line that doesn't begin with `{` is passed over. A faulty line, and a message that the replica refuses,
-/// ends the output with its fault; what was told before it stands. The output is written in large blocks, at
-/// the end, and before each read, since a read may wait.
+/// ends the output with its fault; what was told before it stands. All that is told of one message is kept before any
+/// of it is written. The output is written in large blocks, at the end, and before each read, since a read may wait.
 ///
-/// It ends out of memory only before it reads, for a line that is one to take or at fault, for what it tells of the
-/// latest message, or where no further line can be counted. Then what it told before stands.
+/// It ends out of memory only before it reads, for a line that is one to take or at fault, or where no further line can
+/// be counted. Then all that is told of the messages before stands, and nothing of that line.
 ///
 /// `IsFollowed` in `specs/Ends.antt` says how each end comes, from the bytes read to the bytes written, and
 /// `CouldBegin` that rows which a replica can't begin with are a fault.
@@ -39,32 +40,61 @@ pub fn follow_io<S: Source, K: Sink>(
     ensures followed { IsFollowed options (S.reads input.old) (S.reads input.new) (K.writes output.old) (K.writes output.new) result }
     ensures begun { CouldBegin options (S.reads input.old) (S.reads input.new) result }
 {
+    let mut kept = match Output::new(alloc) {
+        Ok(kept) => kept,
+        Err(_) => return FollowEnd::Memory,
+    };
     match Follower::begin(alloc, options) {
         Ok(mut follower) => {
-            let end = match follower.follow(input, output) {
+            let end = match follower.follow(input, &mut kept, output) {
                 Ok(()) => FollowEnd::Done,
                 Err(end) => end,
             };
-            follower.finish(end, output)
+            finish(alloc, kept, end, output)
         }
-        Err(FollowError::NoMemory) => FollowEnd::Memory,
-        Err(FollowError::Fault(fault)) => unbegun(alloc, fault, output),
+        Err(error) => finish(alloc, kept, end_by(0, error), output),
     }
 }
 
-/// Tells what is wrong with the rows to begin with, as the only line.
-fn unbegun<K: Sink>(alloc: Global, fault: FollowFault, output: &mut K) -> FollowEnd
-    ensures followed { (o : FollowOptions) (r : Reads) → IsUnbegun o.span o.start (Fault fault)
-        → IsFollowed o r r (K.writes output.old) (K.writes output.new) result }
-    ensures begun { (o : FollowOptions) (r : Reads) → CouldBegin o r r result }
+/// Writes what is left, and behind it the line of an end that has one. Where a write has failed, that is not tried
+/// again.
+fn finish<K: Sink>(alloc: Global, mut kept: Output, end: FollowEnd, output: &mut K) -> FollowEnd
+    ensures followed { FollowsAs (pending_of kept) end (K.writes output.old) (K.writes output.new) result }
+    ensures begun { (o : FollowOptions) (r : Reads) → CouldBegin o r r end → CouldBegin o r r result }
 {
-    let mut text = Vec::new(alloc);
-    match put_fault(&mut text, 0, fault) {
-        Ok(()) => {}
-        Err(_) => return FollowEnd::Memory,
+    if let FollowEnd::Output = end {
+        return FollowEnd::Output;
     }
-    match write_whole(output, text.as_slice()) {
-        Ok(()) => FollowEnd::Fault { line: 0, fault },
+    match keep_last(alloc, &mut kept, end) {
+        Ok(()) => written(kept, end, output),
+        Err(_) => written(kept, FollowEnd::Memory, output),
+    }
+}
+
+/// Keeps the line of an end that has one, or none of it where it is out of memory.
+fn keep_last(alloc: Global, kept: &mut Output, end: FollowEnd) -> Result<(), AllocError>
+    ensures ok { OnOk result (pending_of kept.new ≡ pending_of kept.old ++ last_line end) }
+    ensures err { OnErr result (pending_of kept.new ≡ pending_of kept.old) }
+    ensures line { OnErr result (HasLine end) }
+{
+    let mut line = Vec::new(alloc);
+    match end {
+        FollowEnd::Fault {
+            line: number,
+            fault,
+        } => put_fault(&mut line, number, fault)?,
+        FollowEnd::Spent => write_spent(&mut line, u64::MAX)?,
+        _ => return Ok(()),
+    }
+    kept.keep(line.as_slice())
+}
+
+/// Writes all that waits. The end stays, unless a write fails.
+fn written<K: Sink>(mut kept: Output, end: FollowEnd, output: &mut K) -> FollowEnd
+    ensures { EndsWritten (pending_of kept) end (K.writes output.old) (K.writes output.new) result }
+{
+    match kept.write_out(output) {
+        Ok(()) => end,
         Err(_) => FollowEnd::Output,
     }
 }

@@ -1,34 +1,33 @@
-//! A follower: a replica, with the input that changes it and what is told of it. `IsUnderway` in
+//! A follower: a replica, with the input that changes it and what is told of it. `IsFollowing` in
 //! `specs/Steps.antt` says what holds between two lines.
-ghost use Rattle.std.specs.Prelude.{◌≡◌, ◌≤◌, [], length, take, IfOk, IfErr, OnOk};
-ghost use Rattle.word_lines.specs.Events.{spent_line};
-ghost use Rattle.follow.specs.declared.ending.FollowEnd.TheVariants.{Spent, Fault};
+ghost use Rattle.std.specs.Prelude.{◌≡◌, ◌≤◌, [], length, IfOk, IfErr, OnOk, OnErr};
 ghost use Rattle.replica.specs.Replicas.{Follows};
 ghost use Rattle.sessions.specs.Waiting.{format_of};
-ghost use Rattle.follow.specs.Unfound.{end_unfound};
-ghost use Rattle.follow.specs.Followed.{start_of, fault_line, IsUnbegun, MayStart};
+ghost use Rattle.follow.specs.Followed.{start_of, IsUnbegun, MayStart};
 
 use crate::choice::Choice;
-use crate::ending::FollowEnd;
-use crate::fault::{FollowError, FollowFault, of_line, of_message, of_replica};
+use crate::ending::{FollowEnd, end_by, unfound};
+use crate::fault::{FollowError, of_line, of_message, of_replica};
 use crate::options::{FollowOptions, Start};
 use crate::telling::Telling;
 use json_lines::read_message;
 use replica::Replica;
-use sessions::{Lines, ServeEnd, Sink, Source};
+use sessions::{Lines, Output, Sink, Source};
 use spans::calls::Message;
 use spans::span::Span;
 use std::alloc::Global;
 use text_format::Format;
 use word_lines::words::text_of;
 
-/// A follower of a feed, with what it has read, and told, and not yet written.
+/// A follower of a feed, with what it has read and not yet taken.
 #[derive(Drop)]
 pub(crate) struct Follower {
     alloc: Global,
     lines: Lines,
     choice: Choice,
     format: Format,
+    /// Whether completeness is told between resolved messages too.
+    complete: bool,
     /// Whether a message was taken.
     started: bool,
     replica: Replica,
@@ -38,10 +37,10 @@ pub(crate) struct Follower {
 
 impl Follower {
     ghost use Rattle.sessions.specs.Waiting.{waiting, IsLine};
+    ghost use Rattle.sessions.specs.Writing.{pending_of};
     ghost use Rattle.follow.specs.Taking.{HasRead, IsMisreadAt};
-    ghost use Rattle.follow.specs.Telling.{waits};
     ghost use Rattle.follow.specs.declared.options.FollowOptions.{FollowOptions};
-    ghost use Rattle.follow.specs.Steps.{IsFresh, IsStopped, TakesLine, StopsAtLine, TakesMessage, StopsAtMessage, StopsBy, EndsTold, FollowsAs, end_at, end_of};
+    ghost use Rattle.follow.specs.Steps.{IsFresh, IsStopped, TakesLine, StopsAtLine, TakesMore, StopsWithLine, TakesMessage, StopsWithMessage, ShowsReady, end_at, end_of};
 
     pub(crate) fn begin(alloc: Global, options: FollowOptions) -> Result<Follower, FollowError>
         ensures fresh { IfOk result (IsFresh options) }
@@ -57,16 +56,16 @@ impl Follower {
             format,
         } = options;
         let lines = Lines::new(alloc, format)?;
-        let telling = Telling::new(alloc, shown, complete)?;
         let replica = begun(alloc, span, start)?;
         Ok(Follower {
             alloc,
             lines,
             choice: Choice::new(feed),
             format,
+            complete,
             started: false,
             replica,
-            telling,
+            telling: Telling::new(alloc, shown),
         })
     }
 
@@ -74,22 +73,20 @@ impl Follower {
     pub(crate) fn follow<S: Source, K: Sink>(
         &mut self,
         input: &mut S,
+        kept: &mut Output,
         output: &mut K,
     ) -> Result<(), FollowEnd>
-        ensures { (o : FollowOptions) → IsFresh o self.old
-            → IsStopped o (S.reads input.old) (S.reads input.new) (K.writes output.old) (K.writes output.new) (waits self.new.telling) (end_of result) }
+        ensures { (o : FollowOptions) → IsFresh o self.old → pending_of kept.old ≡ []
+            → IsStopped o (S.reads input.old) (S.reads input.new) (K.writes output.old) (K.writes output.new) (pending_of kept.new) (end_of result) }
     {
         for before in 0..u64::MAX {
-            match self
-                .lines
-                .next_line(input, &mut self.telling.report.kept, output)
-            {
-                Ok(Some(count)) => self.line(output, before + 1, count)?,
+            match self.lines.next_line(input, kept, output) {
+                Ok(Some(count)) => self.line(kept, output, before + 1, count)?,
                 Ok(None) => return self.done(),
                 Err(end) => return Err(unfound(end)),
             }
         }
-        Err(self.spent(u64::MAX))
+        Err(FollowEnd::Spent)
     }
 
     /// How it ends where no line is left.
@@ -103,17 +100,41 @@ impl Follower {
         }
     }
 
-    /// Takes one line, with its message if it is chosen.
-    fn line<K: Sink>(&mut self, output: &mut K, number: u64, count: usize) -> Result<(), FollowEnd>
+    /// Takes one line, and writes what is kept where that is a block or more.
+    fn line<K: Sink>(
+        &mut self,
+        kept: &mut Output,
+        output: &mut K,
+        number: u64,
+        count: usize,
+    ) -> Result<(), FollowEnd>
         requires within { count ≤ length (waiting self.old.lines) }
         requires line { IsLine self.old.lines count }
-        ensures ok { OnOk result (TakesLine self.old self.new number (K.writes output.old) (K.writes output.new)) }
-        ensures err { IfErr result (StopsAtLine self.old self.new number (K.writes output.old) (K.writes output.new)) }
+        ensures ok { OnOk result (TakesLine self.old self.new number (pending_of kept.old) (pending_of kept.new) (K.writes output.old) (K.writes output.new)) }
+        ensures err { IfErr result (StopsAtLine self.old number (pending_of kept.old) (pending_of kept.new) (K.writes output.old) (K.writes output.new)) }
+    {
+        match self.take_line(kept, count) {
+            Ok(()) => {}
+            Err(error) => return Err(end_by(number, error)),
+        }
+        match kept.write_full(output) {
+            Ok(()) => Ok(()),
+            Err(_) => Err(FollowEnd::Output),
+        }
+    }
+
+    /// Takes one line, with its message where it is one to take, and keeps what is told of that.
+    fn take_line(&mut self, kept: &mut Output, count: usize) -> Result<(), FollowError>
+        requires within { count ≤ length (waiting self.old.lines) }
+        requires line { IsLine self.old.lines count }
+        ensures ok { OnOk result (TakesMore self.old self.new (pending_of kept.old) (pending_of kept.new)) }
+        ensures err { IfErr result (StopsWithLine self.old) }
+        ensures same { OnErr result (pending_of kept.new ≡ pending_of kept.old) }
     {
         match self.read(count) {
             Ok(None) => Ok(()),
-            Ok(Some(message)) => self.take(output, number, message),
-            Err(error) => Err(self.stopped(number, error)),
+            Ok(Some(message)) => self.take(kept, message),
+            Err(error) => Err(error),
         }
     }
 
@@ -123,6 +144,7 @@ impl Follower {
         ensures ok { IfOk result (HasRead self.old self.new count) }
         ensures refused { IfErr result (IsMisreadAt self.old count) }
         ensures format { self.new.format ≡ self.old.format }
+        ensures complete { self.new.complete ≡ self.old.complete }
         ensures replica { self.new.replica ≡ self.old.replica }
         ensures telling { self.new.telling ≡ self.old.telling }
         ensures started { self.new.started ≡ self.old.started }
@@ -145,79 +167,37 @@ impl Follower {
         }
     }
 
-    /// Takes a message, and tells what it shows before it and behind it.
-    fn take<K: Sink>(
-        &mut self,
-        output: &mut K,
-        number: u64,
-        message: Message,
-    ) -> Result<(), FollowEnd>
-        ensures ok { OnOk result (TakesMessage self.old self.new number message (K.writes output.old) (K.writes output.new)) }
-        ensures err { IfErr result (StopsAtMessage self.old self.new number message (K.writes output.old) (K.writes output.new)) }
+    /// Takes a message, and keeps what it shows before it and behind it: all of that, or nothing.
+    fn take(&mut self, kept: &mut Output, message: Message) -> Result<(), FollowError>
+        ensures ok { OnOk result (TakesMessage self.old self.new message (pending_of kept.old) (pending_of kept.new)) }
+        ensures err { IfErr result (StopsWithMessage self.old message) }
+        ensures same { OnErr result (pending_of kept.new ≡ pending_of kept.old) }
     {
-        self.telling.tell_before(&self.replica, &message, output)?;
+        let mut report = Vec::new(self.alloc);
+        let ready = self.ready(&message);
+        self.telling
+            .tell(&mut report, b"complete", ready, &self.replica)?;
         self.telling.note(&message)?;
         match self.replica.apply(message) {
             Ok(()) => {}
-            Err(fault) => return Err(self.stopped(number, of_replica(fault))),
+            Err(fault) => return Err(of_replica(fault)),
         }
         self.started = true;
-        self.telling.tell_behind(&self.replica, output)
+        let resolved = self.replica.at_resolved();
+        self.telling
+            .tell(&mut report, b"resolved", resolved, &self.replica)?;
+        kept.keep(report.as_slice())?;
+        Ok(())
     }
 
-    /// Tells what is wrong with a line.
-    fn stopped(&mut self, number: u64, error: FollowError) -> FollowEnd
-        ensures { StopsBy error number (waits self.old.telling) (waits self.new.telling) result }
+    /// The timestamp at which a message that is to be taken next shows the rows to be complete, where that is told.
+    fn ready(&self, message: &Message) -> Option<u64>
+        ensures { ShowsReady self.now message.now result }
     {
-        match error {
-            FollowError::NoMemory => FollowEnd::Memory,
-            FollowError::Fault(fault) => self.faulty(number, fault),
+        if !self.complete {
+            return None;
         }
-    }
-
-    fn faulty(&mut self, number: u64, fault: FollowFault) -> FollowEnd
-        ensures { EndsTold (Fault number fault) (fault_line number fault) (waits self.old.telling) (waits self.new.telling) result }
-    {
-        match self.telling.tell_fault(number, fault) {
-            Ok(()) => FollowEnd::Fault {
-                line: number,
-                fault,
-            },
-            Err(_) => FollowEnd::Memory,
-        }
-    }
-
-    /// Tells that no further line can be counted.
-    fn spent(&mut self, number: u64) -> FollowEnd
-        ensures { EndsTold Spent (spent_line number) (waits self.old.telling) (waits self.new.telling) result }
-    {
-        match self.telling.tell_spent(number) {
-            Ok(()) => FollowEnd::Spent,
-            Err(_) => FollowEnd::Memory,
-        }
-    }
-
-    /// Writes what is left, but where a write has failed: that is not tried again.
-    pub(crate) fn finish<K: Sink>(mut self, end: FollowEnd, output: &mut K) -> FollowEnd
-        ensures { FollowsAs self end (K.writes output.old) (K.writes output.new) result }
-    {
-        if let FollowEnd::Output = end {
-            return FollowEnd::Output;
-        }
-        match self.telling.write_out(output) {
-            Ok(()) => end,
-            Err(_) => FollowEnd::Output,
-        }
-    }
-}
-
-/// How it ends where the next line isn't found: a read failed, or else a write.
-fn unfound(end: ServeEnd) -> FollowEnd
-    ensures { result ≡ end_unfound end }
-{
-    match end {
-        ServeEnd::Input => FollowEnd::Input,
-        _ => FollowEnd::Output,
+        self.replica.ready(message)
     }
 }
 

@@ -9,9 +9,11 @@
 //!    messages are taken of an input, and at which line that ends.
 //! 2. What a message resolves is told once it was applied, and rows only where the replica is complete. `IsFollowReport`
 //!    in `specs/Reports.antt` says what is told of the messages, byte for byte.
-//! 3. The bytes read, the bytes written and the end say together how it went: `IsFollowed` in `specs/Ends.antt`. A read
+//! 3. All that is told of one message is kept before any of it is written. So a message for which memory is wanted leaves
+//!    nothing on the output, and all before it their whole reports.
+//! 4. The bytes read, the bytes written and the end say together how it went: `IsFollowed` in `specs/Ends.antt`. A read
 //!    that failed is the end `Input`, a write that failed is `Output`, and no other end comes of either.
-//! 4. What waits is written before each read, since a read may wait; tests say so, and no clause can.
+//! 5. What waits is written before each read, since a read may wait; tests say so, and no clause can.
 //!
 //! ```text
 //! read                                              written, with the rows
@@ -29,7 +31,8 @@
 //! - `span_of`: the words' bytes
 //!
 //! All take memory. A follower keeps the rows, a block of input and a block of output, and where changes are told the
-//! keys that changed.
+//! keys that changed. While a message is told its whole report waits twice: as it is made, and as it is kept to be written.
+//! With `--view` that is the text of all rows.
 //!
 //! Tests: `job_tests`.
 #![tactic(auto)]
@@ -40,7 +43,6 @@ mod fault;
 mod follow;
 mod follower;
 mod options;
-mod report;
 mod seed;
 mod span_words;
 mod telling;

@@ -10,7 +10,6 @@ use word_lines::fault::{LineFault, ReadError};
 use word_lines::spelling::bytes_of;
 
 /// The span between two bounds, each spelled as in scripts of a format: `-` is no bound.
-#[tactic(auto, using(crate::proofs::SpanWords::span_of_bounds))]
 pub fn span_of(alloc: Global, lo: &[u8], hi: &[u8], format: Format) -> Result<Span, ReadError>
     ensures { Gives (λ span. span) result (span_in format lo.now hi.now) }
 {

@@ -1,11 +1,17 @@
 //! The lines that are told of a feed.
 ghost use Rattle.std.specs.Prelude.{◌≡◌, ◌++◌, OnOk};
+ghost use Rattle.std.specs.List.{flat_map};
+ghost use Rattle.std.specs.Option.{option_copied};
 ghost use Rattle.word_lines.specs.Replies.{row_line};
+ghost use Rattle.replica.specs.Replicas.{view_in};
 ghost use Rattle.follow.specs.Followed.{count_line, gone_line, fault_line};
+ghost use Rattle.follow.specs.Reports.{change_line};
 
 use crate::fault::FollowFault;
 use json_lines::numbers::put_number;
+use replica::{KeysAndValues, Replica};
 use std::alloc::AllocError;
+use std::collections::BTreeSet;
 use timestamps::key::Key;
 use timestamps::value::Value;
 use word_lines::spelling::put_spelling;
@@ -28,8 +34,42 @@ pub(crate) fn put_count(
     Ok(())
 }
 
+/// Writes the lines of rows.
+pub(crate) fn put_rows(out: &mut Vec<u8>, rows: KeysAndValues<'_>) -> Result<(), AllocError>
+    ensures { OnOk result (out.new.items ≡ out.old.items ++ flat_map row_line rows.entry) }
+{
+    for (key, value) in rows {
+        put_row(out, key, value)?;
+    }
+    Ok(())
+}
+
+/// Writes of each key its value, or that it has none any more.
+pub(crate) fn put_changes(
+    out: &mut Vec<u8>,
+    changed: &BTreeSet<Key>,
+    replica: &Replica,
+) -> Result<(), AllocError>
+    ensures { OnOk result (out.new.items ≡ out.old.items ++ flat_map (λ x. change_line x (view_in replica.now x)) changed.now.keys) }
+{
+    for key in changed.iter() {
+        put_change(out, key, replica.get(key))?;
+    }
+    Ok(())
+}
+
+/// Writes what a key has.
+fn put_change(out: &mut Vec<u8>, key: &Key, value: Option<&Value>) -> Result<(), AllocError>
+    ensures { OnOk result (out.new.items ≡ out.old.items ++ change_line key.now (option_copied value.entry)) }
+{
+    match value {
+        Some(value) => put_row(out, key, value),
+        None => put_gone(out, key),
+    }
+}
+
 /// Writes that a key has no value any more.
-pub(crate) fn put_gone(out: &mut Vec<u8>, key: &Key) -> Result<(), AllocError>
+fn put_gone(out: &mut Vec<u8>, key: &Key) -> Result<(), AllocError>
     ensures { OnOk result (out.new.items ≡ out.old.items ++ gone_line key.now) }
 {
     out.extend_from_slice(b"gone ")?;
@@ -39,7 +79,7 @@ pub(crate) fn put_gone(out: &mut Vec<u8>, key: &Key) -> Result<(), AllocError>
 }
 
 /// Writes the line of a row, as it stands in transcripts.
-pub(crate) fn put_row(out: &mut Vec<u8>, key: &Key, value: &Value) -> Result<(), AllocError>
+fn put_row(out: &mut Vec<u8>, key: &Key, value: &Value) -> Result<(), AllocError>
     ensures { OnOk result (out.new.items ≡ out.old.items ++ row_line (key.now, value.now)) }
 {
     out.extend_from_slice(b"row ")?;

@@ -34,7 +34,7 @@ module _ (o : FollowOptions) (text : List ℕ) (ms : List Message) (takes : Take
         begins = subst (λ (l : List Message). StartsWith l s.messages) (ap (λ (x : Followed). x.messages) takes) (s.begins text holds);
         whole = λ done.
             let is : ends_by ends.Done = subst ends_by done s.ends in
-            let all : s.messages ≡ ms = all_taken s.input s.messages (subst (λ (b : Bool). MayHold s.input b text) is.0 holds) is.1 in
-            (all, subst (λ (l : List Message). IsFollowReport o l s.output) all (subst (IsFollowReport o s.messages) (sym (is.3.2 ∙ append-nil is.3.0)) is.3.1));
+            let all : s.messages ≡ ms = all_taken s.input s.messages (subst (λ (b : Bool). MayHold s.input b text) is.0.0 holds) is.0.1 in
+            (all, subst (λ (l : List Message). IsFollowReport o l s.output) all (subst (IsFollowReport o s.messages) (sym (is.1.2 ∙ append-nil is.1.0)) is.1.1));
         faultless = λ line fault at. let is : ends_by (ends.Fault line fault) = subst ends_by at s.ends in before_lines s.input r'.ended s.messages line fault holds is.0;
       }

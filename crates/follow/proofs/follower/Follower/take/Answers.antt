@@ -1,31 +1,41 @@
-use Rattle.std.proofs.Common.{refl}
+use Rattle.std.proofs.Common.{◌∙◌, ◌++◌, List, ℕ, ap, refl, subst, sym}
 use Rattle.std.proofs.lemmas.Result.{err_from_is_err_and}
-use Rattle.follow.specs.Telling.{waits}
-use Rattle.follow.proofs.Steps.{stop_before, stop_unnamed, stop_refused, stop_behind, go_taken}
-use Rattle.follow.proofs.Tellings.{on_ok, if_err}
+use Rattle.sessions.specs.Writing.{pending_of}
+use Rattle.follow.specs.declared.fault.FollowError.{FollowError}
+use Rattle.follow.specs.Steps.{IsOver, end_by}
+use Rattle.follow.proofs.Steps.{over_wanting, over_refused, go_told, go_taken}
 use Rattle.follow.proofs.follower.Follower.take.Goals as goal
 
-pub returns-in_err-tell_before-clause-err : goal.returns-in_err-tell_before-clause-err
-returns-in_err-tell_before-clause-err g c = let K = g.K.Sink in let p = err_from_is_err_and c.from_residual.result c.from_residual.ensures.1 in
-    rw (p.1, p.2) (λ o r r' w ms u.
-    stop_before o r r' w (K.writes c.args.output.now) c.args.self.now c.args.number ms c.args.message c.tell_before.new.self (K.writes c.tell_before.new.output) _ c.in_err-tell_before.ensures.err u)
+-- memory is wanted for what it shows before it is taken, for its key, for what it resolves, or for all of that
+pub returns-in_err-tell-clause-err : goal.returns-in_err-tell-clause-err
+returns-in_err-tell-clause-err c =
+    let p = err_from_is_err_and c.from_residual.result c.from_residual.ensures.1 in
+    rw (p.1, p.2) (λ o r r' number ms h. over_wanting o r r' c.args.self.now number ms c.args.message h)
 
 pub returns-in_err-note-clause-err : goal.returns-in_err-note-clause-err
-returns-in_err-note-clause-err g c = let K = g.K.Sink in let p = err_from_is_err_and c.from_residual-in_err-note.result c.from_residual-in_err-note.ensures.1 in
-    rw (p.1, p.2) (λ o r r' w ms u.
-    stop_unnamed o r r' w (K.writes c.args.output.now) c.args.self.now c.args.number ms c.args.message c.tell_before.new.self (K.writes c.tell_before.new.output) (waits c.note.new.self) c.in_ok-tell_before.ensures.ok c.in_ok-tell_before.ensures.choice c.in_err-note.ensures.err c.note.ensures.waits u)
+returns-in_err-note-clause-err c =
+    let p = err_from_is_err_and c.from_residual-in_err-note.result c.from_residual-in_err-note.ensures.1 in
+    rw (p.1, p.2) (λ o r r' number ms h. over_wanting o r r' c.args.self.now number ms c.args.message h)
+
+pub returns-in_err-tell-2-clause-err : goal.returns-in_err-tell-2-clause-err
+returns-in_err-tell-2-clause-err c =
+    let p = err_from_is_err_and c.from_residual-in_err-tell-2.result c.from_residual-in_err-tell-2.ensures.1 in
+    rw (p.1, p.2) (λ o r r' number ms h. over_wanting o r r' c.args.self.now number ms c.args.message h)
+
+pub returns-in_err-keep-clause-err : goal.returns-in_err-keep-clause-err
+returns-in_err-keep-clause-err c =
+    let p = err_from_is_err_and c.from_residual-in_err-keep.result c.from_residual-in_err-keep.ensures.1 in
+    rw (p.1, p.2) (λ o r r' number ms h. over_wanting o r r' c.args.self.now number ms c.args.message h)
 
 pub returns-in-Err-clause-err : goal.returns-in-Err-clause-err
-returns-in-Err-clause-err g c = let K = g.K.Sink in λ o r r' w ms u.
-    stop_refused o r r' w (K.writes c.args.output.now) c.args.self.now c.args.number ms c.args.message c.tell_before.new.self c.in-Err.fault c.of_replica.result (K.writes c.tell_before.new.output) (waits c.note.new.self) (waits c.stopped.new.self.telling) c.stopped.result
-    c.in_ok-tell_before.ensures.ok c.note.ensures.waits c.in-Err.ensures.refused c.in-Err.ensures.memory c.of_replica.ensures c.stopped.ensures u
+returns-in-Err-clause-err c = λ o r r' number ms h.
+    subst (λ (e : FollowError). IsOver o r r' ms (end_by number e)) (sym c.of_replica.ensures) (over_refused o r r' c.args.self.now number ms c.args.message h c.in-Err.fault c.in-Err.ensures.refused)
 
 pub returns-clause-ok : goal.returns-clause-ok
-returns-clause-ok g c = let K = g.K.Sink in on_ok c.tell_behind.result (λ tells keeps. λ o r r' w ms u.
-    go_taken o r r' w (K.writes c.args.output.now) c.args.self.now c.args.number ms c.args.message _ c.tell_before.new.self c.note.new.self (K.writes c.tell_before.new.output) (K.writes c.tell_behind.new.output)
-    c.in_ok-tell_before.ensures.ok c.in_ok-tell_before.ensures.choice c.in_ok-note.ensures.ok c.in_ok-note.ensures.choice c.note.ensures.waits c.in-Ok.ensures.accepted c.in-Ok.ensures.ok tells keeps refl refl refl refl u) c.tell_behind.ensures.ok c.tell_behind.ensures.choice
-
-pub returns-clause-err : goal.returns-clause-err
-returns-clause-err g c = let K = g.K.Sink in if_err _ _ c.tell_behind.result (λ e cuts. λ o r r' w ms u.
-    stop_behind o r r' w (K.writes c.args.output.now) c.args.self.now c.args.number ms c.args.message c.tell_before.new.self c.note.new.self c.tell_behind.new.self c.apply.new.self (K.writes c.tell_before.new.output) (K.writes c.tell_behind.new.output) (waits c.tell_behind.new.self) e
-    c.in_ok-tell_before.ensures.ok c.in_ok-tell_before.ensures.choice c.in_ok-note.ensures.ok c.in_ok-note.ensures.choice c.note.ensures.waits c.in-Ok.ensures.accepted c.in-Ok.ensures.ok cuts refl u) c.tell_behind.ensures.err
+returns-clause-ok c = λ o r r' number ms h. (
+  go_taken o r r' c.args.self.now number ms c.args.message h _ c.tell.new.self c.note.new.self c.ready-ready.result c.at_resolved-resolved.result c.new-report.result.items c.tell.new.report.items c.tell-2.new.report.items c.ready-ready.ensures c.in_ok-tell.ensures
+      c.in_ok-note.ensures.named c.in_ok-note.ensures.shown c.in-Ok.ensures.accepted c.in-Ok.ensures.ok c.at_resolved-resolved.ensures.messages c.in_ok-tell-2.ensures refl refl refl refl refl,
+  go_told o r r' c.args.self.now number ms c.args.message h (record c.args.self.now { replica = c.apply.new.self; telling = c.tell-2.new.self }) c.tell.new.self c.note.new.self c.ready-ready.result c.at_resolved-resolved.result c.new-report.result.items
+      c.tell.new.report.items c.tell-2.new.report.items c.ready-ready.ensures c.in_ok-tell.ensures c.in_ok-note.ensures.named c.in_ok-note.ensures.shown c.in-Ok.ensures.accepted c.in-Ok.ensures.ok c.at_resolved-resolved.ensures.messages c.in_ok-tell-2.ensures
+      (pending_of c.args.kept.now) (pending_of c.keep.new.self) c.new-report.ensures.items (c.in_ok-keep.ensures.ok ∙ ap (λ (xs : List ℕ). pending_of c.args.kept.now ++ xs) c.as_slice.ensures.value),
+)
