@@ -20,7 +20,7 @@ use std::alloc::{AllocError, Global};
 use std::collections::BTreeSet;
 use timestamps::key::Key;
 
-/// What is to be told next.
+/// The choice of what is shown, and the keys that changed.
 #[derive(Drop)]
 pub(crate) struct Telling {
     alloc: Global,
