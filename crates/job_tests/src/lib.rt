@@ -1,14 +1,10 @@
-//! Tests of the program's jobs and of its command line. The jobs are tested byte for byte: scripts run, sessions that
-//! race, transcripts checked, states told, and feeds followed, over readers and writers in memory that may fail. They show which
-//! bytes each job writes and how it ends.
+//! Tests of the program's jobs, byte for byte: scripts run, sessions that race, transcripts checked, states told, and feeds
+//! followed, over readers and writers in memory that may fail. They show which bytes each job writes and how it ends.
 //! Nothing depends on this crate.
 //!
 //! ```text
 //! transactions, closings, feeds    worked transcripts
 //! cases                            runs, checks and races: faulty lines, limits, verdicts, devices that fail
-//! command_lines                    what words ask for, and the status and sentence of each end
-//! doing                            what the jobs of command lines write, their statuses, hints, usage lines
-//! hints                            what a faulty line should have been
 //! dumps                            the dump of a transcript's database
 //! states                           the state after a transcript, and texts without one
 //! formats                          texts of format two, beside texts of format one

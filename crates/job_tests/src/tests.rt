@@ -3,15 +3,12 @@
 mod cases;
 mod changes;
 mod closings;
-mod command_lines;
 mod devices;
-mod doing;
 mod dumps;
 mod failing_once;
 mod feeds;
 mod followed;
 mod formats;
-mod hints;
 mod histories;
 mod in_time;
 mod long;

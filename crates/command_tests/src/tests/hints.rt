@@ -1,6 +1,5 @@
 //! What standard error is told of lines that should have been others, behind what is wrong with them.
 
-use super::devices::{Sink, Source};
 use command_line::{Dialect, Input, hint_at};
 use jobs::{DEFAULTS, check_io, run_io};
 use sessions::{Reading, Writing};
@@ -116,9 +115,9 @@ fn faulty_scripts_are_told_what_should_stand_there(rt: HostRuntime) {
 }
 
 fn is_hinted_in_script<R: Wait>(rt: &R, alloc: Global, script: &str, hint: &str) -> Option<bool> {
-    let mut sink = Sink::new(alloc);
+    let mut sink: Vec<u8> = Vec::new(alloc);
     let mut output = Writing::new(&mut sink);
-    let mut input = Input::new(alloc, Reading::new(Source::new(script.as_bytes())));
+    let mut input = Input::new(alloc, Reading::new(script.as_bytes()));
     let end = run_io(rt, alloc, DEFAULTS, Format::One, &mut input, &mut output);
     let told = hint_at(end, &input, Dialect::Script, Format::One);
     Some(told.unwrap_or("") == hint)
@@ -177,9 +176,9 @@ fn faulty_transcripts_are_told_what_should_stand_there(rt: HostRuntime) {
 }
 
 fn is_hinted_in_transcript(alloc: Global, transcript: &str, hint: &str) -> Option<bool> {
-    let mut sink = Sink::new(alloc);
+    let mut sink: Vec<u8> = Vec::new(alloc);
     let mut output = Writing::new(&mut sink);
-    let mut input = Input::new(alloc, Reading::new(Source::new(transcript.as_bytes())));
+    let mut input = Input::new(alloc, Reading::new(transcript.as_bytes()));
     let end = check_io(alloc, &mut input, &mut output);
     let format = Format::of_transcript(input.beginning());
     let told = hint_at(end, &input, Dialect::Transcript, format);

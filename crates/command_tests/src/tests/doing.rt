@@ -1,7 +1,6 @@
 //! What the jobs of command lines write, and which exit status each leaves.
 
 use super::command_lines::{job_of_words, words_in};
-use super::devices::{Sink, Source};
 use command_line::{Input, command, done, hint_of, job_in};
 use sessions::{Reading, Writing};
 use std::alloc::Global;
@@ -120,8 +119,8 @@ fn is_done<R: Threads + Wait + Sync + Eprint>(
     let job = job_of_words(alloc, words)?;
     let mut text = Vec::new(alloc);
     text.extend_from_slice(seed.as_bytes()).ok()?;
-    let mut sink = Sink::new(alloc);
-    let mut source = Input::new(alloc, Reading::new(Source::new(input.as_bytes())));
+    let mut sink: Vec<u8> = Vec::new(alloc);
+    let mut source = Input::new(alloc, Reading::new(input.as_bytes()));
     let left = done(
         rt,
         alloc,
@@ -130,7 +129,7 @@ fn is_done<R: Threads + Wait + Sync + Eprint>(
         &mut source,
         &mut Writing::new(&mut sink),
     );
-    Some(left == ExitCode::from(status) && sink.taken.as_slice() == output.as_bytes())
+    Some(left == ExitCode::from(status) && sink.as_slice() == output.as_bytes())
 }
 
 /// Refused command lines, each with its hint, which is none where it is empty.
