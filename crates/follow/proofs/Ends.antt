@@ -1,5 +1,5 @@
 -- A follower that stopped, once what is kept was written.
-use Rattle.std.proofs.Common.{◌≡◌, ◌≢◌, ℕ, ◌+◌, Bool, List, [], ◌∷◌, ◌++◌, refl, sym, ap, ◌∙◌, subst, arith, append-nil, append_assoc, inl, inr}
+use Rattle.std.proofs.Common.{◌≡◌, ◌≢◌, ℕ, ◌+◌, Bool, List, [], ◌++◌, refl, sym, ap, ◌∙◌, subst, arith, append-nil, append_assoc, inl, inr}
 use Rattle.spans.specs.declared.calls.messages.Message.{Message}
 use Rattle.sessions.specs.Devices.{Reads, Writes}
 use Rattle.follow.specs.declared.ending.FollowEnd.{FollowEnd}
@@ -10,7 +10,7 @@ use Rattle.follow.specs.declared.fault.FollowError.TheVariants as errors
 use Rattle.follow.specs.Followed.{IsUnbegun}
 use Rattle.follow.specs.Following.{followed_at}
 use Rattle.follow.specs.Ends.{ComesBy, CouldBegin, EndsBy, FailsAt, HasLine, IsFollowed, IsOwed, last_line}
-use Rattle.follow.specs.Steps.{EndsWritten, IsOver, IsStopped, end_by}
+use Rattle.follow.specs.Steps.{EndsWritten, IsStopped, end_by}
 
 module _ (o : FollowOptions) (input : List ℕ) (ended : Bool) (ms : List Message) where
   -- all that is owed was written

@@ -10,7 +10,6 @@ use Rattle.text_format.specs.declared.Format.{Format}
 use Rattle.text_format.specs.Limits.{line_limit}
 use Rattle.spans.specs.declared.calls.messages.Message.{Message}
 use Rattle.spans.specs.Consumer.{ApplyFault, apply_fault}
-use Rattle.spans.specs.Consumer as consumer
 use Rattle.json_lines.specs.declared.fault.MessageFault.{MessageFault}
 use Rattle.json_lines.specs.Messages.{IsMessage, message_line}
 use Rattle.json_lines.specs.Tests.{message_at}
@@ -23,16 +22,11 @@ use Rattle.script.proofs.CutLines.{lines_alone, lines_first}
 use Rattle.sessions.specs.declared.lines.Lines.{Lines}
 use Rattle.sessions.specs.Waiting.{waiting, IsLine}
 use Rattle.sessions.proofs.Finding.{newline_stays, newline_comes, newline_lacks}
-use Rattle.replica.specs.declared.fault.Fault.{Fault}
-use Rattle.replica.specs.declared.fault.Fault.TheVariants as replica_faults
-use Rattle.replica.specs.Replicas.{test_of}
 use Rattle.follow.specs.declared.options.FollowOptions.{FollowOptions}
 use Rattle.follow.specs.Ends.{TakesNext}
-use Rattle.follow.specs.declared.fault.FollowFault.{FollowFault}
 use Rattle.follow.specs.declared.fault.FollowError.{FollowError}
-use Rattle.follow.specs.declared.fault.FollowError.TheVariants as errors
 use Rattle.follow.specs.Chosen.{is_taking_after}
-use Rattle.follow.specs.Followed.{start_of, is_chosen, error_of_line, error_of_replica}
+use Rattle.follow.specs.Followed.{start_of, is_chosen, error_of_line}
 use Rattle.follow.specs.Following.{Followed, chosen_at, said_by, line_at, taking_behind, error_of_test, stopped_at, followed_through, onto_followed, followed_step, followed_lines}
 use Rattle.follow.specs.Steps.{onto_taken}
 use Rattle.follow.proofs.MessagesRead.{line_is_message}

@@ -1,13 +1,10 @@
 -- What is told of messages, one behind the other.
-use Rattle.std.proofs.Common.{◌≡◌, ℕ, Bool, true, false, cond, inl, inr, List, [], ◌∷◌, ◌++◌, Option, Some, None, refl, sym, ap, ◌∙◌, subst, append-nil, append_assoc}
-use Rattle.std.specs.Prelude.{is_none, ◌&&◌, ◌-◌, ◌↔◌}
+use Rattle.std.proofs.Common.{◌≡◌, ℕ, inl, inr, List, [], ◌∷◌, ◌++◌, Option, Some, None, refl, sym, ap, ◌∙◌, subst, append-nil, append_assoc}
+use Rattle.std.specs.Prelude.{◌↔◌}
 use Rattle.std.specs.declared.cmp.Ordering.TheVariants.{Less}
 use Rattle.timestamps.specs.Bytes.{key_cmp}
 use Rattle.spans.specs.declared.calls.messages.Message.{Message}
 use Rattle.spans.specs.declared.calls.messages.Message.TheVariants as messages
-use Rattle.spans.specs.declared.span.Span.{Span}
-use Rattle.spans.specs.Completeness.{ready_after, is_new}
-use Rattle.spans.specs.Consumer.{ApplyFault, apply_fault}
 use Rattle.spans.specs.Keys.{IsPairIn, KeysRise}
 use Rattle.spans.specs.Serial.{Map}
 use Rattle.spans.proofs.Keyed.{key_clash}
@@ -16,8 +13,7 @@ use Rattle.replica.specs.Starts.{resolved_at}
 use Rattle.follow.specs.declared.options.FollowOptions.{FollowOptions}
 use Rattle.follow.specs.declared.options.Shown.{Shown}
 use Rattle.follow.specs.declared.options.Shown.TheVariants as shown
-use Rattle.follow.specs.Followed.{start_of}
-use Rattle.follow.specs.Reports.{IsTold, IsToldAt, IsMessageTold, AreTold, shown_before, named_after, resolved_by}
+use Rattle.follow.specs.Reports.{IsTold, IsToldAt, IsMessageTold, AreTold, named_after, resolved_by}
 use Rattle.follow.specs.Steps.{named_through}
 
 -- ---- rows that rise are determined by the map

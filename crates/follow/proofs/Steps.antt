@@ -1,6 +1,6 @@
 -- The steps of a follower.
 use Rattle.std.proofs.Common.{◌≡◌, ℕ, ◌+◌, ◌<◌, ◌≤◌, ◌⊎◌, Bool, true, cond, List, [], ◌∷◌, ◌++◌, length, take, drop, Option, Some, None, Ok, refl, sym, ap, ◌∙◌, subst, arith, append-nil, append_assoc, length-append, inl, inr}
-use Rattle.std.specs.Prelude.{◌≢◌, codes, position}
+use Rattle.std.specs.Prelude.{codes, position}
 use Rattle.std.proofs.lemmas.List.{length-take-le, take-append-drop}
 use Rattle.text_format.specs.declared.Format.{Format}
 use Rattle.spans.specs.declared.calls.messages.Message.{Message}
@@ -36,10 +36,10 @@ use Rattle.follow.specs.declared.fault.FollowError.TheVariants as errors
 use Rattle.follow.specs.declared.follower.Follower.{Follower}
 use Rattle.follow.specs.declared.telling.Telling.{Telling}
 use Rattle.follow.specs.Chosen.{is_taking_after}
-use Rattle.follow.specs.Followed.{start_of, is_chosen, error_of_replica}
+use Rattle.follow.specs.Followed.{start_of, error_of_replica}
 use Rattle.follow.specs.Following.{Followed, error_of_test, line_at, followed_at, followed_lines, followed_through, onto_followed, stopped_at}
 use Rattle.follow.specs.Reports.{IsFollowReport, IsToldAt, shown_before, resolved_by, named_with, unless_told}
-use Rattle.follow.specs.Ends.{StopAt, TakesNext, IsWanting, ComesBy, FailsAt}
+use Rattle.follow.specs.Ends.{StopAt, TakesNext, ComesBy, FailsAt}
 use Rattle.follow.specs.Taking.{HasRead, IsMisreadAt}
 use Rattle.follow.specs.Telling.{named_in, NamesKey, TellsAt}
 use Rattle.follow.specs.Steps.{onto_taken, named_through, ready_told, are_some, GoesBy, IsFollowing, HasReported, lines_ahead, message_ahead, IsAhead, IsHolding, IsGoing, IsOver, IsStopped, IsFresh, GoesOn, TakesMore, StopsWithLine, end_at, end_by}

@@ -1,4 +1,4 @@
-use Rattle.std.proofs.Common.{◌≡◌, ◌++◌, List, ℕ, ap}
+use Rattle.std.proofs.Common.{◌++◌, List, ℕ, ap}
 use Rattle.std.specs.List.{flat_map}
 use Rattle.word_lines.specs.Replies.{row_line}
 use Rattle.follow.proofs.Tellings.{added_more, added_all}

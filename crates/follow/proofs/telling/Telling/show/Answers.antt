@@ -1,4 +1,3 @@
-use Rattle.std.proofs.Common.{Result}
 use Rattle.replica.specs.Replicas.{view_in}
 use Rattle.follow.proofs.Tellings.{if_ok, shows_listed}
 use Rattle.follow.proofs.telling.Telling.show.Goals as goal
