@@ -59,7 +59,7 @@ typedef struct {
 #define RIPSAWBEAN_VERSION 0x000100
 #define RIPSAWBEAN_ABI 0
 
-#define RIPSAWBEAN_MAX_RING 65536                        // rows that a feed keeps at hand; 1 is the least, 1024 serves most
+#define RIPSAWBEAN_MAX_RING 65536                        // of the ring, which has no effect; 1 is the least
 #define RIPSAWBEAN_MAX_TIMESTAMP UINT64_C(9223372036854775807) // above it a command is answered "tsrange", with RIPSAWBEAN_OK
 #define RIPSAWBEAN_NONE UINT64_MAX                       // where there is no timestamp to tell
 
@@ -122,8 +122,8 @@ enum {
 // The version of the library: 65536 times the first of its three numbers, 256 times the second, and the third.
 uint32_t ripsawbean_version(void);
 
-// Opens a closed handle on a new and empty database, of which each feed keeps up to `ring` rows at hand. No answer
-// depends on the ring; a feed that has more to tell looks the rest up.
+// Opens a closed handle on a new and empty database. The ring is how many rows a feed once kept at hand. It has no effect
+// any more.
 //
 //     RIPSAWBEAN_OK        it is open
 //     RIPSAWBEAN_RING      whatever the handle is; tested first

@@ -88,7 +88,7 @@ class Library {
     this.#length = this.room(SIZE_OF_LENGTH);
   }
 
-  /** A new and empty database. Each feed keeps up to `ring` rows at hand, 1 to 65536; no answer depends on it. */
+  /** A new and empty database. `ring` is 1 to 65536, and has no effect. */
   open(ring = 1024) {
     return new Database(this, ring);
   }

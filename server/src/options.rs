@@ -71,7 +71,7 @@ pub const LONGEST_ROW: u64 = 17 + 256 + 65_536;
 
 const TABLE: [Row; 38] = [
     whole("port", 7077, 0, 65535, "the port; 0 takes a free one, which the first line of the output names"),
-    whole("ring", 1024, 1, 65536, "rows that each feed keeps at hand; no answer depends on it"),
+    whole("ring", 1024, 1, 65536, "without effect: feeds once kept so many rows at hand"),
     whole("max-lag", 1_000_000, 1, MOST, "rows closed above a reader beyond which nothing is held for it any longer"),
     whole("max-lag-bytes", 1 << 30, 1, MOST, "bytes of the lines that wrote them, beyond which the same holds"),
     whole("ahead", 1_000_000, 1, MOST, "how far above all others an explicit timestamp may lie"),

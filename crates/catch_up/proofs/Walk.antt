@@ -15,7 +15,7 @@ use Rattle.version_chain.specs.declared.chain.Version.{Version}
 use Rattle.version_chain.specs.Chains.{Entry}
 use Rattle.version_chain.specs.Following.{IsFirstAfter, IsLeft, IsNoneAfter, Walk, is_after_place, is_before}
 use Rattle.version_chain.specs.Stores.{Stored}
-use Rattle.catch_up.specs.Left.{AreLeftIn, AreNextIn, IsLeftIn}
+use Rattle.catch_up.specs.Left.{AreLeftIn, AreNextIn, IsLeftIn, IsPast}
 use Rattle.version_chain.proofs.Order.{after_trans, before_itself, before_neither}
 use Rattle.catch_up.proofs.Gathered.{are_left}
 
@@ -184,6 +184,16 @@ walk_joins s span ts key through n t x missing rows rows' more walked next joine
     moved : (r : Row) → IsRowIn r next.all → IsRowIn r walked.rest
     moved r i = (walked.left.each r).1 ((next.left.each r).0 i)
 
+-- ---- where nothing can be left
+
+-- no version is both later and low
+pub none_past : (s : Stored) (span : Span) (ts : ℕ) (key : Option (List ℕ)) (through n : ℕ) (rows : List Row) → IsPast ts key through → rows ≡ [] → AreNextIn s span ts key through n rows
+none_past s span ts key through n rows past empty = record {
+  all = [];
+  left = record { rising = tt; each = λ r. (λ i. absurd i, λ h. absurd (both_ways _ (past r.key r.ts h.low) h.later)) };
+  first = empty ∙ take_all n [] (omega arith);
+}
+
 -- ---- along the store's committed versions
 
 -- rows are those before the place of a walk over them
@@ -194,6 +204,10 @@ pub record IsWalking (s : Stored) (span : Span) (ts : ℕ) (key : Option (List �
 
 pub begins_walking : (s : Stored) (span : Span) (ts : ℕ) (key : Option (List ℕ)) (through n : ℕ) → IsWalking s span ts key through n (record { store = s; ts = ts; key = key; through = through }) n []
 begins_walking s span ts key through n = record { store = refl; far = refl; walked = walk_begins s span ts key through n }
+
+-- a walk that goes on
+pub begins_at : (s : Stored) (span : Span) (w : Walk) (through n : ℕ) → w.store ≡ s → w.through ≡ through → IsWalking s span w.ts w.key through n w n []
+begins_at s span w through n store far = record { store = store; far = far; walked = walk_begins s span w.ts w.key through n }
 
 pub goes_on_walking : (s : Stored) (span : Span) (ts : ℕ) (key : Option (List ℕ)) (through n : ℕ) (w w' : Walk) (missing missing' : ℕ) (rows rows' : List Row) (y : List ℕ) (v : Version) → IsWalking s span ts key through n w missing rows
     → IsFirstAfter w.store w.ts w.key w.through y v → w' ≡ record w { ts = v.ts; key = Some y } → IsTold span y v missing missing' rows rows' ⊎ IsOutside span y missing missing' rows rows' → IsWalking s span ts key through n w' missing' rows'

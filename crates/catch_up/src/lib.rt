@@ -1,9 +1,9 @@
 //! The committed rows that a feed is told next, looked up in the store. `feed` is the caller.
 //!
-//! A feed whose ring could not keep up reads its rows from the versions. [`next_rows`] gives the first `n` committed
-//! rows of a span after a place and at or below a timestamp, by timestamp and then by key. A feed that begins with a
-//! snapshot first tells that, by [`next_snapshot`]: the first `n` keys of a span after a key that have a value at a
-//! timestamp, as rows at that timestamp.
+//! Each poll of a feed reads its rows from the versions. [`next_rows`] gives the first `n` committed rows of a span after
+//! a place and at or below a timestamp, by timestamp and then by key. A feed that begins with a snapshot first tells
+//! that, by [`next_snapshot`]: the first `n` keys of a span after a key that have a value at a timestamp, as rows at that
+//! timestamp.
 //!
 //! ```text
 //!  versions  5 a*   8 a*   8 b*   9 c   12 a*        a star marks a committed version
@@ -19,12 +19,14 @@
 //! - The chains of the span's keys have the span's versions alone. A wide span has many chains to look at before its
 //!   first row.
 //!
-//! [`next_rows`] walks the index, and turns to the chains once it has made more steps than the span has keys.
+//! [`next_rows`] walks the index. From its 16th step on it counts a key of the span with each, and turns to the chains
+//! once there is none left. Where nothing can come after the place it searches nothing.
 //!
 //! Costs, in searches of the store, each O(log n) for n keys and timestamps:
 //!
-//! - `next_rows`: four, and one of a chain for each row told, plus the smaller of: one of a chain for each version of
-//!   other spans in between; two for each key of the span
+//! - `next_rows`: none where the place is at or above the timestamp. Else three, and one of a chain for each row told, plus
+//!   the smaller of: one of a chain for each version of other spans in between; 16 of these, and two for each key of the
+//!   span
 //! - `next_snapshot`: one for the first key, and one of a chain for each key from there to the last that is told, or to
 //!   the span's end where fewer are found than are wanted
 //! - a version that isn't committed: one more, where it is passed

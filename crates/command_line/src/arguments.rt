@@ -94,8 +94,7 @@ fn first<'a>(alloc: Global) -> Arg<'a> {
 }
 
 fn ring<'a>(alloc: Global) -> Arg<'a> {
-    let help =
-        "How many rows a feed keeps at hand, 1 to 65536; no answer depends on it [default: 1024]";
+    let help = "1 to 65536, without effect: feeds once kept so many rows [default: 1024]";
     option(alloc, "ring", "N", help).value_parser(value_parser!(u32).range(1..=65536))
 }
 

@@ -57,14 +57,15 @@ pub enum CallError {
 }
 
 impl Database {
-    /// A database with no event, whose feeds hold up to `ring` rows each, 1 to 65536.
+    /// A database with no event. The length of rings, 1 to 65536, has no effect: feeds have none.
     pub fn new(alloc: Global, ring: u32) -> Database
         requires { (1 ≤ ring) × (ring ≤ 65536) }
         ensures { StandsFor result [] }
     {
+        let _ = ring;
         Database {
             alloc,
-            engine: Engine::new(alloc, ring),
+            engine: Engine::new(alloc),
             last: None,
             text: Vec::new(alloc),
         }

@@ -1,8 +1,8 @@
 -- What follows from a history for what is held.
-use Rattle.std.proofs.Common.{List, arith, refl, ℕ, ◌+◌, ◌<◌, ◌∷◌}
+use Rattle.std.proofs.Common.{List, arith, ℕ, ◌+◌, ◌<◌, ◌∷◌}
 use Rattle.std.proofs.Math.Logic.{∥∥₁_elim, ∥∥₁_map}
 use Rattle.std.proofs.Props.{props}
-use Rattle.spans.specs.Effects.{effect, effects_of, event}
+use Rattle.spans.specs.Effects.{effects_of, event}
 use Rattle.feed.specs.Standing.{opened_in}
 use Rattle.spans.specs.declared.calls.events.Event.{Event}
 use Rattle.spans.proofs.Histories.{made_at_most, effect_count, opened_at_most}
@@ -11,8 +11,6 @@ use Rattle.kept.specs.Answered.{IsStep}
 use Rattle.kept.proofs.Answering.{step_stands}
 use Rattle.spans.specs.declared.calls.commands.Cmd.{Cmd}
 use Rattle.spans.specs.declared.calls.replies.Reply.{Reply}
-use Rattle.engine.specs.Served.{AreServing, IsServed}
-use Rattle.engine.proofs.Serving.{served_by, serving, serving_stands}
 use Rattle.engine.specs.declared.layers.Layers.{Layers}
 
 pub has_room : (e : Layers) (steps : ℕ) → ∥ HasHistory e steps ∥₁ → steps < 18446744073709551615 → (kept_of e).protections_made < 18446744073709551615
@@ -22,15 +20,11 @@ pub has_number : (e : Layers) (steps : ℕ) → ∥ HasHistory e steps ∥₁ �
 has_number e steps some low = ∥∥₁_elim some (hlevel props) (λ h. omega (arith, opened_at_most (effects_of h.0), effect_count h.0, h.1.counted, h.1.kept.fits.opened))
 
 -- a step leads on
-pub history_step : (e e' : Layers) (steps : ℕ) (h : List Event) (n seat : ℕ) (cmd : Cmd) (r : Reply) → StandsFor e steps h → (AreServing e → IsStep (kept_of e) (kept_of e') seat cmd r) → (AreServing e → IsServed e e' seat cmd r) → StandsFor e' (steps + 1) (event n seat cmd r ∷ h)
-history_step e e' steps h n seat cmd r is step served =
-    let told = serving e h is.kept is.rings in
-    let stands = step_stands (kept_of e) (kept_of e') h n seat cmd r is.kept (step told) in
-    record {
-      kept = stands;
-      counted = omega (arith, is.counted);
-      rings = serving_stands e e' h (event n seat cmd r) (effect seat cmd r) is.kept stands stands.legal.0 refl (served_by e e' seat cmd r (served told)) is.rings;
-    }
+pub history_step : (e e' : Layers) (steps : ℕ) (h : List Event) (n seat : ℕ) (cmd : Cmd) (r : Reply) → StandsFor e steps h → IsStep (kept_of e) (kept_of e') seat cmd r → StandsFor e' (steps + 1) (event n seat cmd r ∷ h)
+history_step e e' steps h n seat cmd r is step = record {
+  kept = step_stands (kept_of e) (kept_of e') h n seat cmd r is.kept step;
+  counted = omega (arith, is.counted);
+}
 
-pub goes_on : (e e' : Layers) (steps seat : ℕ) (cmd : Cmd) (r : Reply) → (AreServing e → IsStep (kept_of e) (kept_of e') seat cmd r) → (AreServing e → IsServed e e' seat cmd r) → ∥ HasHistory e steps ∥₁ → ∥ HasHistory e' (steps + 1) ∥₁
-goes_on e e' steps seat cmd r step served some = ∥∥₁_map some (λ h. (event 0 seat cmd r ∷ h.0, history_step e e' steps h.0 0 seat cmd r h.1 step served))
+pub goes_on : (e e' : Layers) (steps seat : ℕ) (cmd : Cmd) (r : Reply) → IsStep (kept_of e) (kept_of e') seat cmd r → ∥ HasHistory e steps ∥₁ → ∥ HasHistory e' (steps + 1) ∥₁
+goes_on e e' steps seat cmd r step some = ∥∥₁_map some (λ h. (event 0 seat cmd r ∷ h.0, history_step e e' steps h.0 0 seat cmd r h.1 step))

@@ -1,6 +1,4 @@
 pub mod FeedReplies
-pub mod Released
-pub mod Serving
 pub mod Histories
 pub mod OpeningReplies
 pub mod Replies

@@ -15,8 +15,6 @@ use Rattle.spans.proofs.Refusals.{none_met, first_met}
 use Rattle.kept.specs.Answered.{IsAnswered, IsWanting}
 use Rattle.kept.specs.Changes.{IsAlike, IsOpenedAt}
 use Rattle.kept.specs.Replies.{kept_opening_tests, open_reply}
-use Rattle.engine.specs.Served.{IsOpenedIn, IsServed, IsUnserved}
-use Rattle.engine.specs.declared.layers.Layers.{Layers}
 
 abbrev AreOff : List (Bool × Refusal) → Type 0
 AreOff [] = Unit {0}
@@ -59,22 +57,3 @@ module _ (k k' : Kept) (seat : ℕ) (span : Span) (cursor : ℕ) where
 
   pub open_wanting : (kind : Kind) → first_refusal (kept_opening_tests kind k cursor) ≡ None → IsAlike k k' → IsWanting k k' seat (open_cmd kind span cursor)
   open_wanting kind none alike = wanting_as kind.initial kind.gap (suc k.feeds_opened) (sym (none_met (kept_opening_tests kind k cursor) (Opened (suc k.feeds_opened)) none)) alike
-
-module _ (e e' : Layers) (seat : ℕ) (span : Span) (cursor : ℕ) where
-  unserved_as : (i : Bool) (g : Option ℕ) (q : Refusal) → IsUnserved e e' → IsServed e e' seat (open_cmd (kind_of i g) span cursor) (Refused q)
-  unserved_as false None q same = same
-  unserved_as true None q same = same
-  unserved_as false (Some gap) q same = same
-  unserved_as true (Some gap) q same = same
-
-  served_as : (i : Bool) (g : Option ℕ) (f : ℕ) → IsOpenedIn e e' f (kind_of i g) cursor → IsServed e e' seat (open_cmd (kind_of i g) span cursor) (Opened f)
-  served_as false None f opened = opened
-  served_as true None f opened = opened
-  served_as false (Some gap) f opened = opened
-  served_as true (Some gap) f opened = opened
-
-  pub open_unserved : (kind : Kind) (q : Refusal) → IsUnserved e e' → IsServed e e' seat (open_cmd kind span cursor) (Refused q)
-  open_unserved kind q same = unserved_as kind.initial kind.gap q same
-
-  pub open_served : (kind : Kind) (f : ℕ) → IsOpenedIn e e' f kind cursor → IsServed e e' seat (open_cmd kind span cursor) (Opened f)
-  open_served kind f opened = served_as kind.initial kind.gap f opened

@@ -1,10 +1,9 @@
 -- What an engine stands for.
-use Rattle.std.specs.Prelude.{Bool, List, Option, ℕ, ◌≡◌}
+use Rattle.std.specs.Prelude.{List, ℕ, ◌≡◌}
 use Rattle.spans.specs.declared.calls.events.Event.{Event}
 use Rattle.spans.specs.Effects.{effects_of}
 use Rattle.spans.specs.Transactions.{closed_of}
 use Rattle.closing.specs.Standing.{closed_in}
-use Rattle.feed.specs.Standing.{behind_in}
 use Rattle.mvto_rules.specs.Holding.{closing_of}
 use Rattle.engine.specs.Layers as layers
 use Rattle.engine.specs.declared.Engine.{Engine}
@@ -15,10 +14,6 @@ steps_of e = e.steps
 
 abbrev pub closed_timestamp : Engine → ℕ
 closed_timestamp e = closed_in (closing_of e.layers.rules)
-
--- whether a feed is served from the store, as the feeds themselves say it; none where it doesn't live
-abbrev pub behind_of : Engine → ℕ → Option Bool
-behind_of e f = behind_in e.layers.feeds f
 
 -- the engine holds what is kept of a legal history, whose newest event stands first
 abbrev pub StandsFor : Engine → List Event → Type 0

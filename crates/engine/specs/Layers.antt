@@ -1,11 +1,9 @@
 -- What the layers of an engine hold, as what is kept of a history.
 use Rattle.std.specs.Prelude.{List, length, ℕ, ◌≡◌}
-use Rattle.spans.specs.Effects.{effects_of}
 use Rattle.spans.specs.Kept.{Kept}
 use Rattle.spans.specs.declared.calls.events.Event.{Event}
-use Rattle.kept.specs.Rings.{AreRings}
 use Rattle.kept.specs.StandsFor as keeping
-use Rattle.feed.specs.Standing.{Standing, is_behind, opened_in, place_in, ring_of}
+use Rattle.feed.specs.Standing.{Standing, opened_in, place_in}
 use Rattle.mvto_rules.specs.Holding.{holding}
 use Rattle.engine.specs.declared.layers.Layers.{Layers}
 
@@ -17,11 +15,10 @@ feeds_of s = record keeping.nothing_kept { feed = place_in s; feeds_opened = ope
 abbrev pub kept_of : Layers → Kept
 kept_of e = holding (feeds_of e.feeds) e.rules
 
--- the layers hold what is kept of a legal history of so many events, and the rings are those of it
+-- the layers hold what is kept of a legal history of so many events
 pub record StandsFor (e : Layers) (steps : ℕ) (h : List Event) : Type 0 where
   pub kept : keeping.StandsFor (kept_of e) h
   pub counted : steps ≡ length h
-  pub rings : AreRings (ring_of e.feeds) (is_behind e.feeds) (effects_of h)
 
 -- of some history
 abbrev pub HasHistory : Layers → ℕ → Type 0

@@ -1,5 +1,4 @@
 pub mod Layers
-pub mod Served
 pub mod Engine
 pub mod Runs
 pub mod Looking

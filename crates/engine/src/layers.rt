@@ -1,5 +1,5 @@
 //! The layers that an engine stands on, and which of them answers a command.
-ghost use Rattle.std.specs.Prelude.{None, ◌≡◌, ◌<◌, ℕ};
+ghost use Rattle.std.specs.Prelude.{◌≡◌, ◌<◌};
 ghost use Rattle.kept.specs.StandsFor.{nothing_kept};
 ghost use Rattle.kept.specs.Changes.{IsAlike};
 ghost use Rattle.closing.specs.Standing.{closed_in};
@@ -22,17 +22,15 @@ pub(crate) struct Layers {
 
 impl Layers {
     ghost use Rattle.engine.specs.Layers.{kept_of};
-    ghost use Rattle.engine.specs.Served.{AreServing, IsServed};
-    ghost use Rattle.feed.specs.Standing.{behind_in, live_in, opened_in};
+    ghost use Rattle.feed.specs.Standing.{opened_in};
 
     /// Nothing has happened.
-    pub(crate) fn new(alloc: Global, ring: u32) -> Layers
-        ensures kept { IsAlike nothing_kept (kept_of result) }
-        ensures feeds { (f : ℕ) → live_in result.feeds f ≡ None }
+    pub(crate) fn new(alloc: Global) -> Layers
+        ensures { IsAlike nothing_kept (kept_of result) }
     {
         Layers {
             rules: Rules::new(alloc),
-            feeds: Feeds::new(alloc, ring as usize),
+            feeds: Feeds::new(alloc),
         }
     }
 
@@ -43,19 +41,11 @@ impl Layers {
         self.rules.closed()
     }
 
-    /// Whether a feed is served from the store, if it lives.
-    pub(crate) fn behind(&self, feed: u64) -> Option<bool>
-        ensures { result ≡ behind_in self.now.feeds feed }
-    {
-        self.feeds.behind(feed)
-    }
-
     /// Answers a seat's command.
     pub(crate) fn step(&mut self, seat: u8, cmd: &Cmd) -> Reply
         requires number { opened_in self.old.feeds < 18446744073709551615 }
         requires room { (kept_of self.old).protections_made < 18446744073709551615 }
-        ensures step { AreServing self.old → IsStep (kept_of self.old) (kept_of self.new) seat cmd.now result }
-        ensures served { AreServing self.old → IsServed self.old self.new seat cmd.now result }
+        ensures { IsStep (kept_of self.old) (kept_of self.new) seat cmd.now result }
     {
         match cmd {
             Cmd::Begin { ts } => self.rules.begin(seat, *ts),
@@ -65,8 +55,8 @@ impl Layers {
             Cmd::Del { ts, key } => self.rules.write(seat, *ts, key, None),
             Cmd::Commit { ts } => self.rules.commit(seat, *ts),
             Cmd::Abort { ts } => self.rules.abort(seat, *ts),
-            Cmd::Close { to } => self.close(seat, *to),
-            Cmd::CloseHard { to } => self.close_hard(seat, *to),
+            Cmd::Close { to } => self.rules.close(*to),
+            Cmd::CloseHard { to } => self.rules.close_hard(*to),
             Cmd::ReadAt { t, key } => self.rules.read_at(*t, key),
             Cmd::ScanAt { t, span } => self.rules.scan_at(*t, span),
             Cmd::Protect { t } => self.rules.protect(*t),

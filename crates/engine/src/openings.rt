@@ -14,18 +14,15 @@ use timestamps::ts::MAX;
 
 impl Layers {
     ghost use Rattle.engine.specs.Layers.{kept_of};
-    ghost use Rattle.engine.specs.Served.{IsServed};
 
     pub(crate) fn open_feed(&mut self, seat: u8, kind: Kind, span: &Span, cursor: u64) -> Reply
         requires { opened_in self.old.feeds < 18446744073709551615 }
-        ensures step { IsStep (kept_of self.old) (kept_of self.new) seat (open_cmd kind span.now cursor) result }
-        ensures served { IsServed self.old self.new seat (open_cmd kind span.now cursor) result }
+        ensures { IsStep (kept_of self.old) (kept_of self.new) seat (open_cmd kind span.now cursor) result }
     {
         if let Some(refusal) = self.opening_refusal(kind, cursor) {
             return Reply::Refused(refusal);
         }
-        let closed = self.rules.closed();
-        match self.feeds.open(seat, kind, span, cursor, closed) {
+        match self.feeds.open(seat, kind, span, cursor) {
             Ok(feed) => Reply::Opened { feed },
             Err(_) => Reply::Refused(Refusal::NoMemory),
         }

@@ -10,11 +10,9 @@ use spans::calls::{Refusal, Reply};
 
 impl Layers {
     ghost use Rattle.engine.specs.Layers.{kept_of};
-    ghost use Rattle.engine.specs.Served.{AreServing, IsServed};
 
     pub(crate) fn poll(&mut self, seat: u8, feed: u64, max: u64) -> Reply
-        ensures step { AreServing self.old → IsStep (kept_of self.old) (kept_of self.new) seat (Poll feed max) result }
-        ensures served { AreServing self.old → IsServed self.old self.new seat (Poll feed max) result }
+        ensures { IsStep (kept_of self.old) (kept_of self.new) seat (Poll feed max) result }
     {
         let closed = self.rules.closed();
         let versions = self.rules.versions();
@@ -38,8 +36,7 @@ impl Layers {
     }
 
     pub(crate) fn cancel(&mut self, seat: u8, feed: u64) -> Reply
-        ensures step { IsStep (kept_of self.old) (kept_of self.new) seat (Cancel feed) result }
-        ensures served { IsServed self.old self.new seat (Cancel feed) result }
+        ensures { IsStep (kept_of self.old) (kept_of self.new) seat (Cancel feed) result }
     {
         let Some(_) = self.feeds.seat(feed) else {
             return Reply::Refused(self.feed_refusal(feed));

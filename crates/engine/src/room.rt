@@ -14,7 +14,7 @@ ghost use Rattle.std.specs.Prelude.{List, IfOk, OnErr, ◌≡◌};
 ghost use Rattle.std.specs.Option.{option_copied};
 ghost use Rattle.closing.specs.Standing.{closed_in};
 ghost use Rattle.feed.specs.Room.{IsFeedCount};
-ghost use Rattle.feed.specs.Standing.{live_in};
+ghost use Rattle.feed.specs.Standing.{place_in};
 ghost use Rattle.mvto_rules.specs.Holding.{closing_of, versions_of};
 ghost use Rattle.mvto_rules.specs.Room.{IsEnd};
 ghost use Rattle.spans.specs.Effects.{effects_of};
@@ -41,7 +41,7 @@ impl Engine {
     }
 
     /// How many of a feed's next messages, at most `max`, find room in `bytes` bytes: `max` where all of them do, and 0
-    /// where it doesn't live. It takes memory for messages that it looks for in the store.
+    /// where it doesn't live. It takes memory for the messages that it looks at.
     pub fn poll_count(&self, feed: u64, max: u64, bytes: u64) -> Result<u64, AllocError>
         ensures { (h : List Event) → StandsFor self.now h → IfOk result (λ n. n ≡ poll_count (effects_of h) feed max bytes) }
     {
@@ -107,7 +107,7 @@ impl Layers {
 
     /// How many of a feed's next messages find room.
     pub(crate) fn poll_count(&self, feed: u64, max: u64, bytes: u64) -> Result<u64, AllocError>
-        ensures { IfOk result (IsFeedCount (versions_of self.now.rules) (closed_in (closing_of self.now.rules)) max bytes (live_in self.now.feeds feed)) }
+        ensures { IfOk result (IsFeedCount (versions_of self.now.rules) (closed_in (closing_of self.now.rules)) max bytes (place_in self.now.feeds feed)) }
     {
         let closed = self.rules.closed();
         self.feeds

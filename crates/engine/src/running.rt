@@ -15,19 +15,14 @@ impl Engine {
     ///
     /// Positions run from 0. Only the room of the events can be refused, and it is asked for before the
     /// engine is made.
-    pub fn run(
-        alloc: Global,
-        calls: Vec<(u8, Cmd)>,
-        ring: u32,
-    ) -> Result<(Engine, Vec<Event>), AllocError>
-        requires { (1 ≤ ring) × (ring ≤ 65536) }
+    pub fn run(alloc: Global, calls: Vec<(u8, Cmd)>) -> Result<(Engine, Vec<Event>), AllocError>
         ensures history { IfOk result (λ r. StandsFor r.0 (reverse r.1.items)) }
         ensures positions { IfOk result (λ r. IsGapless 0 r.1.items) }
         ensures calls { IfOk result (λ r. map call_of r.1.items ≡ calls.items) }
         ensures none { vec_len calls ≡ 0 → IsOk result }
     {
         let events = Vec::with_capacity(alloc, calls.len())?;
-        Ok(Engine::run_in(events, alloc, calls, ring))
+        Ok(Engine::run_in(events, alloc, calls))
     }
 
     /// The same, where an empty list has room for the event of each call: then nothing can be refused.
@@ -35,16 +30,14 @@ impl Engine {
         mut events: Vec<Event>,
         alloc: Global,
         calls: Vec<(u8, Cmd)>,
-        ring: u32,
     ) -> (Engine, Vec<Event>)
-        requires ring { (1 ≤ ring) × (ring ≤ 65536) }
         requires empty { events.items ≡ [] }
         requires room { vec_len events + vec_len calls ≤ vec_capacity events }
         ensures history { StandsFor result.0 (reverse result.1.items) }
         ensures positions { IsGapless 0 result.1.items }
         ensures calls { map call_of result.1.items ≡ calls.items }
     {
-        let mut engine = Engine::new(alloc, ring);
+        let mut engine = Engine::new(alloc);
         for (seat, cmd) in calls {
             let event = engine.event(seat, cmd);
             let Ok(()) = events.push(event) else {

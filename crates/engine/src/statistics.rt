@@ -7,11 +7,9 @@ use spans::calls::Reply;
 
 impl Layers {
     ghost use Rattle.engine.specs.Layers.{kept_of};
-    ghost use Rattle.engine.specs.Served.{IsUnserved};
 
     pub(crate) fn stats(&mut self, seat: u8) -> Reply
-        ensures step { IsStep (kept_of self.old) (kept_of self.new) seat Stats result }
-        ensures same { IsUnserved self.old self.new }
+        ensures { IsStep (kept_of self.old) (kept_of self.new) seat Stats result }
     {
         Reply::Stats {
             versions: self.rules.version_count(),

@@ -1,7 +1,7 @@
 -- A feed that is served from the store.
-use Rattle.std.proofs.Common.{Bool, List, None, Option, Some, [], ap, arith, false, length, map, max, min, refl, subst, sym, take, true, zero, suc, ℕ, ◌+◌, ◌-◌, ◌<◌, ◌&&◌, ◌==◌, ◌≡◌, ◌++◌, ◌∷◌, ◌∙◌}
+use Rattle.std.proofs.Common.{List, None, Option, Some, [], ap, arith, false, length, max, min, refl, subst, sym, take, true, zero, suc, ℕ, ◌+◌, ◌-◌, ◌<◌, ◌&&◌, ◌==◌, ◌≡◌, ◌++◌, ◌∷◌, ◌∙◌}
 use Rattle.std.specs.Prelude.{nat_lt}
-use Rattle.std.proofs.lemmas.Bool.{and_from, and_parts, both_ways, lt-ltb, ltb-true, or_left}
+use Rattle.std.proofs.lemmas.Bool.{and_from, and_parts, lt-ltb, ltb-true, or_left}
 use Rattle.std.proofs.lemmas.Bool.Decides.{nat_tests}
 use Rattle.timestamps.specs.declared.row.Row.{Row}
 use Rattle.spans.specs.KeyOrder.{key_lt}
@@ -16,12 +16,8 @@ use Rattle.catch_up.specs.Left.{AreNextIn}
 use Rattle.feed.specs.Firsts.{AreNextFirstsAt, AreNextStoredAt, IsLeftAt, IsNoneLeft, is_row_above, key_at}
 use Rattle.spans.specs.Collection.{VersionName}
 use Rattle.spans.specs.Consumer.{is_after_name, name_lt}
-use Rattle.spans.specs.declared.calls.messages.Message.{Message}
-use Rattle.spans.specs.declared.calls.messages.Message.TheVariants as messages
-use Rattle.feed.specs.Live.{Live}
 use Rattle.feed.specs.Standing.{AreNextAt}
-use Rattle.feed.specs.Telling.{AreRowsTold}
-use Rattle.std.proofs.lemmas.List.{length-take, take-map, take-take}
+use Rattle.std.proofs.lemmas.List.{length-take}
 
 -- the stored rows after a place's last row, from the cursor on, are those that are left for the feed
 pub stored_next : (s : Stored) (place : Place) (through n ts : ℕ) (key : Option (List ℕ)) (rows : List Row) → ((r : Row) → (nat_lt (max place.after place.cursor) r.ts && is_after_name place.row r) ≡ is_after_place ts key r.key r.ts)
@@ -111,23 +107,4 @@ both_next s place through n room firsts stored rows f is st both = record {
       let long : length firsts ≡ min n (length f.all) = ap length f.first ∙ length-take n f.all in
       let rest : room ≡ n - length f.all = omega arith in
       both ∙ ap (λ l. l ++ stored) f.first ∙ ap (λ l. take n f.all ++ l) (st.first ∙ ap (λ m. take m st.all) rest) ∙ take_both n f.all st.all;
-}
-
--- one more than the most that are told shows whether more are left
-more_is : (n most : ℕ) (got all : List Row) → got ≡ take n all → n ≡ min (most + 1) 18446744073709551615 → length got < 9223372036854775808 → nat_lt most (length got) ≡ nat_lt most (length all)
-more_is n most got all is one small =
-    let long : length got ≡ min n (length all) = ap length is ∙ length-take n all in
-    by_test (nat_lt most (length all))
-    (λ on. let l : most < length all = ltb-true most (length all) on in let g : most < length got = omega arith in lt-ltb most (length got) g ∙ sym on)
-    (λ off. by_test (nat_lt most (length got))
-    (λ on. let g : most < length got = ltb-true most (length got) on in let l : most < length all = omega arith in absurd (both_ways _ off (lt-ltb most (length all) l)))
-    (λ off'. off' ∙ sym off))
-
--- the rows of a feed that is served from the store
-pub told_of_store : (store : Stored) (l : Live) (closed most n : ℕ) (got : List Row) (ms : List Message) (more : Bool) → l.behind ≡ true → AreNextAt store l.place closed n got → n ≡ min (most + 1) 18446744073709551615 → most < 18446744073709551616 → length got < 9223372036854775808
-    → ms ≡ map messages.Row (take most got) → more ≡ nat_lt most (length got) → AreRowsTold store l closed most ms more
-told_of_store store l closed most n got ms more is next one fits small rows more_so = record {
-  rows = next.all;
-  left = record { ring = λ isnt. absurd (both_ways _ isnt is); stored = λ on. (next.left, more_so ∙ more_is n most got next.all next.first one small) };
-  first = rows ∙ ap (map messages.Row) (ap (take most) next.first ∙ take-take most n next.all (omega arith)) ∙ sym (take-map messages.Row most next.all);
 }

@@ -7,8 +7,7 @@ use Rattle.std.proofs.lemmas.Bool.{both_ways, eq-eqb, eqb-true}
 use Rattle.std.proofs.lemmas.Map.Entries.{length-keys_of}
 use Rattle.spans.proofs.Members.{AreDistinct, Has}
 use Rattle.spans.proofs.Steps.{by_test}
-use Rattle.feed.specs.Standing.{IsCountOf}
-use Rattle.feed.specs.Changes.{Lives}
+use Rattle.feed.specs.Standing.{IsCountOf, Lives}
 
 apart : (f : ℕ) (fs : List ℕ) → AllByRecursion (λ g. nat_eq f g ≡ false) fs → Has f fs → ⊥
 apart f [] all i = i

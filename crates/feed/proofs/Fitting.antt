@@ -2,11 +2,11 @@
 use Rattle.std.proofs.Common.{List, [], ap, arith, false, length, refl, suc, sym, take, true, zero, ℕ, ◌-◌, ◌<◌, ◌∙◌, ◌∷◌, ◌≡◌, ◌≤◌}
 use Rattle.std.specs.Prelude.{nat_le, nat_lt}
 use Rattle.std.proofs.lemmas.Bool.Decides.{nat_tests}
+use Rattle.spans.specs.Kept.{Place}
 use Rattle.spans.specs.declared.calls.messages.Message.{Message}
 use Rattle.spans.proofs.Steps.{by_test}
 use Rattle.kept.specs.Replies.{messages_left}
 use Rattle.version_chain.specs.Stores.{Stored}
-use Rattle.feed.specs.Live.{Live}
 use Rattle.feed.specs.Room.{IsCountLeft, count_or, count_within, message_weight}
 use Rattle.feed.specs.Telling.{IsTold}
 use Rattle.feed.specs.declared.live.telling.Told.{Told}
@@ -41,9 +41,9 @@ counts_short bytes max chunk xs low few =
     sym same ∙ short_of max bytes (take max xs) (omega (arith, same, more, few))
 
 -- what was told says how many find room
-pub left_short : (store : Stored) (l : Live) (closed chunk max bytes count : ℕ) (told : Told) → IsTold store l closed chunk told → chunk ≤ max → count ≡ count_within bytes told.messages.items → count < length told.messages.items → IsCountLeft store closed max bytes l count
-left_short store l closed chunk max bytes count told is low counted few = record {
+pub left_short : (store : Stored) (place : Place) (closed chunk max bytes count : ℕ) (told : Told) → IsTold store place closed chunk told → chunk ≤ max → count ≡ count_within bytes told.messages.items → count < length told.messages.items → IsCountLeft store closed max bytes place count
+left_short store place closed chunk max bytes count told is low counted few = record {
   rows = is.rows;
-  left = record { ring = λ off. (is.left.ring off).0; stored = λ on. (is.left.stored on).0 };
-  count = counted ∙ ap (count_within bytes) is.first ∙ counts_short bytes max chunk (messages_left closed l.place is.rows) low (omega (arith, few, ap (count_within bytes) is.first, ap length is.first, counted));
+  left = is.left;
+  count = counted ∙ ap (count_within bytes) is.first ∙ counts_short bytes max chunk (messages_left closed place is.rows) low (omega (arith, few, ap (count_within bytes) is.first, ap length is.first, counted));
 }

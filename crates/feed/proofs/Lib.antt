@@ -1,16 +1,8 @@
-pub mod Rows
 pub mod Tying
-pub mod Walking
 pub mod Telling
 pub mod Least
 pub mod Catching
-pub mod Offering
 pub mod Counting
 pub mod Serving
-pub mod Bounds
-pub mod Searching
-pub mod Building
-pub mod Slotting
 pub mod Reports
 pub mod Fitting
-pub mod Ringing

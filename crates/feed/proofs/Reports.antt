@@ -3,7 +3,7 @@ use Rattle.std.proofs.Common.{List, None, Option, Some, [], ap, arith, inl, inr,
 use Rattle.std.specs.Prelude.{Contains, filter_map, is_some, nat_eq, option_map, ◌↔◌}
 use Rattle.std.specs.List.{AllByRecursion, IsDistinct, cons_option}
 use Rattle.std.specs.List.Sorted.{IsPermutation, IsSorted, IsStrictlyIncreasing}
-use Rattle.std.specs.Map.{keys_of, lookup}
+use Rattle.std.specs.Map.{keys_of}
 use Rattle.std.specs.Ordering.{nat_cmp}
 use Rattle.std.proofs.lemmas.Bool.Decides.{nat_tests}
 use Rattle.std.proofs.lemmas.List.{append-nil, take_more}
@@ -16,9 +16,8 @@ use Rattle.spans.proofs.Members.{Has}
 use Rattle.kept.specs.Lists.{AreThose}
 use Rattle.kept.specs.Reports.{AreLive, feed_report}
 use Rattle.kept.proofs.Contained.{contains_has}
-use Rattle.feed.specs.Changes.{Lives}
-use Rattle.feed.specs.Live.{Live}
 use Rattle.feed.specs.Reports.{place_at}
+use Rattle.feed.specs.Standing.{Lives}
 use Rattle.feed.proofs.Counting.{distinct, has_key}
 
 -- ---- the numbers
@@ -30,17 +29,13 @@ turned a b = grind (arith, nat_tests)
 pub sorted_rise : (ks fs : List ℕ) → IsDistinct nat_eq ks → IsPermutation ks fs → IsSorted nat_cmp fs → IsStrictlyIncreasing fs
 sorted_rise ks fs d moved sorted = IsStrictlyIncreasing-from_distinct fs (IsNonDecreasingBy-from_sort (λ x. x) fs sorted) (IsDistinct-IsPermutation nat_eq turned ks fs moved d)
 
-placed : (o : Option Live) → is_some (option_map (λ (l : Live). l.place) o) ≡ is_some o
-placed None = refl
-placed (Some l) = refl
-
 -- and are those of the feeds that live
 pub numbers_those : (es : Lives) (fs : List ℕ) → IsDistinct nat_eq (keys_of es) → IsPermutation (keys_of es) fs → AreThose (λ f. is_some (place_at es f)) fs
 numbers_those es fs d moved = record {
   distinct = distinct fs (IsDistinct-IsPermutation nat_eq turned (keys_of es) fs moved d);
   each = λ f. let k = contains_has f (keys_of es) in let c = contains_has f fs in let h = has_key f es in (
-    λ i. placed (lookup (nat_eq f) es) ∙ h.0 (k.0 (Contains-permutation fs (keys_of es) f (IsPermutation-sym (keys_of es) fs moved) (c.1 i))),
-    λ is. c.0 (Contains-permutation (keys_of es) fs f moved (k.1 (h.1 (sym (placed (lookup (nat_eq f) es)) ∙ is)))),
+    λ i. h.0 (k.0 (Contains-permutation fs (keys_of es) f (IsPermutation-sym (keys_of es) fs moved) (c.1 i))),
+    λ is. c.0 (Contains-permutation (keys_of es) fs f moved (k.1 (h.1 is))),
   );
 }
 

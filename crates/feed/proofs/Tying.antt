@@ -8,25 +8,25 @@ use Rattle.std.proofs.lemmas.Bool.{and_parts, eqb-true}
 use Rattle.std.proofs.lemmas.Bool.Decides.{nat_tests}
 use Rattle.std.proofs.Math.Bool.{and-false}
 use Rattle.spans.proofs.Steps.{by_test}
+use Rattle.spans.specs.Kept.{Place}
 use Rattle.kept.specs.Places.{place_floor}
-use Rattle.feed.specs.Live.{Live}
 use Rattle.feed.specs.Ties.{AreTied, IsFloorMoved, is_floor, pair_cmp}
 
 -- the set has just the floors of the feeds, each with its number
-abbrev pub AreAlike : (ℕ × ℕ → Bool) → (ℕ → Option Live) → Type 0
+abbrev pub AreAlike : (ℕ × ℕ → Bool) → (ℕ → Option Place) → Type 0
 AreAlike c g = (t f : ℕ) → c (t, f) ≡ is_floor (g f) t
 
 -- no feed has a number above n
-abbrev pub AreNumbered : ℕ → (ℕ → Option Live) → Type 0
-AreNumbered n g = (f : ℕ) (l : Live) → g f ≡ Some l → f ≤ n
+abbrev pub AreNumbered : ℕ → (ℕ → Option Place) → Type 0
+AreNumbered n g = (f : ℕ) (l : Place) → g f ≡ Some l → f ≤ n
 
 same_pair : (t f s k : ℕ) → is_at (pair_cmp (t, f)) (s, k) ≡ ((t == s) && (f == k))
 same_pair t f s k = grind (arith, nat_tests)
 
-pub none_beyond : (n f : ℕ) (g : ℕ → Option Live) → AreNumbered n g → f ≡ n + 1 → g f ≡ None
+pub none_beyond : (n f : ℕ) (g : ℕ → Option Place) → AreNumbered n g → f ≡ n + 1 → g f ≡ None
 none_beyond n f g low beyond = by (g f) refl
   where
-    by : (o : Option Live) → g f ≡ o → g f ≡ None
+    by : (o : Option Place) → g f ≡ o → g f ≡ None
     by None is = is
     by (Some l) is = let h : f ≤ n = low f l is in absurd (omega arith)
 
@@ -53,20 +53,20 @@ module _ (c c' : ℕ × ℕ → Bool) (t f : ℕ) (taken : (q : ℕ × ℕ) → 
   taken_other s k other = taken (s, k) ∙ rw (same_pair t f s k, other, and-false (t == s)) refl
 
 -- f became o
-abbrev pub IsSet : (ℕ → Option Live) → (ℕ → Option Live) → ℕ → Option Live → Type 0
+abbrev pub IsSet : (ℕ → Option Place) → (ℕ → Option Place) → ℕ → Option Place → Type 0
 IsSet g g' f o = (k : ℕ) → g' k ≡ cond (nat_eq f k) o (g k)
 
-set_here : (g g' : ℕ → Option Live) (f k : ℕ) (o : Option Live) → IsSet g g' f o → (f == k) ≡ true → g' k ≡ o
+set_here : (g g' : ℕ → Option Place) (f k : ℕ) (o : Option Place) → IsSet g g' f o → (f == k) ≡ true → g' k ≡ o
 set_here g g' f k o set same = set k ∙ ap (λ b. cond b o (g k)) same
 
-set_other : (g g' : ℕ → Option Live) (f k : ℕ) (o : Option Live) → IsSet g g' f o → (f == k) ≡ false → g' k ≡ g k
+set_other : (g g' : ℕ → Option Place) (f k : ℕ) (o : Option Place) → IsSet g g' f o → (f == k) ≡ false → g' k ≡ g k
 set_other g g' f k o set other = set k ∙ ap (λ b. cond b o (g k)) other
 
-floor_is : (l : Live) (t s : ℕ) → place_floor l.place ≡ t → is_floor (Some l) s ≡ (t == s)
+floor_is : (l : Place) (t s : ℕ) → place_floor l ≡ t → is_floor (Some l) s ≡ (t == s)
 floor_is l t s floor = ap (λ n. n == s) floor
 
 -- a new feed with its floor
-pub alike_put : (c c' : ℕ × ℕ → Bool) (g g' : ℕ → Option Live) (t f : ℕ) (l : Live) → place_floor l.place ≡ t → g f ≡ None → AreAlike c g
+pub alike_put : (c c' : ℕ × ℕ → Bool) (g g' : ℕ → Option Place) (t f : ℕ) (l : Place) → place_floor l ≡ t → g f ≡ None → AreAlike c g
     → ((q : ℕ × ℕ) → c' q ≡ cond (is_at (pair_cmp (t, f)) q) true (c q)) → IsSet g g' f (Some l) → AreAlike c' g'
 alike_put c c' g g' t f l floor free alike put set s k = by_test (f == k)
     (λ same. let now : is_floor (g' k) s ≡ (t == s) = ap (λ o. is_floor o s) (set_here g g' f k (Some l) set same) ∙ floor_is l t s floor in by_test (t == s)
@@ -75,7 +75,7 @@ alike_put c c' g g' t f l floor free alike put set s k = by_test (f == k)
     (λ other. put_other c c' t f put s k other ∙ alike s k ∙ ap (λ o. is_floor o s) (sym (set_other g g' f k (Some l) set other)))
 
 -- a feed goes with its floor
-pub alike_taken : (c c' : ℕ × ℕ → Bool) (g g' : ℕ → Option Live) (t f : ℕ) (l : Live) → place_floor l.place ≡ t → g f ≡ Some l → AreAlike c g
+pub alike_taken : (c c' : ℕ × ℕ → Bool) (g g' : ℕ → Option Place) (t f : ℕ) (l : Place) → place_floor l ≡ t → g f ≡ Some l → AreAlike c g
     → ((q : ℕ × ℕ) → c' q ≡ cond (is_at (pair_cmp (t, f)) q) false (c q)) → IsSet g g' f None → AreAlike c' g'
 alike_taken c c' g g' t f l floor stood alike taken set s k = by_test (f == k)
     (λ same. let now : is_floor (g' k) s ≡ false = ap (λ o. is_floor o s) (set_here g g' f k None set same) in by_test (t == s)
@@ -84,7 +84,7 @@ alike_taken c c' g g' t f l floor stood alike taken set s k = by_test (f == k)
     (λ other. taken_other c c' t f taken s k other ∙ alike s k ∙ ap (λ o. is_floor o s) (sym (set_other g g' f k None set other)))
 
 -- a new pair that is taken back
-pub alike_again : (c c' c'' : ℕ × ℕ → Bool) (g : ℕ → Option Live) (t f : ℕ) → g f ≡ None → AreAlike c g
+pub alike_again : (c c' c'' : ℕ × ℕ → Bool) (g : ℕ → Option Place) (t f : ℕ) → g f ≡ None → AreAlike c g
     → ((q : ℕ × ℕ) → c' q ≡ cond (is_at (pair_cmp (t, f)) q) true (c q)) → ((q : ℕ × ℕ) → c'' q ≡ cond (is_at (pair_cmp (t, f)) q) false (c' q)) → AreAlike c'' g
 alike_again c c' c'' g t f free alike put taken s k = by_test (f == k)
     (λ same. let now : is_floor (g k) s ≡ false = ap (λ o. is_floor o s) (ap g (sym (eqb-true f k same)) ∙ free) in by_test (t == s)
@@ -115,7 +115,7 @@ floor_moves c c' c'' b a f apart put taken q = by_test (is_at (pair_cmp (b, f)) 
     (λ off. taken q ∙ rw (here, off) refl))
     (λ there. taken q ∙ rw there (put q))
 
-alike_moved : (c c' : ℕ × ℕ → Bool) (g g' : ℕ → Option Live) (b a f : ℕ) (l l' : Live) → place_floor l.place ≡ b → place_floor l'.place ≡ a → g f ≡ Some l → AreAlike c g
+alike_moved : (c c' : ℕ × ℕ → Bool) (g g' : ℕ → Option Place) (b a f : ℕ) (l l' : Place) → place_floor l ≡ b → place_floor l' ≡ a → g f ≡ Some l → AreAlike c g
     → ((q : ℕ × ℕ) → c' q ≡ cond (is_at (pair_cmp (a, f)) q) true (cond (is_at (pair_cmp (b, f)) q) false (c q))) → IsSet g g' f (Some l') → AreAlike c' g'
 alike_moved c c' g g' b a f l l' floor floor' stood alike moved set s k = by_test (f == k)
     (λ same.
@@ -128,18 +128,18 @@ alike_moved c c' g g' b a f l l' floor floor' stood alike moved set s k = by_tes
     (λ other. moved (s, k) ∙ rw (same_pair a f s k, same_pair b f s k, other, and-false (a == s), and-false (b == s)) refl ∙ alike s k ∙ ap (λ o. is_floor o s) (sym (set_other g g' f k (Some l') set other)))
 
 -- numbers after a change of one feed
-pub numbered_set : (n m f : ℕ) (g g' : ℕ → Option Live) (o : Option Live) → n ≤ m → f ≤ m → AreNumbered n g → IsSet g g' f o → AreNumbered m g'
+pub numbered_set : (n m f : ℕ) (g g' : ℕ → Option Place) (o : Option Place) → n ≤ m → f ≤ m → AreNumbered n g → IsSet g g' f o → AreNumbered m g'
 numbered_set n m f g g' o more low numbered set k l is = by_test (f == k)
     (λ same. let e : f ≡ k = eqb-true f k same in omega arith)
     (λ other. let h : k ≤ n = numbered k l (sym (set_other g g' f k o set other) ∙ is) in omega arith)
 
-pub numbered_less : (n f : ℕ) (g g' : ℕ → Option Live) → AreNumbered n g → IsSet g g' f None → AreNumbered n g'
+pub numbered_less : (n f : ℕ) (g g' : ℕ → Option Place) → AreNumbered n g → IsSet g g' f None → AreNumbered n g'
 numbered_less n f g g' numbered set k l is = by_test (f == k)
     (λ same. let e : None ≡ Some l = sym (set_here g g' f k None set same) ∙ is in cc)
     (λ other. numbered k l (sym (set_other g g' f k None set other) ∙ is))
 
 -- a feed that moves, with its floors
-pub tied_moved : (opened b a f : ℕ) (es fs : List (ℕ × Live)) (floors floors' : BTreeSet (ℕ × ℕ)) (l l' : Live) → AreTied opened es floors → place_floor l.place ≡ b → place_floor l'.place ≡ a → lookup (nat_eq f) es ≡ Some l
+pub tied_moved : (opened b a f : ℕ) (es fs : List (ℕ × Place)) (floors floors' : BTreeSet (ℕ × ℕ)) (l l' : Place) → AreTied opened es floors → place_floor l ≡ b → place_floor l' ≡ a → lookup (nat_eq f) es ≡ Some l
     → IsFloorMoved floors floors' f b a → IsSet (λ k. lookup (nat_eq k) es) (λ k. lookup (nat_eq k) fs) f (Some l') → AreTied opened fs floors'
 tied_moved opened b a f es fs floors floors' l l' tied floor floor' stood moved set = record {
   numbered = numbered_set opened opened f (λ k. lookup (nat_eq k) es) (λ k. lookup (nat_eq k) fs) (Some l') (omega arith) (tied.numbered f l stood) tied.numbered set;

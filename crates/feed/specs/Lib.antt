@@ -1,12 +1,7 @@
 pub mod Live
 pub mod Firsts
-pub mod Rows
 pub mod Standing
 pub mod Telling
 pub mod Ties
-pub mod Changes
-pub mod OfferedAll
-pub mod Slots
-pub mod Hulls
 pub mod Reports
 pub mod Room

@@ -4,12 +4,11 @@ use Rattle.std.specs.Map.{lookup}
 use Rattle.spans.specs.Kept.{Place}
 use Rattle.spans.specs.declared.report.FeedReport.{FeedReport}
 use Rattle.kept.specs.Reports.{feed_report}
-use Rattle.feed.specs.Changes.{Lives}
-use Rattle.feed.specs.Live.{Live}
+use Rattle.feed.specs.Standing.{Lives}
 
 -- the place of a feed that lives
 abbrev pub place_at : Lives → ℕ → Option Place
-place_at live f = option_map (λ (l : Live). l.place) (lookup (nat_eq f) live)
+place_at live f = lookup (nat_eq f) live
 
 -- what is told of it
 abbrev pub report_at : Lives → ℕ → Option FeedReport

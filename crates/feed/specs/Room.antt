@@ -1,14 +1,14 @@
 -- How many messages of a feed find room. A row has the bytes of its key and its value, and 17 more, as a message in bytes
 -- has (this project's own).
-use Rattle.std.specs.Prelude.{List, None, Option, Some, [], false, if◌then◌else◌, length, nat_le, nat_lt, suc, take, true, ℕ, ◌+◌, ◌-◌, ◌∷◌, ◌≡◌}
+use Rattle.std.specs.Prelude.{List, None, Option, Some, [], if◌then◌else◌, length, nat_le, nat_lt, suc, take, ℕ, ◌+◌, ◌-◌, ◌∷◌, ◌≡◌}
 use Rattle.timestamps.specs.declared.row.Row.{Row}
 use Rattle.spans.specs.Effects.{After}
+use Rattle.spans.specs.Kept.{Place}
 use Rattle.spans.specs.declared.calls.messages.Message.{Message}
 use Rattle.spans.specs.declared.calls.messages.Message.TheVariants as messages
 use Rattle.kept.specs.Places.{AreLeft}
 use Rattle.kept.specs.Replies.{messages_left}
 use Rattle.version_chain.specs.Stores.{Stored, is_committed_in, version_in}
-use Rattle.feed.specs.Live.{Live}
 
 -- the bytes of a value, none of a delete
 abbrev pub value_weight : After → ℕ
@@ -29,23 +29,13 @@ count_within bytes (m ∷ ms) = if nat_le (message_weight m) bytes then suc (cou
 abbrev pub count_or : (max bytes : ℕ) → List Message → ℕ
 count_or max bytes ms = if nat_lt (count_within bytes ms) (length ms) then count_within bytes ms else max
 
--- the same where so many rows found room, of fewer than max, and these are all messages that are left for so many bytes
-abbrev pub with_due : (max count left : ℕ) → List Message → ℕ
-with_due max count left [] = max
-with_due max count left (m ∷ ms) = if nat_lt left 17 then count else max
-
--- the rows that are left for a live feed, in its ring, or in the store where it is behind
-pub record IsLeftFor (store : Stored) (closed : ℕ) (l : Live) (rows : List Row) : Type 0 where
-  pub ring : l.behind ≡ false → rows ≡ l.ring
-  pub stored : l.behind ≡ true → AreLeft (version_in store) (is_committed_in store) l.place closed rows
-
--- of the first max messages that are left for it n find room
-pub record IsCountLeft (store : Stored) (closed max bytes : ℕ) (l : Live) (n : ℕ) : Type 0 where
+-- of the first max messages that are left for a feed at the place n find room
+pub record IsCountLeft (store : Stored) (closed max bytes : ℕ) (place : Place) (n : ℕ) : Type 0 where
   pub rows : List Row
-  pub left : IsLeftFor store closed l rows
-  pub count : n ≡ count_or max bytes (take max (messages_left closed l.place rows))
+  pub left : AreLeft (version_in store) (is_committed_in store) place closed rows
+  pub count : n ≡ count_or max bytes (take max (messages_left closed place rows))
 
 -- the same of the feed of a number; none of one that doesn't live
-abbrev pub IsFeedCount : Stored → (closed max bytes : ℕ) → Option Live → ℕ → Type 0
+abbrev pub IsFeedCount : Stored → (closed max bytes : ℕ) → Option Place → ℕ → Type 0
 IsFeedCount store closed max bytes None n = n ≡ 0
-IsFeedCount store closed max bytes (Some l) n = IsCountLeft store closed max bytes l n
+IsFeedCount store closed max bytes (Some place) n = IsCountLeft store closed max bytes place n

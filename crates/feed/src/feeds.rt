@@ -1,25 +1,18 @@
 //! All live feeds.
 ghost use Rattle.std.specs.Prelude.{true, ◌≡◌, ◌<◌, ℕ, None, Some, is_some, option_map, suc, IfErr, IfOk, OnOk, OnErr};
 ghost use Rattle.std.specs.BTreeSet.{contains};
-ghost use Rattle.std.specs.Map.{keys_of};
 ghost use Rattle.kept.specs.Places.{IsLeastFloor, place_floor};
 ghost use Rattle.kept.specs.Reports.{AreLive};
-ghost use Rattle.feed.specs.Live.{IsOffered, begins_behind, cut_at_max, opened_at};
-ghost use Rattle.feed.specs.Standing.{opened_in, live_in, place_in, seat_in, behind_in, IsPut, AreChanged, IsPolledBy, IsUnpolled, IsCountOf};
+ghost use Rattle.feed.specs.Live.{cut_at_max, opened_at};
+ghost use Rattle.feed.specs.Standing.{opened_in, place_in, seat_in, IsPut, IsPolledBy, IsUnpolled, IsCountOf};
 ghost use Rattle.feed.specs.Room.{IsFeedCount};
-ghost use Rattle.feed.specs.Slots.{IsSourced, slot_of, source_of};
 ghost use Rattle.feed.specs.Ties.{IsFloorMoved, pair_cmp};
-ghost use Rattle.feed.specs.declared.slots.Slot.{Slot};
 
 use crate::live::LiveFeed;
 use crate::live::telling::Told;
-use crate::offered::Offered;
 use crate::poll_error::PollError;
 use crate::report::feed_reports;
 use crate::room::count_left;
-use crate::rounds::offer_each;
-use crate::slots::ServedFrom;
-use crate::span_order::SpanOrder;
 use indexmap::IndexMap;
 use spans::calls::Messages;
 use spans::kind::Kind;
@@ -35,40 +28,33 @@ use version_chain::Store;
 #[derive(Drop)]
 pub struct Feeds {
     alloc: Global,
-    /// How many rows a ring holds.
-    ring: usize,
     opened: u64,
     live: IndexMap<u64, LiveFeed>,
     floors: BTreeSet<(u64, u64)>,
-    /// The span of each, so that a row finds those that it concerns.
-    order: SpanOrder,
 }
 
 impl Model for Feeds {
     ghost use Rattle.feed.specs.Standing.{Standing};
     ghost use Rattle.feed.specs.Ties.{AreTied};
-    ghost use Rattle.feed.specs.Changes.{AreAllListed};
 
     ghost Value = { Standing };
 
     ghost view = { λ s. record { opened = s.opened; live = s.live.entries } };
 
-    ghost invariant = { λ s. AreTied s.opened s.live.entries s.floors × AreAllListed s.opened s.live.entries s.order };
+    ghost invariant = { λ s. AreTied s.opened s.live.entries s.floors };
 }
 
 impl Feeds {
-    /// No feed. A ring will hold so many rows.
-    pub fn new(alloc: Global, ring: usize) -> Feeds
-        ensures none { (f : ℕ) → live_in result f ≡ None }
+    /// No feed.
+    pub fn new(alloc: Global) -> Feeds
+        ensures none { (f : ℕ) → place_in result f ≡ None }
         ensures opened { opened_in result ≡ 0 }
     {
         Feeds {
             alloc,
-            ring,
             opened: 0,
             live: IndexMap::new(alloc),
             floors: BTreeSet::new(alloc),
-            order: SpanOrder::new(alloc),
         }
     }
 
@@ -96,44 +82,26 @@ impl Feeds {
         }
     }
 
-    /// Whether a feed is served from the store, if it lives.
-    pub fn behind(&self, feed: u64) -> Option<bool>
-        ensures { result ≡ behind_in self.now feed }
-    {
-        match self.live.get(&feed) {
-            None => None,
-            Some(live) => Some(live.is_behind()),
-        }
-    }
-
-    /// Opens a feed at its cursor and answers its number. One that begins below closed begins behind, and so does an
-    /// initial one. A cursor above the greatest timestamp counts as that. Where it is out of memory, nothing is opened.
+    /// Opens a feed at its cursor and answers its number. A cursor above the greatest timestamp counts as that. Where it is
+    /// out of memory, nothing is opened.
     pub fn open(
         &mut self,
         seat: u8,
         kind: Kind,
         span: &Span,
         cursor: u64,
-        closed: u64,
     ) -> Result<u64, AllocError>
         requires room { opened_in self.old < u64.MAX }
         ensures number { IfOk result (λ f. f ≡ suc (opened_in self.old)) }
-        ensures put { IfOk result (λ f. IsPut self.old self.new f
-            (Some (opened_at seat kind span.now (cut_at_max cursor) (begins_behind kind (cut_at_max cursor) closed)))) }
+        ensures put { IfOk result (λ f. IsPut self.old self.new f (Some (opened_at seat kind span.now (cut_at_max cursor)))) }
         ensures opened { IfOk result (λ f. opened_in self.new ≡ f) }
         ensures err { OnErr result (self.new ≡ self.old) }
     {
         let cursor = cursor.min(MAX);
         let feed = self.opened + 1;
-        let behind = begins_behind(kind, cursor, closed);
-        let live = LiveFeed::open(self.alloc, self.ring, seat, kind, span, cursor, behind)?;
+        let live = LiveFeed::open(seat, kind, span, cursor)?;
         self.live.reserve(1)?;
-        self.order.shed();
         self.floors.insert((cursor, feed))?;
-        let Ok(()) = self.order.add(feed, span, source_of(behind)) else {
-            self.floors.remove(&(cursor, feed));
-            return Err(AllocError);
-        };
         let Ok(_) = self.live.insert(feed, live) else {
             unreachable!()
         };
@@ -141,23 +109,8 @@ impl Feeds {
         Ok(feed)
     }
 
-    /// Offers a committed version to every feed, as a row. Each that isn't behind and wants it takes it into its ring, or
-    /// falls behind. Nothing is copied where no ring is to have it.
-    pub fn offer(&mut self, row: &Offered<'_>)
-        ensures offered { AreChanged (IsOffered row.now) self.old self.new }
-        ensures opened { opened_in self.new ≡ opened_in self.old }
-    {
-        self.order.tidy();
-        let Some(_) = self.order.next_holding(row.key, 0) else {
-            return;
-        };
-        let shared = row.share(self.alloc);
-        offer_each(&mut self.live, &mut self.order, row, &shared);
-    }
-
-    /// The next messages of a feed for the seat that opened it, at most `max`: from its ring, or from the store where it
-    /// is behind. A feed for which the store then has no row left is served from its ring again. A `closed` above the
-    /// greatest timestamp counts as that. Where it is out of memory, nothing is told.
+    /// The next messages of a feed for the seat that opened it, at most `max`. A `closed` above the greatest timestamp counts
+    /// as that. Where it is out of memory, nothing is told.
     pub fn poll(
         &mut self,
         store: &Store,
@@ -185,13 +138,8 @@ impl Feeds {
         let Ok(()) = move_floor(&mut self.floors, feed, live.floor(), floor) else {
             return Err(PollError::NoMemory);
         };
-        let Told {
-            messages,
-            place,
-            behind,
-        } = told;
-        relist(&mut self.order, feed, live.is_behind(), behind);
-        live.arrive(place, max, behind);
+        let Told { messages, place } = told;
+        live.arrive(place);
         Ok(Messages::from_vec(messages))
     }
 
@@ -205,7 +153,7 @@ impl Feeds {
         max: u64,
         bytes: u64,
     ) -> Result<u64, AllocError>
-        ensures { IfOk result (IsFeedCount store.now (cut_at_max closed) max bytes (live_in self.now feed)) }
+        ensures { IfOk result (IsFeedCount store.now (cut_at_max closed) max bytes (place_in self.now feed)) }
     {
         let Some(live) = self.live.get(&feed) else {
             return Ok(0);
@@ -215,7 +163,7 @@ impl Feeds {
 
     /// Ends a feed, and answers whether it lived. It takes no memory.
     pub fn cancel(&mut self, feed: u64) -> bool
-        ensures lived { result ≡ is_some (live_in self.old feed) }
+        ensures lived { result ≡ is_some (place_in self.old feed) }
         ensures put { IsPut self.old self.new feed None }
         ensures opened { opened_in self.new ≡ opened_in self.old }
     {
@@ -223,7 +171,6 @@ impl Feeds {
             return false;
         };
         self.floors.remove(&(live.floor(), feed));
-        self.order.set(feed, ServedFrom::Ended);
         true
     }
 
@@ -255,13 +202,6 @@ impl Feeds {
     }
 }
 
-/// Whether a feed of this kind begins served from the store.
-fn begins_behind(kind: Kind, cursor: u64, closed: u64) -> bool
-    ensures { result ≡ begins_behind kind cursor closed }
-{
-    kind.initial || cursor < closed
-}
-
 /// Moves a feed in the order of floors. It takes no memory where the floor stays.
 fn move_floor(
     floors: &mut BTreeSet<(u64, u64)>,
@@ -279,26 +219,4 @@ fn move_floor(
     floors.insert((to, feed))?;
     floors.remove(&(from, feed));
     Ok(())
-}
-
-/// Lists a feed anew, where it was behind and no longer is. It takes no memory.
-fn relist(order: &mut SpanOrder, feed: u64, was_behind: bool, behind: bool)
-    requires listed { (s : Slot) → slot_of order.old feed ≡ Some s → s.source ≡ source_of was_behind }
-    ensures places { keys_of order.new ≡ keys_of order.old }
-    ensures put { IsSourced order.old order.new feed (source_of behind) }
-{
-    if behind == was_behind {
-        return;
-    }
-    order.set(feed, source_of(behind));
-}
-
-/// The source of a feed's next row, where it is behind or isn't.
-fn source_of(behind: bool) -> ServedFrom
-    ensures { result ≡ source_of behind }
-{
-    if behind {
-        return ServedFrom::Store;
-    }
-    ServedFrom::Ring
 }

@@ -1,6 +1,5 @@
 //! How many messages of a feed find room in so many bytes. A look reads what a poll would tell, and tells nothing. It
-//! adds up what stands in a ring, and copies none of it. From the store it reads the first messages, in chunks that grow,
-//! so that it goes little further than there is room for.
+//! reads the first messages, in chunks that grow, so that it goes little further than there is room for.
 //!
 //! ```text
 //! left for a feed: rows of 20, 30 and 18 bytes, and a resolved message of 17
@@ -10,11 +9,9 @@
 //! max 2, bytes 50      2      all that were asked for
 //! ```
 
-ghost use Rattle.std.specs.Prelude.{◌≡◌, ◌<◌, ◌≤◌, None, length, take, IfOk, IfSome};
+ghost use Rattle.std.specs.Prelude.{◌≡◌, ◌<◌, ◌≤◌, None, length, IfOk, IfSome};
 ghost use Rattle.timestamps.specs.declared.ts.TheConstants.{MAX};
-ghost use Rattle.kept.specs.Replies.{messages_left};
-ghost use Rattle.feed.specs.Live.{due_in};
-ghost use Rattle.feed.specs.Room.{IsCountLeft, count_or, count_within, message_weight, value_weight, with_due};
+ghost use Rattle.feed.specs.Room.{IsCountLeft, count_within, message_weight, value_weight};
 
 use crate::live::LiveFeed;
 use crate::live::telling::Told;
@@ -42,9 +39,6 @@ pub(crate) fn count_left(
     requires { closed ≤ MAX }
     ensures { IfOk result (IsCountLeft store.now closed max bytes live.now) }
 {
-    if !live.is_behind() {
-        return Ok(count_ring(live, closed, max, bytes));
-    }
     let mut chunk = max.min(CHUNK);
     while chunk < max {
         if let Some(count) = count_first(alloc, live, store, closed, chunk, max, bytes)? {
@@ -56,38 +50,6 @@ pub(crate) fn count_left(
         Some(count) => Ok(count),
         None => Ok(max),
     }
-}
-
-/// The same where it is served from its ring.
-fn count_ring(live: &LiveFeed, closed: u64, max: u64, bytes: u64) -> u64
-    requires { closed ≤ MAX }
-    ensures { result ≡ count_or max bytes (take max (messages_left closed live.now.place live.now.ring)) }
-{
-    let mut left = bytes;
-    let mut count = 0u64;
-    while count < max {
-        let Some(row) = live.ring_row(count as usize) else {
-            return count_due(live, closed, max, count, left);
-        };
-        let weight = row_weight(row);
-        if left < weight {
-            return count;
-        }
-        left -= weight;
-        count += 1;
-    }
-    max
-}
-
-/// The same where all rows of the ring, `count`, found room, and so many bytes are left.
-fn count_due(live: &LiveFeed, closed: u64, max: u64, count: u64, left: u64) -> u64
-    requires { closed ≤ MAX }
-    ensures { result ≡ with_due max count left (due_in live.now closed) }
-{
-    let Some(_) = live.due(closed) else {
-        return max;
-    };
-    if left < HEAD { count } else { max }
 }
 
 /// The same by the first messages alone, so many as `chunk`, where these are enough to tell.

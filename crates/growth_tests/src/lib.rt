@@ -10,8 +10,7 @@
 //! finds none, and has written nothing. Nothing depends on this crate.
 //!
 //! Some growths come only where much was called before: a list of 256 versions turns into blocks, a full block is
-//! halved, reads go over blocks, a scan lies over forty lone keys, 16,384 marks are swept, and the order of thirty spans
-//! is made anew. Each has a story, which is made and not typed: what prepares the engine, the calls in question, whose
+//! halved, reads go over blocks, a scan lies over forty lone keys, and 16,384 marks are swept. Each has a story, which is made and not typed: what prepares the engine, the calls in question, whose
 //! growths alone are refused, what is asked behind a refusal, because all that stood has to stand, and what is asked in
 //! the end.
 //!
@@ -21,7 +20,7 @@
 //! begin 20             nomemory                                       started
 //! put 20 a 2           nomemory                                       written
 //! commit 20            committed 1      it takes no memory
-//! close 30             closed 30 0      no copy for the ring, so the feed falls behind
+//! close 30             closed 30 0      it takes no memory
 //! poll 1 10            nomemory                                       messages 3
 //! ```
 //!

@@ -8,7 +8,6 @@ mod following;
 mod growths;
 mod made;
 mod marks;
-mod orders;
 mod playing;
 mod prepared;
 mod racing;
@@ -18,7 +17,6 @@ use chains::{block_that_is_full, list_that_is_full, reads_over_blocks};
 use dumping::{dump_history, dump_twice};
 use following::follow_twice;
 use marks::{lone_keys_in_a_scan, marks_that_are_swept};
-use orders::feeds_of_many_spans;
 use playing::play_twice;
 use prepared::Story;
 use racing::race_twice;
@@ -88,12 +86,6 @@ fn refused_growths_in_a_scan_over_lone_keys(rt: HostRuntime) {
 #[test]
 fn refused_growths_in_gets_that_sweep_the_marks(rt: HostRuntime) {
     let wanting = played(rt.alloc(), marks_that_are_swept(rt.alloc()));
-    assert!(rt; matches!(wanting, Some(0 | 1)));
-}
-
-#[test]
-fn refused_growths_where_the_order_of_spans_is_made_anew(rt: HostRuntime) {
-    let wanting = played(rt.alloc(), feeds_of_many_spans(rt.alloc()));
     assert!(rt; matches!(wanting, Some(0 | 1)));
 }
 

@@ -26,7 +26,7 @@ use word_lines::fault::LineFault;
 pub struct RaceOptions {
     /// How many sessions there are, 1 to 64. The script names them from 0 on.
     pub sessions: u8,
-    /// How many rows a feed holds before it is behind, 1 to 65536.
+    /// 1 to 65536, without effect.
     pub ring: u32,
     /// In which format the script is read and the transcript written.
     pub format: Format,

@@ -117,7 +117,7 @@ const CLOSED: u8 = 16;
 /// The handle is open.
 const OPEN: u8 = 17;
 
-/// Opens a closed handle on a database with no event, whose feeds hold up to `ring` rows each, 1 to 65536.
+/// Opens a closed handle on a database with no event. `ring` is 1 to 65536, and has no effect.
 ///
 /// 0: it is open. Else all is as it was. 15: the ring is out of range, which is looked at first. 17: the handle is
 /// open. 12: there is no memory.

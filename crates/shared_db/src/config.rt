@@ -1,11 +1,11 @@
 //! What a database is opened with.
 
-/// How many callers a database has, how long the ring of a feed is, and where positions begin.
+/// How many callers a database has, and where positions begin.
 #[derive(Clone, Copy, Debug, PartialEq, Eq)]
 pub struct Config {
     /// The number of seats, 1 to 64.
     pub seats: u32,
-    /// How many rows a feed holds before it is behind, 1 to 65536.
+    /// 1 to 65536, without effect: a feed once held so many rows.
     pub ring: u32,
     /// The position of the first event. The last one has position 18446744073709551614.
     pub first: u64,

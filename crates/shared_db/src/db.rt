@@ -51,7 +51,7 @@ impl Db {
         if config.ring == 0 || config.ring > MAX_RING {
             return Err(OpenError::RingSize);
         }
-        let Ok(engine) = Box::new(alloc, Engine::new(alloc, config.ring)) else {
+        let Ok(engine) = Box::new(alloc, Engine::new(alloc)) else {
             return Err(OpenError::NoMemory);
         };
         let seats = config.seats as usize;

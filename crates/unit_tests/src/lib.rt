@@ -1,4 +1,4 @@
-//! Tests of crates by themselves: words and spans, texts, replicas, and where an engine serves its feeds from. Most are
+//! Tests of crates by themselves: words and spans, texts, replicas, and what an engine is asked without a command. Most are
 //! tables, whose lines say what is asked and which answer is wanted. Nothing depends on this crate.
 //!
 //! They stand in one crate apart from what they test, since the gate proves a crate that has tests two times, and joins
@@ -9,8 +9,7 @@
 //! texts       texts that are read, with their faults, and texts that are written
 //! replicas    which messages a replica takes, and the rows, keys and timestamp that it then has
 //! consumers   with which rows a replica begins that is called by text
-//! engines     where each feed is served from, after each line of a script; a run of a list of calls; how far looks
-//!             find room; which row a dump has still to write
+//! engines     a run of a list of calls; how far looks find room; which row a dump has still to write
 //! ```
 //!
 //! **Words.** A case of `spans_of_keys` takes the keys b and d out of a span, and asks which keys the parts hold, of a,
@@ -45,20 +44,6 @@
 //! receive 10 b 1=0  b is 1 at 10                     0: taken
 //! receive 10 a 1=1  a is 1 at 10                     1: it doesn't come after b at 10
 //! keys 1= b         the keys that have the value 1   b
-//! ```
-//!
-//! **Engines.** A feed is behind while it is served from the store: where its ring is full, or where it opens with rows
-//! below closed that it may have to tell. A poll that leaves no row brings it back. A feed that is behind for longer would
-//! still tell the same, so no contract sees it.
-//!
-//! ```text
-//!                  feed 1 with a ring of 1    with a ring of 2
-//! open - - 0       ring                       ring
-//! commit 20        ring                       ring
-//! commit 10        ring                       ring
-//! close 30         store                      ring
-//! poll 1 1         store                      ring
-//! poll 1 1         ring                       ring
 //! ```
 #![tactic(auto)]
 

@@ -30,7 +30,7 @@ _PIECE = 1 << 18
 
 
 class Database(Opened):
-    """One database, open from the start. Each feed keeps up to `ring` rows at hand, 1 to 65536; no answer depends on it.
+    """One database, open from the start. `ring` is 1 to 65536, and has no effect.
 
     A context manager closes it at the end of its block.
     """

@@ -20,8 +20,7 @@ pub struct Database {
 }
 
 impl Database {
-    /// Opens a new and empty database, of which each feed keeps up to `ring` rows at hand, 1 to 65536. No answer
-    /// depends on it.
+    /// Opens a new and empty database. `ring` is 1 to 65536, and has no effect.
     pub fn open(ring: u32) -> Result<Database, OpenError> {
         let open = Open::new(ring).map_err(OpenError::of)?;
         Ok(Database { open, out: vec![0; 4096], line: String::new(), notes: Vec::new() })

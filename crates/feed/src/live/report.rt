@@ -11,7 +11,7 @@ use std::alloc::AllocError;
 impl LiveFeed {
     /// How far it has come.
     pub(crate) fn report(&self, number: u64) -> Result<FeedReport, AllocError>
-        ensures { IfOk result (λ n. n ≡ feed_report number self.now.place) }
+        ensures { IfOk result (λ n. n ≡ feed_report number self.now) }
     {
         Ok(FeedReport {
             number,
@@ -29,7 +29,7 @@ impl LiveFeed {
 
     /// The timestamp that it resolved last.
     fn resolved(&self) -> Option<u64>
-        ensures { result ≡ resolved_at self.now.place }
+        ensures { result ≡ resolved_at self.now }
     {
         if self.kind.start(self.cursor) < self.after {
             return Some(self.after);
@@ -39,7 +39,7 @@ impl LiveFeed {
 
     /// Up to where its consumer knows that all was told.
     fn complete(&self) -> Option<u64>
-        ensures { result ≡ complete_at self.now.place }
+        ensures { result ≡ complete_at self.now }
     {
         let through = told_through(self.after, &self.row);
         if through < self.cursor {

@@ -31,7 +31,7 @@ fn story_of_a_put(alloc: Global, versions: u64) -> Option<Story> {
     Some(story)
 }
 
-/// Reads over all blocks: of a key, of a span, of snapshots, and of a feed that is behind.
+/// Reads over all blocks: of a key, of a span, of snapshots, and of a feed.
 pub(super) fn reads_over_blocks(alloc: Global) -> Option<Story> {
     let mut story = Story::new(alloc);
     let versions = FULL.saturating_add(44);

@@ -6,13 +6,13 @@ use std::alloc::Global;
 use text_format::Format;
 use word_lines::replies::write_reply;
 
-/// Makes the calls of a transcript, which stands behind a line, on an engine with rings of one row, and then on one
-/// with longer rings. How often memory was wanting, unless another reply came.
+/// Makes the calls of a transcript, which stands behind a line, on an engine, and then on another. How often memory was
+/// wanting, unless another reply came.
 pub(super) fn play_twice(alloc: Global, case: &str) -> Option<u64> {
     let (_, transcript) = case.split_once('\n')?;
     let events = events_of(alloc, transcript.as_bytes())?;
-    let first = play(alloc, &mut Engine::new(alloc, 1), &events)?;
-    let second = play(alloc, &mut Engine::new(alloc, 2), &events)?;
+    let first = play(alloc, &mut Engine::new(alloc), &events)?;
+    let second = play(alloc, &mut Engine::new(alloc), &events)?;
     Some(first.saturating_add(second))
 }
 

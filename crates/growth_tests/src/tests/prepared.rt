@@ -36,9 +36,9 @@ impl Story {
         }
     }
 
-    /// Makes the calls on an engine with rings of two rows. How often memory was wanting, unless a reply is another.
+    /// Makes the calls on an engine. How often memory was wanting, unless a reply is another.
     pub(super) fn play(&self, alloc: Global) -> Option<u64> {
-        let mut engine = Engine::new(alloc, 2);
+        let mut engine = Engine::new(alloc);
         make_all(alloc, &mut engine, &self.before)?;
         self.crowd.read(alloc, &mut engine)?;
         let standing = self.standing.events()?;

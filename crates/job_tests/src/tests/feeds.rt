@@ -320,7 +320,7 @@ pub(super) const TRANSCRIPTS: &str = "@ the order of commits is not that of the 
 5 0 openinitial - - 31 => notclosed 30
 6 0 openevery - - 31 1 => opened 1
 7 0 openinitial - - 20 => opened 2
-@ rows that fill a ring, and polls that leave some
+@ many rows, and polls that leave some
 0 0 open - - 0 => opened 1
 1 1 begin 20 => started
 2 1 put 20 a 2 => written

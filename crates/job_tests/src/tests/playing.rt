@@ -319,12 +319,12 @@ pub(super) fn is_yes(alloc: Global, transcript: &[u8]) -> bool {
     matches!(end, End::Right { .. }) && sink.taken.as_slice() == b"yes\n".as_slice()
 }
 
-/// Whether a transcript, behind its first line, is what its calls get with rings of any size, and right.
+/// Whether a transcript, behind its first line, is what its calls get, whatever `--ring` says, and right.
 pub(super) fn is_played<R: Wait>(rt: &R, alloc: Global, text: &str) -> Option<bool> {
     let (_, transcript) = text.split_once('\n')?;
     let script = script_of(alloc, transcript).ok()?;
     let transcript = unfolded(alloc, transcript).ok()?;
-    for ring in [1, 2, 1024, 65536] {
+    for ring in [1, 65536] {
         if ran(rt, alloc, ring, &script)?.as_slice() != transcript.as_slice() {
             return Some(false);
         }

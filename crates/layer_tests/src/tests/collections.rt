@@ -57,7 +57,7 @@ impl Held {
     pub(super) fn new(alloc: Global) -> Held {
         Held {
             rules: Rules::new(alloc),
-            feeds: Feeds::new(alloc, 1),
+            feeds: Feeds::new(alloc),
         }
     }
 }
@@ -97,7 +97,6 @@ fn open(alloc: Global, held: &mut Held, words: &mut Words<'_>, out: &mut Vec<u8>
         gap: None,
     };
     let span = Span { lo: None, hi: None };
-    let closed = held.rules.closed();
-    let feed = held.feeds.open(0, kind, &span, cursor, closed).ok()?;
+    let feed = held.feeds.open(0, kind, &span, cursor).ok()?;
     put_number(alloc, out, feed)
 }

@@ -8,23 +8,23 @@ use spans::span::Span;
 use std::alloc::Global;
 use version_chain::Store;
 
-/// A committed version, openings at a cursor, least floors, and polls. Each `open` and `tell` ends with what is closed.
+/// A committed version, openings at a cursor, least floors, and polls. Each `tell` ends with what is closed.
 pub(super) const SCRIPT: &str = "write 10 a=
 commit 10=1
-open 9223372036854775808 0=1
+open 9223372036854775808=1
 floor=9223372036854775807
 tell 1 18446744073709551615=
-open 18446744073709551615 18446744073709551615=2
+open 18446744073709551615=2
 floor=9223372036854775807
 tell 2 18446744073709551615=
-open 9 10=3
+open 9=3
 floor=9
 tell 3 9223372036854775808= version 10 resolved 9223372036854775807
 tell 3 18446744073709551615=
 floor=9223372036854775807
 ";
 
-/// Feeds, and the store that serves those that are behind.
+/// Feeds, and the store that they read.
 #[derive(Drop)]
 pub(super) struct Served {
     store: Store,
@@ -35,7 +35,7 @@ impl Served {
     pub(super) fn new(alloc: Global) -> Served {
         Served {
             store: Store::new(alloc),
-            feeds: Feeds::new(alloc, 1),
+            feeds: Feeds::new(alloc),
         }
     }
 }
@@ -61,8 +61,7 @@ fn open(alloc: Global, feeds: &mut Feeds, words: &mut Words<'_>, out: &mut Vec<u
         gap: None,
     };
     let span = Span { lo: None, hi: None };
-    let cursor = words.number();
-    let feed = feeds.open(0, kind, &span, cursor, words.number()).ok()?;
+    let feed = feeds.open(0, kind, &span, words.number()).ok()?;
     put_number(alloc, out, feed)
 }
 

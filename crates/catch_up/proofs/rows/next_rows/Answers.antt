@@ -1,54 +1,48 @@
-use Rattle.std.proofs.Common.{Global, Vec, [], ap, arith, inl, inr, subst, sym, ◌++◌, ◌∷◌, ◌∙◌}
+use Rattle.std.proofs.Common.{[], ap, arith, inl, inr, subst, sym, ◌++◌, ◌∷◌, ◌∙◌}
 use Rattle.std.specs.Option.{option_copied}
-use Rattle.timestamps.specs.declared.row.Row.{Row}
-use Rattle.version_chain.specs.Following.{Walk}
-use Rattle.catch_up.specs.Left.{AreNextIn}
-use Rattle.catch_up.proofs.Walk.{IsWalking, begins_walking, ends_walking, goes_on_walking, keys_shorten, walk_full, walk_joins}
+use Rattle.catch_up.proofs.Walk.{IsWalking, begins_walking, ends_walking, goes_on_walking, none_past, walk_full, walk_joins}
 use Rattle.catch_up.proofs.rows.next_rows.Goals as goal
-use Rattle.catch_up.proofs.rows.next_rows.Goals.{else-contains, else-loop-missing-test, then-contains+in_ok-row+in_ok-push, then-loop-missing-test+in-Some+then-is_none+in_ok-rest+in_ok-append, then-loop-missing-test+in_default}
+use Rattle.catch_up.proofs.rows.next_rows.Goals.{else-contains, then-contains+in_ok-row+in_ok-push}
 
-pub loop-missing-init : goal.loop-missing-init
-loop-missing-init c =
+pub returns-then-is_past : goal.returns-then-is_past
+returns-then-is_past c = none_past c.args.store.now c.args.span.now c.args.ts (option_copied c.args.key) c.args.through c.args.n c.new-rows.result.items (c.is_past.ensures c.if-is_past.true) c.new-rows.ensures.items
+
+pub loop-init : goal.loop-init
+loop-init c =
     let store = c.args.store.now in
     let key = option_copied c.args.key in
     subst (λ w. IsWalking store c.args.span.now c.args.ts key c.args.through c.args.n w c.args.n c.new-rows.result.items) (sym c.committed_after-committed.ensures)
     (subst (λ rows. IsWalking store c.args.span.now c.args.ts key c.args.through c.args.n (record { store = store; ts = c.args.ts; key = key; through = c.args.through }) c.args.n rows) (sym c.new-rows.ensures.items)
     (begins_walking store c.args.span.now c.args.ts key c.args.through c.args.n))
 
-pub loop-missing-smaller : goal.loop-missing-smaller
-loop-missing-smaller c = keys_shorten c.loop-missing.keys c.next-in-loop-missing.new.self c.next-in-loop-missing.result c.next-in-loop-missing.ensures.steps c.if-is_none.ensures
+pub returns-then-missing-eq0 : goal.returns-then-missing-eq0
+returns-then-missing-eq0 c =
+    walk_full c.args.store.now c.args.span.now c.args.ts (option_copied c.args.key) c.args.through c.args.n c.loop.committed.ts c.loop.committed.key c.loop.missing c.loop.rows.items c.loop.invariant.walked (omega (arith, c.if-missing-eq0.true))
 
-pub loop-missing-preserved : goal.loop-missing-preserved
-loop-missing-preserved c =
-    goes_on_walking c.args.store.now c.args.span.now c.args.ts (option_copied c.args.key) c.args.through c.args.n c.loop-missing.committed c.next.new.self c.loop-missing.missing c.if-contains.missing c.loop-missing.rows.items c.if-contains.rows.items
-    c.in-Some.found.now c.in-Some.version.now c.loop-missing.invariant c.in-Some.ensures.found c.in-Some.ensures.walked
+pub returns-in_default : goal.returns-in_default
+returns-in_default c =
+    ends_walking c.args.store.now c.args.span.now c.args.ts (option_copied c.args.key) c.args.through c.args.n c.loop.committed c.loop.missing c.loop.rows.items c.loop.invariant c.in_default.ensures.found
+
+pub loop-preserved : goal.loop-preserved
+loop-preserved c =
+    goes_on_walking c.args.store.now c.args.span.now c.args.ts (option_copied c.args.key) c.args.through c.args.n c.loop.committed c.next.new.self c.loop.missing c.if-contains.missing c.loop.rows.items c.if-contains.rows.items
+    c.in-Some.found.now c.in-Some.version.now c.loop.invariant c.in-Some.ensures.found c.in-Some.ensures.walked
     (elim c.if-contains.branch [
       | then-contains+in_ok-row+in_ok-push w ↦ inl (record {
         inside = sym c.contains.ensures ∙ w.if-contains.true;
-        less = omega (arith, w.missing-is, c.loop-missing-test.true);
-        more = ap (λ v. v.items) w.rows-is ∙ w.in_ok-push.ensures.items ∙ ap (λ r. c.loop-missing.rows.items ++ r ∷ []) w.in_ok-row.ensures;
+        less = omega (arith, w.missing-is, c.if-missing-eq0.false);
+        more = ap (λ v. v.items) w.rows-is ∙ w.in_ok-push.ensures.items ∙ ap (λ r. c.loop.rows.items ++ r ∷ []) w.in_ok-row.ensures;
       })
       | else-contains w ↦ inr (record { outside = sym c.contains.ensures ∙ w.if-contains.false; same = w.missing-is; rows_same = ap (λ v. v.items) w.rows-is })
     ])
 
+pub counted_rows-requires-clause-store : goal.counted_rows-requires-clause-store
+counted_rows-requires-clause-store c = c.loop.invariant.store
+
+pub counted_rows-requires-clause-far : goal.counted_rows-requires-clause-far
+counted_rows-requires-clause-far c = c.loop.invariant.far
+
 pub returns : goal.returns
 returns c =
-    elim c.loop-missing-test.branch [
-      | else-loop-missing-test w ↦ subst (λ (v : Vec Row Global). AreNextIn c.args.store.now c.args.span.now c.args.ts (option_copied c.args.key) c.args.through c.args.n v.items) (sym w.rows-is)
-          (walk_full c.args.store.now c.args.span.now c.args.ts (option_copied c.args.key) c.args.through c.args.n c.loop-missing.committed.ts c.loop-missing.committed.key c.loop-missing.missing c.loop-missing.rows.items c.loop-missing.invariant.walked w.loop-missing-test.false)
-      | then-loop-missing-test+in_default w ↦ subst (λ (v : Vec Row Global). AreNextIn c.args.store.now c.args.span.now c.args.ts (option_copied c.args.key) c.args.through c.args.n v.items) (sym w.rows-is)
-          (ends_walking c.args.store.now c.args.span.now c.args.ts (option_copied c.args.key) c.args.through c.args.n c.loop-missing.committed c.loop-missing.missing c.loop-missing.rows.items c.loop-missing.invariant w.in_default.ensures.found)
-      | then-loop-missing-test+in-Some+then-is_none+in_ok-rest+in_ok-append w ↦
-          walk_joins c.args.store.now c.args.span.now c.args.ts (option_copied c.args.key) c.args.through c.args.n w.next.new.self.ts w.next.new.self.key w.if-contains.missing w.if-contains.rows.items c.loop-missing-test.rows.items w.in_ok-rest.rest.items
-          (goes_on_walking c.args.store.now c.args.span.now c.args.ts (option_copied c.args.key) c.args.through c.args.n c.loop-missing.committed w.next.new.self c.loop-missing.missing w.if-contains.missing c.loop-missing.rows.items w.if-contains.rows.items
-          w.in-Some.found.now w.in-Some.version.now c.loop-missing.invariant w.in-Some.ensures.found w.in-Some.ensures.walked
-          (elim w.if-contains.branch [
-            | then-contains+in_ok-row+in_ok-push u ↦ inl (record {
-              inside = sym w.contains.ensures ∙ u.if-contains.true;
-              less = omega (arith, u.missing-is, w.loop-missing-test.true);
-              more = ap (λ v. v.items) u.rows-is ∙ u.in_ok-push.ensures.items ∙ ap (λ r. c.loop-missing.rows.items ++ r ∷ []) u.in_ok-row.ensures;
-            })
-            | else-contains u ↦ inr (record { outside = sym w.contains.ensures ∙ u.if-contains.false; same = u.missing-is; rows_same = ap (λ v. v.items) u.rows-is })
-          ])).walked
-          (subst (λ (u : Walk). AreNextIn c.args.store.now c.args.span.now u.ts u.key c.args.through w.if-contains.missing w.in_ok-rest.rest.items) (sym w.in-Some.ensures.walked) w.in_ok-rest.ensures) (ap (λ (v : Vec Row Global). v.items) w.rows-is ∙ w.in_ok-append.ensures.items)
-    ]
+    walk_joins c.args.store.now c.args.span.now c.args.ts (option_copied c.args.key) c.args.through c.args.n c.loop.committed.ts c.loop.committed.key c.loop.missing c.loop.rows.items c.append.new.self.items c.in_ok-rest.rest.items
+    c.loop.invariant.walked c.in_ok-rest.ensures c.in_ok-append.ensures.items

@@ -1,11 +1,6 @@
-use Rattle.std.proofs.Common.{length}
 use Rattle.std.specs.Option.{option_copied}
 use Rattle.catch_up.proofs.Walk.{IsWalking}
 use Rattle.catch_up.proofs.rows.next_rows.Given as goal
 
-abbrev pub invariant-loop-missing : goal.invariant-loop-missing
-invariant-loop-missing l = IsWalking l.store l.span l.ts (option_copied l.key) l.through l.n l.committed l.missing l.rows.items
-
--- each step passes a key
-abbrev pub decreases-loop-missing : goal.decreases-loop-missing
-decreases-loop-missing l = length l.keys
+abbrev pub invariant-loop : goal.invariant-loop
+invariant-loop l = IsWalking l.store l.span l.ts (option_copied l.key) l.through l.n l.committed l.missing l.rows.items

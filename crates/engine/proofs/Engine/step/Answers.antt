@@ -8,7 +8,7 @@ pub step-reply-requires-clause-room : goal.step-reply-requires-clause-room
 step-reply-requires-clause-room c = has_room c.args.self.now.layers c.args.self.now.steps c.args.self.now.stands c.requires.room
 
 pub invariant_of-self : goal.invariant_of-self
-invariant_of-self c = record { stands = goes_on c.args.self.now.layers c.step-reply.new.self c.args.self.now.steps c.args.seat c.args.cmd.now c.step-reply.result c.step-reply.ensures.step c.step-reply.ensures.served c.args.self.now.stands }
+invariant_of-self c = record { stands = goes_on c.args.self.now.layers c.step-reply.new.self c.args.self.now.steps c.args.seat c.args.cmd.now c.step-reply.result c.step-reply.ensures c.args.self.now.stands }
 
 pub returns-clause-history : goal.returns-clause-history
-returns-clause-history c = λ h n stands. history_step c.args.self.now.layers c.step-reply.new.self c.args.self.now.steps h n c.args.seat c.args.cmd.now c.step-reply.result stands c.step-reply.ensures.step c.step-reply.ensures.served
+returns-clause-history c = λ h n stands. history_step c.args.self.now.layers c.step-reply.new.self c.args.self.now.steps h n c.args.seat c.args.cmd.now c.step-reply.result stands c.step-reply.ensures

@@ -135,7 +135,7 @@ told
 
 /// Whether each row of a history is told as it says.
 pub(super) fn tells(alloc: Global, history: &str) -> Option<bool> {
-    let mut engine = Engine::new(alloc, 1);
+    let mut engine = Engine::new(alloc);
     for part in history.split('@').skip(1) {
         let (script, rows) = part.split_once("told\n")?;
         let (_, script) = script.split_once('\n')?;

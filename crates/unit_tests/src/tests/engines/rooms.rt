@@ -149,15 +149,14 @@ pub(super) enum Asked {
     Long,
 }
 
-/// Whether each of these commands is as it says, after a script by an engine whose feeds hold so many rows.
+/// Whether each of these commands is as it says, after a script.
 pub(super) fn are_as_told(
     alloc: Global,
-    ring: u32,
     script: &str,
     asked: Asked,
     told: (&str, &str),
 ) -> Option<bool> {
-    let engine = engine_of(alloc, ring, script)?;
+    let engine = engine_of(alloc, script)?;
     let cmds = read_script(alloc, told.0.as_bytes(), 3, Format::One).ok()?;
     let mut count = 0usize;
     for ((seat, cmd), row) in cmds.iter().zip(told.1.lines()) {
@@ -179,11 +178,8 @@ fn is_long_as_told(engine: &Engine, seat: u8, cmd: &Cmd, row: &str) -> Option<bo
     Some(long == (wanted == "yes"))
 }
 
-fn engine_of(alloc: Global, ring: u32, script: &str) -> Option<Engine> {
-    if ring == 0 || ring > 65536 {
-        return None;
-    }
-    let mut engine = Engine::new(alloc, ring);
+fn engine_of(alloc: Global, script: &str) -> Option<Engine> {
+    let mut engine = Engine::new(alloc);
     play(alloc, &mut engine, script)?;
     Some(engine)
 }

@@ -44,7 +44,7 @@ pub(super) fn play(alloc: Global, engine: &mut Engine, script: &str) -> Option<(
 pub(super) fn steps(alloc: Global, transcript: &str) -> Option<u64> {
     let wanted = read_transcript(alloc, transcript.as_bytes(), Format::One).ok()?;
     let calls = calls(alloc, wanted).ok()?;
-    let (engine, events) = Engine::run(alloc, calls, 1024).ok()?;
+    let (engine, events) = Engine::run(alloc, calls).ok()?;
     if text(alloc, &events).ok()?.as_slice() != transcript.as_bytes() {
         return None;
     }

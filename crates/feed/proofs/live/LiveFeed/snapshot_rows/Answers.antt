@@ -1,21 +1,21 @@
 use Rattle.std.proofs.Common.{ap, subst, ◌≡◌}
 use Rattle.std.proofs.lemmas.Result.{IfOk-weaker}
 use Rattle.std.specs.Option.{option_copied}
+use Rattle.spans.specs.Kept.{Place}
 use Rattle.spans.specs.declared.span.Span.{Span}
 use Rattle.catch_up.specs.Firsts.{AreNextFirsts}
 use Rattle.feed.specs.Firsts.{AreNextFirstsAt}
-use Rattle.feed.specs.Live.{Live}
 use Rattle.feed.proofs.Catching.{firsts_next, firsts_none}
 use Rattle.feed.proofs.live.LiveFeed.snapshot_rows.Goals as goal
 
 pub returns-in_default : goal.returns-in_default
-returns-in_default c = firsts_none c.args.store.now c.args.self.now.place c.args.n c.new.result.items c.in_default.ensures c.new.ensures.items
+returns-in_default c = firsts_none c.args.store.now c.args.self.now c.args.n c.new.result.items c.in_default.ensures c.new.ensures.items
 
 pub returns : goal.returns
 returns c =
-    let place = c.args.self.now.place in
+    let place = c.args.self.now in
     let key = option_copied c.told_at.result in
-    let span : c.self.inside.span ≡ place.span = ap (λ (l : Live). l.place.span) c.self.view_is in
+    let span : c.self.inside.span ≡ place.span = ap (λ (l : Place). l.span) c.self.view_is in
     IfOk-weaker c.next_snapshot.result
     (λ rows. AreNextFirsts c.args.store.now c.self.inside.span key c.in-Some.at c.args.n rows.items)
     (λ rows. AreNextFirstsAt c.args.store.now place c.args.n rows.items)

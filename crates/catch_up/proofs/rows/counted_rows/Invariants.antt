@@ -1,0 +1,10 @@
+use Rattle.std.proofs.Common.{length}
+use Rattle.catch_up.proofs.Walk.{IsWalking}
+use Rattle.catch_up.proofs.rows.counted_rows.Given as goal
+
+abbrev pub invariant-loop-missing : goal.invariant-loop-missing
+invariant-loop-missing l = IsWalking l.store l.span l.fn.committed.ts l.fn.committed.key l.through l.n l.committed l.missing l.rows.items
+
+-- each step passes a key
+abbrev pub decreases-loop-missing : goal.decreases-loop-missing
+decreases-loop-missing l = length l.keys
