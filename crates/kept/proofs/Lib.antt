@@ -17,12 +17,10 @@ pub mod Scans
 pub mod Untold
 pub mod Polling
 pub mod Floors
-pub mod RingRows
 pub mod Refusals
 pub mod Replying
 pub mod Standing
 pub mod Answering
-pub mod RingSteps
 pub mod LeftRows
 pub mod Contained
 pub mod Rising

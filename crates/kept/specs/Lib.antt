@@ -4,7 +4,6 @@ pub mod Marks
 pub mod Table
 pub mod Places
 pub mod StandsFor
-pub mod Rings
 pub mod Leading
 pub mod Collecting
 pub mod Changes
