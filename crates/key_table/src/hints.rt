@@ -121,7 +121,8 @@ pub(crate) fn hash_of(key: &Key) -> usize {
     for byte in rest {
         hash = mixed(hash, *byte as usize);
     }
-    hash
+    // The last byte of a word reaches the lower digits, which are a place, by a second product alone.
+    mixed(hash, 0)
 }
 
 /// A hash of what was hashed so far and of a word.
