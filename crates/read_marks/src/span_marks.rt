@@ -1,5 +1,5 @@
 //! The latest reader of each key, by spans.
-ghost use Rattle.std.specs.Prelude.{◌≡◌, ℕ, List, [], Some, bytes_eq, true, IfOk, OnOk, OnErr, IsTrue, false, max, nat_le, unwrap_or, if◌then◌else◌};
+ghost use Rattle.std.specs.Prelude.{◌≡◌, ℕ, List, [], Some, bytes_eq, true, IfOk, OnOk, OnErr, IsTrue, false, length, max, nat_le, unwrap_or, if◌then◌else◌};
 ghost use Rattle.std.specs.BTreeMap.{IsOrdered, get};
 ghost use Rattle.std.specs.Map.{keys_of};
 ghost use Rattle.std.specs.Range.Bound.{bound_map};
@@ -173,7 +173,9 @@ impl SpanMarks {
     }
 
     /// How many starts there are.
-    pub fn len(&self) -> usize {
+    pub fn len(&self) -> usize
+        ensures { result ≡ length self.now.starts.entries }
+    {
         self.starts.len()
     }
 }
