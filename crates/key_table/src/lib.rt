@@ -5,7 +5,8 @@
 //!
 //! 1. A key has a number exactly where the slab has the key at that number. So no two keys share one.
 //! 2. A hint is a number in a place of its key's hash. It is believed only where the slab has the key there, so a wrong or
-//!    a missing hint costs a search of the map and nothing else, and no contract speaks of hints.
+//!    a missing hint costs a search of the map and nothing else, and no contract speaks of hints. The number that a caller
+//!    had before is such a hint too.
 //!
 //! ```text
 //! hashes: pear 5, apple 1, fig 5, plum 4       hints are tried from the place of the hash on, by `hash ^ 0` to `hash ^ 3`
@@ -21,6 +22,7 @@
 //! Costs, with n keys:
 //!
 //! - `number_of`: O(1) by a hint, and else O(log n), whoever chose the keys
+//! - `number_again`: one comparison of keys where the key still has its number, and else O(log n)
 //! - `key_of`: O(1)
 //! - `add`: O(log n), and O(n) where slab or hints have doubled, which is O(1) an `add`
 //! - `free`, `free_at`: O(log n)

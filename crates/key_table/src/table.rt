@@ -64,6 +64,19 @@ impl KeyTable {
         }
     }
 
+    /// The number of a key once more, where it has one, after it had the number `before`, or none. That is tried in place of the
+    /// hints.
+    pub fn number_again(&self, key: &Key, before: Option<usize>) -> Option<usize>
+        ensures number { result ≡ number_in self.now key.now }
+        ensures own { IfSome result (λ n. IsOwn self.now key.now n) }
+    {
+        let numbers = &self.numbers;
+        match before {
+            Some(number) if self.is_at(key, number) => Some(number),
+            _ => numbers.get(key).copied(),
+        }
+    }
+
     /// The number of a key, where a hint leads to it.
     #[inline(always)]
     fn number_by_hints(&self, key: &Key) -> Option<usize>
