@@ -16,8 +16,8 @@ use collections::Held;
 use feeds::Served;
 use key_set::KeySet;
 use key_table::KeyTable;
-use mvto_rules::Rules;
 use read_marks::{Readers, SpanMarks};
+use rules::Played;
 use script::play;
 use txn_table::Txns;
 use version_chain::Store;
@@ -42,6 +42,6 @@ fn layers(rt: HostRuntime) {
     assert!(rt; marks::raises_agree(rt.alloc()) == Some(true));
     assert!(rt; marks::notes_agree(rt.alloc()) == Some(true));
     for script in rules::SCRIPTS {
-        play(&rt, &mut Rules::new(rt.alloc()), script);
+        play(&rt, &mut Played::new(rt.alloc(), script), script);
     }
 }

@@ -84,6 +84,10 @@ only_marks k r s' before =
     ap (λ v. record (holding k (record r { store = s' })) { version = v }) (fun_ext (λ y. fun_ext (λ i. before.version y i)))
     ∙ ap (λ c. record (holding k r) { committed = c; marked = marked_in s' }) (fun_ext (λ y. fun_ext (λ i. before.committed y i)))
 
+-- where the store means what it did, the same is kept
+pub same_held : (k : Kept) (r : Rules) (s' : Stored) → IsAsBefore r.store s' → HaveSameMarks r.store s' → holding k (record r { store = s' }) ≡ holding k r
+same_held k r s' before same = only_marks k r s' before ∙ ap (λ m. record (holding k r) { marked = m }) (same_marks r.store s' same)
+
 -- a read of another's version is noted in its gap
 pub gap_read : (k : Kept) (r : Rules) (s' : Stored) (x : List ℕ) (t above : ℕ) (next : Option ℕ) → above < t → t ≤ MAX → IsNextAbove (version_in r.store x) t next → IsAsBefore r.store s' → IsMarkedAt r.store s' x t above (until next)
     → (seen (holding k r) x t).ts ≡ above → IsReadBy (holding k r) (holding k (record r { store = s' })) t x

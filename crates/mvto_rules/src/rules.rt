@@ -1,5 +1,5 @@
 //! The versions with the marks of readers, the transactions and what is closed, under the rules that tie them.
-//! `Sight::of` is the read rule, which gets and scans apply, and `is_too_late` the write rule.
+//! `Sight::of` is the read rule, which gets and scans apply. The store judges a write by the write rule.
 ghost use Rattle.std.specs.Prelude.{◌≡◌, ◌<◌, ◌≤◌, is_some, true, Some, None, IfOk, IfErr, OnOk, OnErr};
 ghost use Rattle.std.specs.Option.{option_copied};
 ghost use Rattle.timestamps.specs.declared.ts.TheConstants.{MAX};
@@ -13,7 +13,6 @@ ghost use Rattle.kept.specs.Answered.{IsScanReply, IsWriteReply};
 ghost use Rattle.kept.specs.Leading.{Pairs};
 ghost use Rattle.kept.specs.Changes.{IsAbortedBy, IsAlike, IsBegun, IsCommittedBy, IsReadBy, IsScannedBy, IsWritten};
 ghost use Rattle.kept.specs.Finding.{IsNextAbove, seen};
-ghost use Rattle.kept.specs.Marks.{IsLate};
 ghost use Rattle.kept.specs.Replies.{begin_reply, get_reply};
 ghost use Rattle.kept.specs.StandsFor.{nothing_kept};
 ghost use Rattle.kept.specs.Lists.{IsNumberOf};
@@ -34,7 +33,7 @@ use timestamps::key::Key;
 use timestamps::ts::Ts;
 use timestamps::value::Value;
 use txn_table::{Outcome, Txns};
-use version_chain::Store;
+use version_chain::{Spot, Store, Wrote};
 
 /// The versions with the marks of readers, the transactions, the closed timestamp with the protections, and the
 /// horizon, under the rules that tie them.
@@ -103,7 +102,7 @@ impl Rules {
             Err(refusal) => return Ok(Reply::Refused(refusal)),
             Ok(ts) => ts,
         };
-        let (newest, next) = self.store.around(key, ts.get());
+        let (newest, next, spot) = self.store.around(key, ts.get());
         match Sight::of(newest, ts) {
             Sight::Blocked(by) => Ok(Reply::Refused(Refusal::Blocked { by })),
             Sight::Own => {
@@ -112,7 +111,7 @@ impl Rules {
             }
             Sight::Other(above) => {
                 let after = value_of(newest)?;
-                self.mark(key, ts, above, next)?;
+                self.mark(key, spot, ts, above, next)?;
                 Ok(Reply::Found(after))
             }
         }
@@ -120,14 +119,21 @@ impl Rules {
 
     /// Marks the reader of a key, who read the version of `above`, or none where that is 0. The next
     /// version is that of `next`.
-    fn mark(&mut self, key: &Key, ts: Ts, above: u64, next: Option<u64>) -> Result<(), AllocError>
+    fn mark(
+        &mut self,
+        key: &Key,
+        spot: Spot,
+        ts: Ts,
+        above: u64,
+        next: Option<u64>,
+    ) -> Result<(), AllocError>
         requires low { above < ts }
         requires in_range { ts ≤ MAX }
         requires next { IsNextAbove (version_in (versions_of self.old) key.now) ts next }
         ensures ok { OnOk result (Changes self.old self.new (λ k k'. (seen k key.now ts).ts ≡ above → IsReadBy k k' ts key.now)) }
         ensures err { OnErr result (Stays self.old self.new) }
     {
-        self.store.mark(key, ts, above, next)
+        self.store.mark(key, spot, ts, above, next)
     }
 
     /// Writes a value, or a delete where there is none, unless a later reader has read the version
@@ -150,20 +156,13 @@ impl Rules {
             Err(refusal) => return Ok(Reply::Refused(refusal)),
             Ok(ts) => ts,
         };
-        if self.is_too_late(key, ts) {
-            self.take_back(ts);
-            return Ok(Reply::Refused(Refusal::TooLate));
+        match self.store.write(key, ts, after)? {
+            Wrote::Done => Ok(Reply::Written),
+            Wrote::Crossed => {
+                self.take_back(ts);
+                Ok(Reply::Refused(Refusal::TooLate))
+            }
         }
-        self.store.write(key, ts, after)?;
-        Ok(Reply::Written)
-    }
-
-    /// Whether a write is too late: a reader above it has read the version below it. That reader is not
-    /// above the next version.
-    fn is_too_late(&self, key: &Key, ts: Ts) -> bool
-        ensures { Holds self.now (λ k. IsLate k key.now ts result) }
-    {
-        self.store.is_crossed(key, ts.get())
     }
 
     /// Reads the keys of a span, and marks the reader at all of them, those without a version too, but

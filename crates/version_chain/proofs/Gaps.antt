@@ -1,9 +1,10 @@
 -- Readers of a key and its versions: which reader crosses a write, and the gap of a read.
-use Rattle.std.proofs.Common.{◌≡◌, ℕ, ◌<◌, ◌≤◌, ◌==◌, Bool, true, false, List, Option, Some, None, Result, Ok, Err, refl, sym, ◌∙◌, ap, subst, inl, inr, arith, max, lt-ltb, ltb-true, nat_lt, option_map}
+use Rattle.std.proofs.Common.{◌≡◌, ℕ, ◌<◌, ◌≤◌, ◌==◌, Bool, true, false, List, [], ◌∷◌, Option, Some, None, Result, Ok, Err, refl, sym, ◌∙◌, ap, subst, inl, inr, arith, max, lt-ltb, ltb-true, nat_lt, option_map}
 use Rattle.std.specs.Prelude.{◌↔◌, IfSome, IsTrue, MatchOption, OnErr, OnOk, is_some}
 use Rattle.std.specs.Borrow.{Bor}
 use Rattle.std.specs.Option.{option_copied}
 use Rattle.std.proofs.lemmas.Bool.{and_parts, cases_lt}
+use Rattle.std.proofs.lemmas.Bool.Decides.{nat_tests}
 use Rattle.spans.specs.Effects.{After}
 use Rattle.spans.specs.Kept.{IsCrossed}
 use Rattle.spans.specs.Newest.{newest}
@@ -12,7 +13,8 @@ use Rattle.kept.specs.Finding.{IsNextAbove}
 use Rattle.kept.specs.Marks.{AtMost, IsBetween, IsPiece, until}
 use Rattle.read_marks.specs.Readers.{is_kept, is_reader}
 use Rattle.version_chain.specs.declared.chain.Version.{Version}
-use Rattle.version_chain.specs.Marking.{IsNotedOn}
+use Rattle.version_chain.specs.Chains.{Stored, chain_of, marked_in}
+use Rattle.version_chain.specs.Marking.{IsCrossedIn, IsNotedOn}
 use Rattle.version_chain.specs.Versions.{afters_of, ts_or, IsLeastAbove, IsNewestOf, IsNoneAbove, IsNoneUpTo}
 
 abbrev ts-of : Option Version → Option ℕ
@@ -140,3 +142,30 @@ crosses_not xs f g t above b at off found = (
   λ on. (let f : false ≡ true = on in cc),
   λ c. subst IsTrue off (found.1 (subst (λ n. IsBetween (is_reader xs) n None) (sym at) ((between_kept f xs t None).1 (record { reader = c.reader; mark = c.mark; higher = c.above; low = tt })))),
 )
+
+-- by the versions and the readers that the record of a key has
+pub crossed_like : (s : Stored) (x : List ℕ) (t f : ℕ) (vs : List Version) (xs : List ℕ) → chain_of s x ≡ vs → ((j : ℕ) → marked_in s x j ≡ is_kept f xs j) → IsCrossed (is_kept f xs) (afters_of vs) t ↔ IsCrossedIn s x t
+crossed_like s x t f vs xs chain marks = (
+  λ c. record { reader = c.reader; mark = marks c.reader ∙ c.mark; above = c.above; none = λ n over under. ap (λ us. afters_of us n) chain ∙ c.none n over under },
+  λ c. record { reader = c.reader; mark = sym (marks c.reader) ∙ c.mark; above = c.above; none = λ n over under. sym (ap (λ us. afters_of us n) chain) ∙ c.none n over under },
+)
+
+-- where there is no version, a lone reader crosses what is below it, unless it is forgotten
+pub lone_crosses : (latest t f : ℕ) → max t f < latest → IsCrossed (is_kept f (latest ∷ [])) (afters_of []) t
+lone_crosses latest t f over =
+    let late : f < latest = omega arith in
+    record { reader = latest; mark = rw (lt-ltb f latest late) itself; above = omega arith; none = λ n a b. refl }
+  where
+    itself : is_reader (latest ∷ []) latest ≡ true
+    itself = grind (arith, nat_tests)
+
+pub none_crosses : (latest t f : ℕ) → latest ≤ max t f → IsCrossed (is_kept f (latest ∷ [])) (afters_of []) t → ⊥
+none_crosses latest t f low c =
+    let both = and_parts (nat_lt f c.reader) (is_reader (latest ∷ []) c.reader) c.mark in
+    let late : f < c.reader = ltb-true f c.reader both.0 in
+    let above : t < c.reader = c.above in
+    let one : c.reader ≡ latest = lone c.reader both.1 in
+    omega arith
+  where
+    lone : (r : ℕ) → is_reader (latest ∷ []) r ≡ true → r ≡ latest
+    lone r is = grind (arith, nat_tests, is)

@@ -1,10 +1,11 @@
 -- What a store is seen as after one record changed, one came, and one went.
-use Rattle.std.proofs.Common.{◌≡◌, ℕ, ◌<◌, ◌≤◌, ◌==◌, Bool, true, false, cond, ◌&&◌, List, [], ◌∷◌, length, Option, Some, None, refl, sym, ◌∙◌, ap, subst, arith, nat_lt, lt-ltb, ltb-true}
-use Rattle.std.specs.Prelude.{bytes_eq, slice_index_or, slice_set}
-use Rattle.std.proofs.lemmas.Bool.{and_parts, false_from_ne_true}
+use Rattle.std.proofs.Common.{◌≡◌, ℕ, ◌<◌, ◌≤◌, ◌==◌, Bool, true, false, cond, ◌&&◌, List, [], ◌∷◌, length, Option, Some, None, refl, sym, ◌∙◌, ap, subst, arith, nat_lt, lt-ltb, ltb-true, max}
+use Rattle.std.specs.Prelude.{◌↔◌, IsTrue, bytes_eq, slice_index_or, slice_set}
+use Rattle.std.proofs.lemmas.Bool.{and_parts, both_ways, false_from_ne_true}
 use Rattle.std.proofs.lemmas.Bool.Decides.{nat_tests}
 use Rattle.std.proofs.lemmas.List.{length-set}
 use Rattle.spans.proofs.Steps.{by_test, key_itself, same_key}
+use Rattle.spans.specs.Kept.{IsCrossed}
 use Rattle.kept.specs.Marks.{IsPiece}
 use Rattle.key_table.specs.Numbers.{Numbered, number_in, IsNumberedAt, IsOwn}
 use Rattle.read_marks.specs.Readers.{is_kept, is_reader, readers_of}
@@ -12,10 +13,11 @@ use Rattle.read_marks.specs.Spans.{latest_in}
 use Rattle.read_marks.specs.declared.span_marks.SpanMarks.{SpanMarks}
 use Rattle.version_chain.specs.declared.record.Record.{Record}
 use Rattle.version_chain.specs.declared.chain.Version.{Version}
+use Rattle.version_chain.specs.Versions.{afters_of}
 use Rattle.version_chain.specs.Chains.{Stored, chain_of, marked_in, HaveSameChains, HaveSameMarks, IsChangedAt}
 use Rattle.version_chain.proofs.Changes.{IsEdited, changed}
-use Rattle.version_chain.specs.Marking.{IsMarkedAt}
-use Rattle.version_chain.proofs.Gaps.{piece_alike}
+use Rattle.version_chain.specs.Marking.{IsCrossedIn, IsMarkedAt}
+use Rattle.version_chain.proofs.Gaps.{both_ways_to, crossed_like, lone_crosses, none_crosses, piece_alike}
 use Rattle.version_chain.specs.ByNumber.{AreLow, IsPlaced, at_number, chains_in, readers_in, stored}
 use Rattle.version_chain.specs.Records.{IsPut}
 use Rattle.version_chain.proofs.ByNumber.{chain_at, chain_is, gone_by_key, marked_is, numbered_still, placed, put_by_key, readers_at}
@@ -44,6 +46,20 @@ module _ (ns : Numbered) (rs : List Record) (spans : SpanMarks) (f : ℕ) (x : L
 
   pub marks_nowhere : number_in ns x ≡ None → (j : ℕ) → marked_in s x j ≡ is_kept f (latest_in spans x ∷ []) j
   marks_nowhere none j = marked_is ns rs spans f x j ∙ ap (λ o. is_kept f (at_number (readers_in rs) (latest_in spans x ∷ []) o) j) none
+
+  -- what its record tells of a write of x
+  pub crossed_here : (n : ℕ) (r : Record) (t u : ℕ) (told : Bool) → IsHere ns rs x n r → u ≡ t → IsTrue told ↔ IsCrossed (is_kept f (readers_of r.readers)) (afters_of r.chain) u → IsTrue told ↔ IsCrossedIn s x t
+  crossed_here n r t u told h at is =
+      both_ways_to (subst (λ i. IsTrue told ↔ IsCrossed (is_kept f (readers_of r.readers)) (afters_of r.chain) i) at is) (crossed_like s x t f r.chain (readers_of r.readers) (chain_here n r h) (marks_here n r h))
+
+  pub free_here : (n : ℕ) (r : Record) (t u : ℕ) (told : Bool) → IsHere ns rs x n r → u ≡ t → IsTrue told ↔ IsCrossed (is_kept f (readers_of r.readers)) (afters_of r.chain) u → told ≡ false → IsCrossedIn s x t → ⊥
+  free_here n r t u told h at is off crossed = both_ways _ off ((crossed_here n r t u told h at is).1 crossed)
+
+  pub crossed_nowhere : (t latest : ℕ) → number_in ns x ≡ None → latest ≡ latest_in spans x → max t f < latest → IsCrossedIn s x t
+  crossed_nowhere t latest none is over = (crossed_like s x t f [] (latest_in spans x ∷ []) (chain_nowhere none) (marks_nowhere none)).0 (lone_crosses (latest_in spans x) t f (subst (λ l. max t f < l) is over))
+
+  pub free_nowhere : (t latest : ℕ) → number_in ns x ≡ None → latest ≡ latest_in spans x → latest ≤ max t f → IsCrossedIn s x t → ⊥
+  free_nowhere t latest none is low c = none_crosses (latest_in spans x) t f (subst (λ l. l ≤ max t f) is low) ((crossed_like s x t f [] (latest_in spans x ∷ []) (chain_nowhere none) (marks_nowhere none)).1 c)
 
 -- ---- a record takes its place
 

@@ -1,6 +1,7 @@
 -- What a read marks in a store.
 use Rattle.std.specs.Prelude.{ℕ, List, Bool, true, false, ◌≡◌, ◌==◌, bytes_eq, Option}
 use Rattle.spans.specs.Effects.{After}
+use Rattle.spans.specs.Kept.{IsCrossed}
 use Rattle.spans.specs.Keys.{in_span}
 use Rattle.spans.specs.Newest.{newest}
 use Rattle.spans.specs.Newest as reads
@@ -13,6 +14,10 @@ use Rattle.version_chain.specs.Stores.{version_in}
 -- the newest version of x at or below t
 abbrev pub newest_in : Stored → ℕ → List ℕ → reads.Version
 newest_in s t x = newest (version_in s x) t
+
+-- a write of x at t is refused: a reader above it has read the version below it
+abbrev pub IsCrossedIn : Stored → List ℕ → ℕ → Type 0
+IsCrossedIn s x t = IsCrossed (marked_in s x) (version_in s x) t
 
 -- of x's readers above `above` and up to `until`, and t, the greatest is left
 pub record IsMarkedAt (s s' : Stored) (x : List ℕ) (t above until : ℕ) : Type 0 where

@@ -1,5 +1,5 @@
 -- What the records of all keys are seen as, and what their own calls say of them.
-use Rattle.std.specs.Prelude.{ℕ, List, [], ◌∷◌, true, false, length, ◌≡◌, ◌<◌, ◌≤◌, ◌⊎◌, bytes_eq, slice_index_or, if◌then◌else◌, Some}
+use Rattle.std.specs.Prelude.{ℕ, List, [], ◌∷◌, true, false, length, ◌≡◌, ◌<◌, ◌≤◌, ◌⊎◌, bytes_eq, slice_index_or, if◌then◌else◌, is_none, Some}
 use Rattle.key_table.specs.Numbers.{Numbered, number_in, IsOwn}
 use Rattle.read_marks.specs.Readers.{has_room, is_kept, is_reader, readers_of}
 use Rattle.read_marks.specs.Spans.{latest_in}
@@ -8,10 +8,12 @@ use Rattle.spans.specs.declared.span.Span.{Span}
 use Rattle.version_chain.specs.declared.chain.Version.{Version}
 use Rattle.version_chain.specs.declared.record.Record.{Record}
 use Rattle.version_chain.specs.declared.chains.Chains.{Chains}
+use Rattle.version_chain.specs.declared.chains.Placed.{Placed}
+use Rattle.version_chain.specs.declared.chains.Placed.TheVariants.{Crossed, New, Over}
 use Rattle.version_chain.specs.Versions.{afters_of}
-use Rattle.version_chain.specs.Chains.{Stored, chain_of, marked_in}
+use Rattle.version_chain.specs.Chains.{Stored, chain_of, found_in, marked_in, HaveSameChains, IsChangedAt}
 use Rattle.version_chain.specs.ByNumber.{chains_in, readers_in, stored}
-use Rattle.version_chain.specs.Marking.{IsNotedOn}
+use Rattle.version_chain.specs.Marking.{IsCrossedIn, IsNotedOn}
 
 abbrev pub stored_of : Chains → Stored
 stored_of c = stored c.keys c.records.items c.spans c.forgotten
@@ -34,6 +36,12 @@ pub record IsNumberOf (ns : Numbered) (x : List ℕ) (n : ℕ) : Type 0 where
 -- the versions of x became vs, and any other key has those that it had
 abbrev pub IsPut : Stored → Stored → List ℕ → List Version → Type 0
 IsPut s s' x vs = (y : List ℕ) → chain_of s' y ≡ (if bytes_eq x y then vs else chain_of s y)
+
+-- a write of v was crossed by a reader and left all chains, or its version came, or took the place of one
+abbrev pub IsPlacedIn : Stored → Stored → List ℕ → Version → Placed → Type 0
+IsPlacedIn s s' x v Crossed = IsCrossedIn s x v.ts × HaveSameChains s s'
+IsPlacedIn s s' x v New = (IsCrossedIn s x v.ts → ⊥) × (is_none (found_in s x v.ts) ≡ true) × IsChangedAt s s' x v.ts (λ _. Some v)
+IsPlacedIn s s' x v Over = (IsCrossedIn s x v.ts → ⊥) × (is_none (found_in s x v.ts) ≡ false) × IsChangedAt s s' x v.ts (λ _. Some v)
 
 -- ---- records that go
 

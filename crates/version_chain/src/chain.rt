@@ -1,5 +1,6 @@
 //! The versions of one key.
-ghost use Rattle.std.specs.Prelude.{◌≡◌, ℕ, ◌<◌, ◌≤◌, ◌+◌, ◌^◌, ◌==◌, ◌↔◌, [], ◌∷◌, suc, length, slice_index_or, if◌then◌else◌, MatchOption, MatchResult, Some, None, IsTrue, IfOk, OnOk, OnErr, is_none, option_map, not};
+ghost use Rattle.std.specs.Prelude.{◌≡◌, ℕ, ◌<◌, ◌≤◌, ◌+◌, ◌^◌, ◌==◌, ◌↔◌, [], ◌∷◌, suc, length, slice_index_or, if◌then◌else◌, MatchOption, MatchResult, Some, None, IsTrue, IfOk, OnOk, OnErr, is_none, option_map, not, false};
+ghost use Rattle.std.specs.Option.{option_copied};
 ghost use Rattle.version_chain.specs.declared.chain.Version.{Version};
 ghost use Rattle.std.specs.List.{filter};
 ghost use Rattle.version_chain.specs.Dead.{is_dead_version, newest_of, is_dead_at};
@@ -28,6 +29,21 @@ pub struct Version {
 }
 
 impl Version {
+    /// An undecided version of this value, or a delete where there is none. The value is copied.
+    pub(crate) fn undecided(ts: Ts, after: Option<&Value>) -> Result<Version, AllocError>
+        ensures { IfOk result (λ v. v ≡ record { ts = ts; after = option_copied after.entry; committed = false }) }
+    {
+        let after = match after {
+            None => None,
+            Some(value) => Some(value.copy()?),
+        };
+        Ok(Version {
+            ts,
+            after,
+            committed: false,
+        })
+    }
+
     /// Whether it is dead by the horizon, where `top` is the timestamp of the newest committed version of
     /// its key at or below that.
     pub(crate) fn is_dead_by(&self, horizon: u64, top: u64) -> bool

@@ -1,7 +1,7 @@
 //! The records of all keys, and the latest reader of the keys without one.
 ghost use Rattle.std.specs.Prelude.{◌≡◌, ◌↔◌, ℕ, List, [], Some, None, MatchOption, IfOk, OnOk, OnErr, IsTrue, is_some, is_none, option_map, true, false, bytes_eq, ◌&&◌, if◌then◌else◌, ◌<◌, ◌≤◌, ◌-◌, length, nat_lt, vec_len, vec_capacity};
 ghost use Rattle.std.specs.List.{filter};
-ghost use Rattle.spans.specs.Kept.{IsCrossed};
+ghost use Rattle.std.specs.Option.{option_copied};
 ghost use Rattle.spans.specs.KeyOrder.{key_lt};
 ghost use Rattle.spans.proofs.Keyed.{RisingKeys};
 ghost use Rattle.key_table.specs.Numbers.{number_in};
@@ -11,7 +11,7 @@ ghost use Rattle.version_chain.specs.declared.record.Record.{Record};
 ghost use Rattle.version_chain.specs.Versions.{as_committed, IsNoneUpTo, IsNewestOf, IsNoneAbove, IsLeastAbove};
 ghost use Rattle.version_chain.specs.Chains.{found_in, chain_of, AreChangedAt, HaveSameChains, HaveSameMarks, IsChangedAt, marked_in};
 ghost use Rattle.version_chain.specs.Stores.{is_committed_in, version_in, IsCountOf};
-ghost use Rattle.version_chain.specs.Marking.{AreMarkedAt, IsMarkedAt};
+ghost use Rattle.version_chain.specs.Marking.{AreMarkedAt, IsCrossedIn, IsMarkedAt};
 ghost use Rattle.version_chain.specs.Walking.{IsCommittedAt, IsFirstAmong, IsNoneAmong, keys_ahead};
 ghost use Rattle.version_chain.specs.ByNumber.{AreLow, IsPlaced};
 ghost use Rattle.version_chain.specs.InSpans.{AreFound};
@@ -23,6 +23,7 @@ use crate::in_span::{InSpan, numbers_in};
 use crate::index::Index;
 use crate::noting::{make_room, note_each};
 use crate::record::Record;
+use crate::spot::Spot;
 use crate::steps::Steps;
 use key_set::Keys;
 use key_table::KeyTable;
@@ -31,9 +32,33 @@ use spans::span::Span;
 use std::alloc::{AllocError, Global};
 use std::iter::Iterator;
 use timestamps::key::Key;
+use timestamps::ts::Ts;
+use timestamps::value::Value;
 
 // Fewer records that came or lost their last version since the last sweep bring no other. So many take up to 2 MB.
 const LEAST_SWEEP: usize = 16_384;
+
+/// What a write did to the chain of its key.
+#[derive(Drop)]
+pub(crate) enum Placed {
+    /// Nothing: a reader above it has read the version below it.
+    Crossed,
+    /// Its version came.
+    New,
+    /// Its version took the place of one.
+    Over,
+}
+
+impl Placed {
+    ghost use Rattle.version_chain.specs.declared.chains.Placed.TheVariants.{New, Over};
+
+    /// A version that came where there was none, or else took the place of one.
+    fn of(new: bool) -> Placed
+        ensures { result ≡ (if new then New else Over) }
+    {
+        if new { Placed::New } else { Placed::Over }
+    }
+}
 
 /// The keys that have a version, or were read by themselves, or were read while they had one: each with its record. Any other
 /// key has no version, and of its readers the latest alone is kept, by spans.
@@ -52,7 +77,7 @@ pub(crate) struct Chains {
 }
 
 impl Chains {
-    ghost use Rattle.version_chain.specs.Records.{AreSwept, HasNoRecord, IsNumberOf, IsPut, IsRecordOf, IsSweptFrom, MayGo, stored_of};
+    ghost use Rattle.version_chain.specs.Records.{AreSwept, HasNoRecord, IsNumberOf, IsPlacedIn, IsPut, IsRecordOf, IsSweptFrom, MayGo, stored_of};
 
     /// No record.
     pub(crate) fn new(alloc: Global) -> Chains
@@ -69,12 +94,12 @@ impl Chains {
         }
     }
 
-    /// The record of a key, where it has one.
-    fn record(&self, key: &Key) -> Option<&Record>
-        ensures { MatchOption result (HasNoRecord self.now key.now) (λ r. IsRecordOf self.now key.now r.now) }
+    /// The record of a key, where it has one, and its number.
+    fn record(&self, key: &Key) -> Option<(usize, &Record)>
+        ensures { MatchOption result (HasNoRecord self.now key.now) (λ r. IsRecordOf self.now key.now r.1.now) }
     {
         let number = self.keys.number_of(key)?;
-        Some(&self.records[number])
+        Some((number, &self.records[number]))
     }
 
     /// The version of the key with the greatest timestamp at or below `t`.
@@ -84,7 +109,7 @@ impl Chains {
     {
         match self.record(key) {
             None => None,
-            Some(record) => record.chain.newest_at(t, &mut Steps::new()),
+            Some((_, record)) => record.chain.newest_at(t, &mut Steps::new()),
         }
     }
 
@@ -95,30 +120,27 @@ impl Chains {
     {
         match self.record(key) {
             None => None,
-            Some(record) => record.chain.next_above(t, &mut Steps::new()),
+            Some((_, record)) => record.chain.next_above(t, &mut Steps::new()),
         }
     }
 
-    /// The version of the key with the greatest timestamp at or below `t`, and the one with the least above `t`.
-    pub(crate) fn around(&self, key: &Key, t: u64) -> (Option<&Version>, Option<&Version>)
+    /// The version of the key with the greatest timestamp at or below `t`, and the one with the least above `t`; and where
+    /// the key's record is.
+    pub(crate) fn around(&self, key: &Key, t: u64) -> (Option<&Version>, Option<&Version>, Spot)
         ensures newest { MatchOption result.0 (IsNoneUpTo (chain_of (stored_of self.now) key.now) t)
             (λ v. IsNewestOf (chain_of (stored_of self.now) key.now) t v.now) }
         ensures next { MatchOption result.1 (IsNoneAbove (chain_of (stored_of self.now) key.now) t)
             (λ v. IsLeastAbove (chain_of (stored_of self.now) key.now) t v.now) }
     {
         match self.record(key) {
-            None => (None, None),
-            Some(record) => record.chain.around(t, &mut Steps::new()),
-        }
-    }
-
-    /// Whether a reader above `t` has read the version of the key below it.
-    pub(crate) fn is_crossed(&self, key: &Key, t: u64) -> bool
-        ensures { IsTrue result ↔ IsCrossed (marked_in (stored_of self.now) key.now) (version_in (stored_of self.now) key.now) t }
-    {
-        match self.record(key) {
-            None => self.spans.latest(key) > t.max(self.forgotten),
-            Some(record) => record.is_crossed(t, self.forgotten),
+            None => (None, None, Spot { number: None }),
+            Some((number, record)) => {
+                let (newest, next) = record.chain.around(t, &mut Steps::new());
+                let spot = Spot {
+                    number: Some(number),
+                };
+                (newest, next, spot)
+            }
         }
     }
 
@@ -179,33 +201,64 @@ impl Chains {
     }
 
     /// The number of the key, which has a record then.
-    fn number_for(&mut self, key: &Key) -> Result<usize, AllocError>
+    fn number_for(&mut self, key: &Key, spot: Spot) -> Result<usize, AllocError>
         ensures number { IfOk result (IsNumberOf self.new.keys key.now) }
         ensures chains { HaveSameChains (stored_of self.old) (stored_of self.new) }
         ensures marks { HaveSameMarks (stored_of self.old) (stored_of self.new) }
         ensures forgotten { self.new.forgotten ≡ self.old.forgotten }
     {
-        match self.keys.number_of(key) {
+        match self.keys.number_again(key, spot.number) {
             Some(number) => Ok(number),
             None => self.add(key, Chain::none(self.alloc)),
         }
     }
 
-    /// Puts a version in, in whose place one may stand, and says whether none did.
-    pub(crate) fn write(&mut self, key: &Key, version: Version) -> Result<bool, AllocError>
-        ensures new { IfOk result (λ new. new ≡ is_none (found_in (stored_of self.old) key.now version.ts)) }
-        ensures ok { OnOk result (IsChangedAt (stored_of self.old) (stored_of self.new) key.now version.ts (λ _. Some version)) }
+    /// Puts an undecided version in, in whose place one may stand, unless a reader above it has read the version below it.
+    /// The value is copied only then.
+    pub(crate) fn write(
+        &mut self,
+        key: &Key,
+        ts: Ts,
+        after: Option<&Value>,
+    ) -> Result<Placed, AllocError>
+        ensures ok { IfOk result (IsPlacedIn (stored_of self.old) (stored_of self.new) key.now (record { ts = ts; after = option_copied after.entry; committed = false })) }
         ensures err { OnErr result (HaveSameChains (stored_of self.old) (stored_of self.new)) }
+        ensures free { OnErr result (IsCrossedIn (stored_of self.old) key.now ts → ⊥) }
         ensures marks { HaveSameMarks (stored_of self.old) (stored_of self.new) }
     {
         match self.keys.number_of(key) {
-            Some(number) => self.records[number].chain.write(version),
-            None => {
-                let chain = Chain::of(self.alloc, version)?;
-                let _ = self.add(key, chain)?;
-                Ok(true)
+            None => self.write_first(key, ts, after),
+            Some(number) => {
+                if self.records[number].is_crossed(ts.get(), self.forgotten) {
+                    return Ok(Placed::Crossed);
+                }
+                let version = Version::undecided(ts, after)?;
+                let new = self.records[number].chain.write(version)?;
+                Ok(Placed::of(new))
             }
         }
+    }
+
+    /// The same for a key without a record.
+    fn write_first(
+        &mut self,
+        key: &Key,
+        ts: Ts,
+        after: Option<&Value>,
+    ) -> Result<Placed, AllocError>
+        requires new { number_in self.old.keys key.now ≡ None }
+        ensures ok { IfOk result (IsPlacedIn (stored_of self.old) (stored_of self.new) key.now (record { ts = ts; after = option_copied after.entry; committed = false })) }
+        ensures err { OnErr result (HaveSameChains (stored_of self.old) (stored_of self.new)) }
+        ensures free { OnErr result (IsCrossedIn (stored_of self.old) key.now ts → ⊥) }
+        ensures marks { HaveSameMarks (stored_of self.old) (stored_of self.new) }
+    {
+        if self.spans.latest(key) > ts.get().max(self.forgotten) {
+            return Ok(Placed::Crossed);
+        }
+        let version = Version::undecided(ts, after)?;
+        let chain = Chain::of(self.alloc, version)?;
+        let _ = self.add(key, chain)?;
+        Ok(Placed::New)
     }
 
     /// Marks a version, where there is one, as committed.
@@ -340,6 +393,7 @@ impl Chains {
     pub(crate) fn mark(
         &mut self,
         key: &Key,
+        spot: Spot,
         ts: u64,
         above: u64,
         until: u64,
@@ -351,7 +405,7 @@ impl Chains {
         ensures chains { HaveSameChains (stored_of self.old) (stored_of self.new) }
     {
         self.make_room_for(ts);
-        let number = self.number_for(key)?;
+        let number = self.number_for(key, spot)?;
         self.records[number]
             .readers
             .note(ts, above, until, self.forgotten)

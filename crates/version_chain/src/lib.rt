@@ -21,7 +21,7 @@
 //! write apple, pear at 30       30            30                     30 apple pear         2
 //! write apple at 10             10 30         30                     10 apple, 30 ..       3
 //! commit 10                     10* 30        30                     10 apple, 30 ..       3    newest_at apple, 29 is 10*
-//! mark all at 20                10* 30 (20)   30 (20)     from - 20  10 apple, 30 ..       3    is_crossed apple, 15: by 20
+//! mark all at 20                10* 30 (20)   30 (20)     from - 20  10 apple, 30 ..       3    write apple at 15 is crossed, by 20
 //! commit 30                     10* 30* (20)  30* (20)    from - 20  10 apple, 30 ..       3    after 30 apple comes 30 pear
 //! forget 20, drop what is dead  30* (20)      30* (20)    from - 20  30 apple pear         2    of 20 nothing is told any more
 //! ```
@@ -30,10 +30,11 @@
 //! no hint of the table leads to it:
 //!
 //! - `newest_at`, `next_above`, `around`: O(log v log b), and at most as many timestamps as v has binary digits
-//! - `is_crossed`: the same, where a reader is above the timestamp; else the chain isn't searched
 //! - `write`: the same, O(log k) for a key that had no record, and O(log n) in the index. It looks at the end of the chain
-//!   first. The versions above its own in its block move, and the starts of the blocks behind it rise
-//! - `mark`: O(log m) with m readers of the key, and O(log k) for one that had no record
+//!   first. The versions above its own in its block move, and the starts of the blocks behind it rise. Where a reader is
+//!   above it, it searches readers and chain before that, and ends there where it is crossed
+//! - `mark`: O(log m) with m readers of the key, and O(log k) for one that had no record. At the spot that `around` gave the
+//!   key is compared once, and not searched
 //! - `mark_all`: O(log k), `around` and `mark` for each record of the span, and O(log s) for each start between its bounds
 //! - `commit`: O(log n) in the index, and O(log v log b) for each key written at its timestamp
 //! - `abort`: the same, O(log k) where the last version of a key goes, and what a write moves
@@ -51,10 +52,11 @@
 //! A collection goes from timestamp to timestamp. At each it looks at the versions at or below the horizon of the keys
 //! that are listed there, and at those that lie in one list or block with them.
 //!
-//! Writes and marks alone take memory. A write that finds none for its place in the index takes its version out again, and a
-//! scan makes room in each record before it notes its read in the first. The memory of a record goes with it, and the list and
-//! the table keep their room for keys that come later. Where as many records as are a quarter of all came or lost their last
-//! version, 16,384 at the least, the next mark goes over all of them and lets those go that may.
+//! Writes and marks alone take memory, and a write that is crossed takes none. A write that finds none for its place in the
+//! index takes its version out again, and a scan makes room in each record before it notes its read in the first. The memory
+//! of a record goes with it, and the list and the table keep their room for keys that come later. Where as many records as are
+//! a quarter of all came or lost their last version, 16,384 at the least, the next mark goes over all of them and lets those
+//! go that may.
 //!
 //! Tests: `layer_tests`.
 #![tactic(auto)]
@@ -68,10 +70,12 @@ pub mod in_span;
 mod index;
 mod noting;
 mod record;
+mod spot;
 mod steps;
 mod store;
 mod versions;
 
 pub use committed_after::CommittedAfter;
+pub use spot::Spot;
 pub use steps::Steps;
-pub use store::Store;
+pub use store::{Store, Wrote};

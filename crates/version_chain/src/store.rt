@@ -1,24 +1,26 @@
 //! The versions of all keys, by key.
-ghost use Rattle.std.specs.Prelude.{◌≡◌, ◌↔◌, ℕ, List, ◌≤◌, ◌<◌, ◌&&◌, None, Some, MatchOption, IfOk, OnOk, OnErr, IsTrue, is_some, nat_lt, true, false};
+ghost use Rattle.std.specs.Prelude.{◌≡◌, ◌↔◌, ℕ, List, ◌≤◌, ◌<◌, ◌&&◌, None, Some, MatchOption, IfOk, OnOk, OnErr, suc, ◌^◌, is_some, nat_lt, true, false};
 ghost use Rattle.std.specs.Option.{option_copied};
 ghost use Rattle.std.specs.List.{filter};
 ghost use Rattle.std.specs.Map.{keys_of};
 ghost use Rattle.spans.specs.Keys.{in_span};
 ghost use Rattle.spans.proofs.Keyed.{RisingKeys};
-ghost use Rattle.spans.specs.Kept.{IsCrossed};
 ghost use Rattle.kept.specs.Finding.{IsNextAbove};
 ghost use Rattle.kept.specs.Marks.{until};
 ghost use Rattle.version_chain.specs.Walking.{IsBeside, keys_ahead};
 ghost use Rattle.version_chain.specs.Chains.{Entry, AreFilled, HaveSameMarks, found_in, has_versions, marked_in};
 ghost use Rattle.version_chain.specs.Dead.{is_dead_in, ArePartlyThinned, IsCollectedIn};
-ghost use Rattle.version_chain.specs.Marking.{AreMarkedAt, IsMarkedAt};
+ghost use Rattle.version_chain.specs.Marking.{AreMarkedAt, IsCrossedIn, IsMarkedAt};
+ghost use Rattle.version_chain.specs.Indexes.{is_listed, IsFilled, IsListedAt};
+ghost use Rattle.version_chain.specs.declared.store.Wrote.TheVariants.{Crossed, Done};
 ghost use Rattle.version_chain.specs.Stores.{version_in, IsCountAt, IsCountOf, IsNewestIn, IsAsBefore, IsWrittenTo, AreCommittedAt, AreDroppedAt};
 
 use crate::chain::Version;
-use crate::chains::Chains;
+use crate::chains::{Chains, Placed};
 use crate::committed_after::CommittedAfter;
 use crate::in_span::InSpan;
 use crate::index::Index;
+use crate::spot::Spot;
 use key_set::Keys;
 use spans::span::Span;
 use std::alloc::{AllocError, Global};
@@ -26,6 +28,15 @@ use std::marker::Model;
 use timestamps::key::Key;
 use timestamps::ts::Ts;
 use timestamps::value::Value;
+
+/// What became of a write.
+#[derive(Drop)]
+pub enum Wrote {
+    /// Nothing, because a reader above it has read the version below it.
+    Crossed,
+    /// Its version stands.
+    Done,
+}
 
 /// Versions by key and timestamp, and which keys have one at each timestamp.
 #[derive(Drop)]
@@ -87,16 +98,17 @@ impl Store {
     }
 
     /// The version of the key with the greatest timestamp at or below `t`, and the least timestamp above
-    /// `t` at which the key has one: by one search for the key, and one of its chain.
-    pub fn around(&self, key: &Key, t: u64) -> (Option<&Version>, Option<u64>)
+    /// `t` at which the key has one: by one search for the key, and one of its chain. The spot saves `mark` the search for
+    /// the key.
+    pub fn around(&self, key: &Key, t: u64) -> (Option<&Version>, Option<u64>, Spot)
         ensures newest { MatchOption result.0 ((i : ℕ) → i ≤ t → version_in self.now key.now i ≡ None)
             (λ v. IsNewestIn self.now key.now t v.now) }
         ensures next { IsNextAbove (version_in self.now key.now) t result.1 }
     {
-        let (newest, next) = self.chains.around(key, t);
+        let (newest, next, spot) = self.chains.around(key, t);
         match next {
-            None => (newest, None),
-            Some(version) => (newest, Some(version.ts.get())),
+            None => (newest, None, spot),
+            Some(version) => (newest, Some(version.ts.get()), spot),
         }
     }
 
@@ -145,46 +157,37 @@ impl Store {
         self.chains.in_span(span)
     }
 
-    /// Puts an undecided version in, in whose place one of the same transaction may stand. A new one is
-    /// listed in the index; where that runs out of memory the version goes again.
-    pub fn write(&mut self, key: &Key, ts: Ts, after: Option<&Value>) -> Result<(), AllocError>
-        ensures ok { OnOk result (IsWrittenTo self.old self.new ts key.now (option_copied after.entry)) }
+    /// Puts an undecided version in, in whose place one of the same transaction may stand, unless a reader above it has read
+    /// the version of the key below it: that is told without memory. A new one is listed in the index; where that runs out
+    /// of memory the version goes again. It searches once for the key.
+    pub fn write(&mut self, key: &Key, ts: Ts, after: Option<&Value>) -> Result<Wrote, AllocError>
+        ensures crossed { IfOk result (λ wrote. (wrote ≡ Crossed) ↔ IsCrossedIn self.old key.now ts) }
+        ensures free { OnErr result (IsCrossedIn self.old key.now ts → ⊥) }
+        ensures before { IfOk result (λ wrote. wrote ≡ Crossed → IsAsBefore self.old self.new) }
+        ensures done { IfOk result (λ wrote. wrote ≡ Done → IsWrittenTo self.old self.new ts key.now (option_copied after.entry)) }
         ensures err { OnErr result (IsAsBefore self.old self.new) }
         ensures marks { HaveSameMarks self.old self.new }
     {
-        // so that one more can be counted
-        if self.count == u64::MAX {
-            return Err(AllocError);
-        }
-        let after = copy_of(after)?;
-        let version = Version {
-            ts,
-            after,
-            committed: false,
-        };
-        let new = self.chains.write(key, version)?;
-        if new {
-            if let Err(refused) = self.index.add(ts.get(), key) {
-                self.chains.remove(key, ts.get());
-                return Err(refused);
+        match self.chains.write(key, ts, after)? {
+            Placed::Crossed => Ok(Wrote::Crossed),
+            Placed::Over => Ok(Wrote::Done),
+            Placed::New => {
+                if let Err(refused) = list(&mut self.index, self.count, ts.get(), key) {
+                    self.chains.remove(key, ts.get());
+                    return Err(refused);
+                }
+                self.count += 1;
+                Ok(Wrote::Done)
             }
-            self.count += 1;
         }
-        Ok(())
-    }
-
-    /// Whether a reader above `t` has read the version of the key below it, by one search for the key.
-    pub fn is_crossed(&self, key: &Key, t: u64) -> bool
-        ensures { IsTrue result ↔ IsCrossed (marked_in self.now key.now) (version_in self.now key.now) t }
-    {
-        self.chains.is_crossed(key, t)
     }
 
     /// Marks the reader of a key, who read the version of `above`, or none where that is 0. The next version is that of `next`.
-    /// Of the key's readers in this gap the greatest alone stays.
+    /// Of the key's readers in this gap the greatest alone stays. The key's record is looked for at the spot first.
     pub fn mark(
         &mut self,
         key: &Key,
+        spot: Spot,
         ts: Ts,
         above: u64,
         next: Option<u64>,
@@ -196,7 +199,7 @@ impl Store {
         ensures versions { IsAsBefore self.old self.new }
     {
         let until = next.unwrap_or(u64::MAX);
-        self.chains.mark(key, ts.get(), above, until)
+        self.chains.mark(key, spot, ts.get(), above, until)
     }
 
     /// Marks the reader of all keys of a span, those without a version too, but for keys where it reads its own.
@@ -291,15 +294,15 @@ impl Store {
     }
 }
 
-/// The same value once more, where there is one.
-fn copy_of(after: Option<&Value>) -> Result<Option<Value>, AllocError>
-    ensures { IfOk result (λ copy. copy ≡ option_copied after.entry) }
+/// Lists a key at a timestamp, where one more than these versions can be counted.
+fn list(index: &mut Index, count: u64, ts: u64, key: &Key) -> Result<(), AllocError>
+    ensures ok { OnOk result (IsListedAt index.old index.new ts key.now) }
+    ensures err { OnErr result ((y : List ℕ) (i : ℕ) → is_listed index.new y i ≡ is_listed index.old y i) }
+    ensures filled { IsFilled index.old → IsFilled index.new }
+    ensures room { OnOk result (suc count < 2 ^ 64) }
 {
-    match after {
-        None => Ok(None),
-        Some(value) => {
-            let copy = value.copy()?;
-            Ok(Some(copy))
-        }
+    if count == u64::MAX {
+        return Err(AllocError);
     }
+    index.add(ts, key)
 }

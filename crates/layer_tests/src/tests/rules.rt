@@ -6,8 +6,8 @@ use std::alloc::Global;
 use timestamps::key::Key;
 use timestamps::value::Value;
 
-/// Scripts, each of rules whose transactions are of seat 0. `x` has the timestamps where a write of a key would be refused
-/// for a reader. `transactions` are those that are undecided, each with how many keys it wrote. `forget` closes and `hard`
+/// Scripts, each of rules whose transactions are of seat 0. `x` has the timestamps where a write of a key comes too late, of
+/// those that are neither closed nor of a transaction that has ended. `transactions` are those that are undecided, each with how many keys it wrote. `forget` closes and `hard`
 /// closes hard, each with where closed then stands and how many it aborted. `look` and `over` read at a closed timestamp,
 /// `keep` protects one, `end` ends a protection, and `jump` collects. `newest` tells a key's version at a timestamp,
 /// `waits` the oldest undecided transaction, and `young` the greatest timestamp that began or was closed.
@@ -50,7 +50,7 @@ put 10 b 1=written
 commit 10=committed 1
 scan 30 a -=rows b1
 get 40 b=found 1
-x b= 10-39
+x b= 11-39
 put 50 b 2=written
 commit 50=committed 1
 get 60 b=found 2
@@ -60,17 +60,17 @@ put 35 b 5=toolate
 put 25 c 6=toolate
 get 60 c=none
 ",
-    // a later reader keeps pieces apart: 9 has read the version of 8, and 7 found none, so only b has both
+    // a later reader keeps pieces apart: 10 has read the version of 8, and 7 found none, so only b has both
     "begin 7=started
 begin 8=started
-begin 9=started
+begin 10=started
 put 8 b 1=written
 commit 8=committed 1
-get 9 b=found 1
+get 10 b=found 1
 scan 7 a c=rows
-x a= 0-6
-x b= 0-6 8-8
-x b\0= 0-6
+x a= 1-6
+x b= 1-6 9-9
+x b\0= 1-6
 ",
     // a scan marks the keys that it did not find
     "begin 10=started
@@ -82,8 +82,8 @@ scan 20 b b=rows
 put 10 b 1=written
 abort 10=aborted
 scan 20 b d=rows
-x b= 0-19
-x c= 0-19
+x b= 1-9 11-19
+x c= 1-9 11-19
 x d=
 put 11 c 1=toolate
 put 12 d 1=written
@@ -102,23 +102,23 @@ put 10 h 2=written
 put 10 z 3=written
 commit 10=committed 3
 scan 20 - -=rows a1 h2 z3
-x a= 10-19
-x b= 0-19
+x a= 11-19
+x b= 1-9 11-19
 put 30 h 4=written
 commit 30=committed 1
 scan 40 - -=rows a1 h4 z3
-x a= 10-39
-x b= 0-39
-x h= 10-19 30-39
-x y= 0-39
-x z= 10-39
+x a= 11-29 31-39
+x b= 1-9 11-29 31-39
+x h= 11-19 31-39
+x y= 1-9 11-29 31-39
+x z= 11-29 31-39
 scan 15 - -=rows a1 h2 z3
 put 50 h 5=written
 commit 50=committed 1
 scan 60 - -=rows a1 h5 z3
-x a= 10-59
-x h= 10-19 30-39 50-59
-x z= 10-59
+x a= 11-29 31-49 51-59
+x h= 11-19 31-39 51-59
+x z= 11-29 31-49 51-59
 ",
     // a closing forgets the readers through its timestamp, and no version. All above it stand
     "begin 10=started
@@ -135,19 +135,19 @@ get 40 b=none
 abort 10=aborted
 commit 15=committed 0
 commit 30=committed 0
-x a= 0-14 20-29
-x b= 0-39
+x a= 1-9 11-14 21-29
+x b= 1-9 11-14 16-19 21-29 31-39
 transactions= 40 0
 forget 20=closed 20 0
-x a= 20-29
-x b= 0-39
+x a= 21-29
+x b= 21-29 31-39
 transactions= 40 0
 forget 15=closed 20 0
-x a= 20-29
+x a= 21-29
 transactions= 40 0
 forget 30=closed 30 0
 x a=
-x b= 0-39
+x b= 31-39
 transactions= 40 0
 undecided=1
 versions=1
@@ -252,35 +252,75 @@ scan 30 - -=rows b3
 ",
 ];
 
-impl Asked for Rules {
-    fn ask(&mut self, alloc: Global, mut words: Words<'_>, out: &mut Vec<u8>) -> Option<()> {
-        match words.word().first() {
-            Some(b'x') => put_crossed(alloc, self, &words.key(alloc)?, out),
-            Some(b'u') => put_number(alloc, out, self.undecided_count()),
-            Some(b'v') => put_number(alloc, out, self.version_count()),
-            Some(b't') => put_transactions(alloc, self, out),
-            Some(b'n') => {
-                let t = words.number();
-                put_or_none(alloc, out, self.version_at(t, &words.key(alloc)?))
-            }
-            Some(b'w') => put_or_none(alloc, out, self.oldest_undecided()),
-            Some(b'y') => put_number(alloc, out, self.reached()),
-            Some(letter) => {
-                let reply = reply_to(alloc, self, *letter, &mut words)?;
-                put_reply(alloc, out, &reply)
-            }
-            None => None,
+/// Rules, with the script whose lines they were played so far.
+#[derive(Drop)]
+pub(super) struct Played<'a> {
+    rules: Rules,
+    script: &'a str,
+    lines: usize,
+}
+
+impl<'a> Played<'a> {
+    pub(super) fn new(alloc: Global, script: &'a str) -> Played<'a> {
+        Played {
+            rules: Rules::new(alloc),
+            script,
+            lines: 0,
         }
     }
 }
 
-/// Writes the timestamps below 100 where a write of a key would be refused for a reader, from the first to the last of each
-/// run.
-fn put_crossed(alloc: Global, rules: &Rules, key: &Key, out: &mut Vec<u8>) -> Option<()> {
+impl<'a> Asked for Played<'a> {
+    fn ask(&mut self, alloc: Global, mut words: Words<'_>, out: &mut Vec<u8>) -> Option<()> {
+        let before = self.lines;
+        self.lines = before.saturating_add(1);
+        let letter = *words.word().first()?;
+        if letter == b'x' {
+            return put_crossed(alloc, self.script, before, &words.key(alloc)?, out);
+        }
+        ask(alloc, &mut self.rules, letter, words, out)
+    }
+}
+
+/// Makes any call but `x`.
+fn ask(
+    alloc: Global,
+    rules: &mut Rules,
+    letter: u8,
+    mut words: Words<'_>,
+    out: &mut Vec<u8>,
+) -> Option<()> {
+    match letter {
+        b'u' => put_number(alloc, out, rules.undecided_count()),
+        b'v' => put_number(alloc, out, rules.version_count()),
+        b't' => put_transactions(alloc, rules, out),
+        b'n' => {
+            let t = words.number();
+            put_or_none(alloc, out, rules.version_at(t, &words.key(alloc)?))
+        }
+        b'w' => put_or_none(alloc, out, rules.oldest_undecided()),
+        b'y' => put_number(alloc, out, rules.reached()),
+        letter => {
+            let reply = reply_to(alloc, rules, letter, &mut words)?;
+            put_reply(alloc, out, &reply)
+        }
+    }
+}
+
+/// Writes the timestamps below 100 where a write of a key comes too late after so many lines of a script, from the first to
+/// the last of each run. Each is tried on rules of its own, because the write ends its transaction.
+fn put_crossed(
+    alloc: Global,
+    script: &str,
+    lines: usize,
+    key: &Key,
+    out: &mut Vec<u8>,
+) -> Option<()> {
     let mut first = None;
     let mut last = 0;
-    for t in 0..100 {
-        if rules.versions().is_crossed(key, t) {
+    for t in 1..100 {
+        let mut rules = rules_after(alloc, script, lines)?;
+        if is_too_late(&mut rules, key, t) {
             first = Some(first.unwrap_or(t));
             last = t;
         } else if let Some(from) = first {
@@ -290,6 +330,26 @@ fn put_crossed(alloc: Global, rules: &Rules, key: &Key, out: &mut Vec<u8>) -> Op
         }
     }
     Some(())
+}
+
+/// Rules after so many lines of a script.
+fn rules_after(alloc: Global, script: &str, lines: usize) -> Option<Rules> {
+    let mut rules = Rules::new(alloc);
+    for line in script.lines().take(lines) {
+        let mut words = Words::of(line);
+        let letter = *words.word().first()?;
+        if letter != b'x' {
+            ask(alloc, &mut rules, letter, words, &mut Vec::new(alloc))?;
+        }
+    }
+    Some(rules)
+}
+
+/// Whether a write of a key comes too late, by the transaction of a timestamp, which begins where it hasn't.
+fn is_too_late(rules: &mut Rules, key: &Key, t: u64) -> bool {
+    rules.begin(0, t);
+    let reply = rules.write(0, t, key, None);
+    matches!(&reply, Reply::Refused(Refusal::TooLate))
 }
 
 pub(super) fn reply_to(

@@ -20,9 +20,9 @@ pub(super) fn play<A: Asked>(rt: &(impl Abort + AllocGlobal), asked: &mut A, scr
 }
 
 fn is_answered<A: Asked>(alloc: Global, asked: &mut A, line: &str) -> bool {
-    let (call, wanted) = line.split_once('=').unwrap_or((line, "="));
+    let (_, wanted) = line.split_once('=').unwrap_or((line, "="));
     let mut out = Vec::new(alloc);
-    let made = asked.ask(alloc, Words { rest: call }, &mut out);
+    let made = asked.ask(alloc, Words::of(line), &mut out);
     made.is_some() && out.as_slice() == wanted.as_bytes()
 }
 
@@ -33,6 +33,12 @@ pub(super) struct Words<'a> {
 }
 
 impl<'a> Words<'a> {
+    /// The words of a line's call.
+    pub(super) fn of(line: &'a str) -> Words<'a> {
+        let (call, _) = line.split_once('=').unwrap_or((line, ""));
+        Words { rest: call }
+    }
+
     /// The same words once more.
     pub(super) fn again(&self) -> Words<'a> {
         Words { rest: self.rest }

@@ -5,7 +5,8 @@ use std::alloc::Global;
 use std::ops::Bound;
 use timestamps::key::Key;
 
-/// `add` tells the number of a new key, which has to be at most the number behind it, and `number` that of any key.
+/// `add` tells the number of a new key, which has to be at most the number behind it, and `number` that of any key. `again`
+/// asks for it once more, after the number behind it, or `-`.
 /// `free` frees it. `key` has the key of a number, and `from` all keys from one on. `many` says how many keys came, were
 /// found and went again.
 pub(super) const SCRIPT: &str = "number b=-
@@ -18,6 +19,11 @@ add a 0=-
 number a=-
 add a 1=1
 add d 9=2
+again b 0=0
+again b 1=0
+again b 7=0
+again b -=0
+again c 0=-
 from 0=abd
 from b=bd
 from c=d
@@ -25,12 +31,15 @@ from e=
 free c=-
 free b=0
 number b=-
+again b 0=-
 key 0=-
 number d=2
 from 0=ad
 add c 0=0
 number c=0
 key 0=c
+again b 0=-
+again c 0=0
 number b=-
 add b 3=3
 from 0=abcd
@@ -56,6 +65,12 @@ impl Asked for KeyTable {
     fn ask(&mut self, alloc: Global, mut words: Words<'_>, out: &mut Vec<u8>) -> Option<()> {
         match words.word() {
             b"number" => put_place(alloc, out, self.number_of(&words.key(alloc)?)),
+            b"again" => {
+                let key = words.key(alloc)?;
+                let before = words.number_or_none();
+                let before = before.map(|number| number as usize);
+                put_place(alloc, out, self.number_again(&key, before))
+            }
             b"add" => {
                 let key = words.key(alloc)?;
                 put_place(alloc, out, added(self, &key, words.number() as usize))

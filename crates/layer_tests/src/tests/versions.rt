@@ -4,7 +4,7 @@ use std::alloc::Global;
 use timestamps::key::Key;
 use timestamps::ts::Ts;
 use timestamps::value::Value;
-use version_chain::Store;
+use version_chain::{Store, Wrote};
 
 /// Scripts, each of a store. A `write` is of a delete. `commit` and `abort` are of all versions at a
 /// timestamp. `commit` says how many these are, and so does `holds`. `many` makes so many changes, from a timestamp on and so far apart. `newest` has the newest version of a key up to a timestamp,
@@ -289,17 +289,25 @@ fn change_at(
     words: &mut Words<'_>,
 ) -> Option<u64> {
     match letter {
-        b'w' => store.write(&words.key(alloc)?, ts, None).ok()?,
+        b'w' => put_version(store, &words.key(alloc)?, ts, None)?,
         b'p' => {
             let key = words.key(alloc)?;
             let value = Value::new(alloc, words.word()).ok()?;
-            store.write(&key, ts, Some(&value)).ok()?;
+            put_version(store, &key, ts, Some(&value))?;
         }
         b'c' => return Some(store.commit(ts)),
         b'a' => store.abort(ts),
         _ => return None,
     }
     Some(0)
+}
+
+/// Writes a version, which no reader crosses.
+fn put_version(store: &mut Store, key: &Key, ts: Ts, after: Option<&Value>) -> Option<()> {
+    match store.write(key, ts, after).ok()? {
+        Wrote::Crossed => None,
+        Wrote::Done => Some(()),
+    }
 }
 
 /// Writes how many versions a change committed, where it is a commit.
