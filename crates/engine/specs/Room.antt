@@ -46,11 +46,15 @@ abbrev pub is_own : ℕ → Option Place → Bool
 is_own seat None = false
 is_own seat (Some place) = place.seat == seat
 
--- the answer to a seat's command would have more than so many bytes of rows or messages. What is refused by its first tests
--- has none; a scan that is blocked has those of the rows before
+-- a scan that may not be long has at most so many rows, because its time goes with them and not with their bytes
+abbrev pub most_rows : ℕ
+most_rows = 32768
+
+-- the answer to a seat's command would have more than so many bytes of rows or messages, or too many rows. What is refused
+-- by its first tests has none; a scan that is blocked has those of the rows before
 abbrev pub is_long : List Effect → (seat most : ℕ) → Cmd → Bool
-is_long p seat most (Scan t span) = passes (transaction_tests p seat t) && is_some (scan_end p t span 18446744073709551615 most)
-is_long p seat most (ScanAt t span) = passes (snapshot_tests p t) && is_some (scan_end p t span 18446744073709551615 most)
+is_long p seat most (Scan t span) = passes (transaction_tests p seat t) && is_some (scan_end p t span most_rows most)
+is_long p seat most (ScanAt t span) = passes (snapshot_tests p t) && is_some (scan_end p t span most_rows most)
 is_long p seat most (Poll f max) = is_own seat (place_of p f) && nat_lt (poll_count p f max most) max
 is_long p seat most _ = false
 

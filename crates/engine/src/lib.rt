@@ -70,6 +70,7 @@ mod statistics;
 
 use crate::layers::Layers;
 pub use looking::Places;
+pub use room::MOST_ROWS;
 use spans::calls::{Cmd, Reply};
 use spans::report::Report;
 use std::alloc::{AllocError, Global};

@@ -29,6 +29,9 @@ use spans::span::Span;
 use std::alloc::AllocError;
 use timestamps::key::Key;
 
+/// A scan of more rows is long, however few bytes they have, because its time goes with its rows.
+pub const MOST_ROWS: u64 = 32_768;
+
 impl Engine {
     ghost use Rattle.engine.specs.Engine.{StandsFor};
 
@@ -48,9 +51,9 @@ impl Engine {
         self.layers.poll_count(feed, max, bytes)
     }
 
-    /// Whether the answer to a seat's command would have more than `most` bytes of rows or messages. What would be
-    /// refused has none. A scan that an undecided version blocks has the rows before that one. Only a poll's look takes
-    /// memory.
+    /// Whether the answer to a seat's command would have more than `most` bytes of rows or messages, or a scan's more
+    /// than [`MOST_ROWS`] rows. What would be refused has none. A scan that an undecided version blocks has the rows
+    /// before that one. Only a poll's look takes memory.
     pub fn is_long(&self, seat: u8, cmd: &Cmd, most: u64) -> Result<bool, AllocError>
         ensures long { (h : List Event) → StandsFor self.now h → IfOk result (λ long. long ≡ is_long (effects_of h) seat most cmd.now) }
         ensures memory { OnErr result (IsPoll cmd.now) }
@@ -66,13 +69,13 @@ impl Engine {
     fn is_scan_long(&self, seat: u8, ts: u64, span: &Span, most: u64) -> bool
         ensures { (h : List Event) → StandsFor self.now h → result ≡ is_long (effects_of h) seat most (Scan ts span.now) }
     {
-        self.layers.rules.is_usable(seat, ts) && self.scan_end(ts, span, u64::MAX, most).is_some()
+        self.layers.rules.is_usable(seat, ts) && self.scan_end(ts, span, MOST_ROWS, most).is_some()
     }
 
     fn is_snapshot_long(&self, seat: u8, t: u64, span: &Span, most: u64) -> bool
         ensures { (h : List Event) → StandsFor self.now h → result ≡ is_long (effects_of h) seat most (ScanAt t span.now) }
     {
-        self.layers.rules.is_readable(t) && self.scan_end(t, span, u64::MAX, most).is_some()
+        self.layers.rules.is_readable(t) && self.scan_end(t, span, MOST_ROWS, most).is_some()
     }
 
     fn is_poll_long(&self, seat: u8, feed: u64, max: u64, most: u64) -> Result<bool, AllocError>

@@ -4,7 +4,7 @@ mod rooms;
 mod running;
 
 use dumping::{HISTORIES, tells};
-use rooms::{Asked, CLOSED, LONG, OPEN, POLLS, SCANS, SEATS, are_as_told};
+use rooms::{Asked, CLOSED, LONG, OPEN, POLLS, SCANS, SEATS, are_as_told, is_long_of_rows};
 use running::{FIRST, READER, steps};
 
 #[test]
@@ -29,4 +29,10 @@ fn looks_say_how_far_there_is_room(rt: HostRuntime) {
 #[test]
 fn only_what_is_answered_is_too_long(rt: HostRuntime) {
     assert!(rt; are_as_told(rt.alloc(), SEATS, Asked::Long, LONG) == Some(true));
+}
+
+#[test]
+fn a_scan_of_many_rows_is_too_long(rt: HostRuntime) {
+    assert!(rt; is_long_of_rows(rt.alloc(), 32_768) == Some(false));
+    assert!(rt; is_long_of_rows(rt.alloc(), 32_769) == Some(true));
 }

@@ -4,7 +4,7 @@ use Rattle.std.specs.Prelude.{◌&&◌}
 use Rattle.spans.specs.Answer.{transaction_tests}
 use Rattle.spans.specs.Effects.{effects_of}
 use Rattle.engine.specs.Layers.{feeds_of, kept_of}
-use Rattle.engine.specs.Room.{passes, scan_end}
+use Rattle.engine.specs.Room.{most_rows, passes, scan_end}
 use Rattle.engine.proofs.TooLong.{ends_long, usable_is}
 use Rattle.engine.proofs.Engine.is_scan_long.Goals as goal
 
@@ -12,9 +12,9 @@ pub returns-then-is_usable : goal.returns-then-is_usable
 returns-then-is_usable c = λ h stands. let e = c.args.self.now.layers in
     let past = usable_is (kept_of e) (effects_of h) stands.kept.fits c.args.seat c.args.ts c.is_usable.result (c.is_usable.ensures (feeds_of e.feeds)) in
     c.is_some.ensures
-    ∙ ends_long (passes (transaction_tests (effects_of h) c.args.seat c.args.ts)) c.scan_end.result (scan_end (effects_of h) c.args.ts c.args.span.now 18446744073709551615 c.args.most) (sym c.if-is_usable.true ∙ past) (c.scan_end.ensures h stands)
+    ∙ ends_long (passes (transaction_tests (effects_of h) c.args.seat c.args.ts)) c.scan_end.result (scan_end (effects_of h) c.args.ts c.args.span.now most_rows c.args.most) (sym c.if-is_usable.true ∙ past) (c.scan_end.ensures h stands)
 
 pub returns-else-is_usable : goal.returns-else-is_usable
 returns-else-is_usable c = λ h stands. let e = c.args.self.now.layers in
     let past = usable_is (kept_of e) (effects_of h) stands.kept.fits c.args.seat c.args.ts c.is_usable.result (c.is_usable.ensures (feeds_of e.feeds)) in
-    c.if-is_usable.false ∙ ap (λ b. b && is_some (scan_end (effects_of h) c.args.ts c.args.span.now 18446744073709551615 c.args.most)) (sym c.if-is_usable.false ∙ past)
+    c.if-is_usable.false ∙ ap (λ b. b && is_some (scan_end (effects_of h) c.args.ts c.args.span.now most_rows c.args.most)) (sym c.if-is_usable.false ∙ past)

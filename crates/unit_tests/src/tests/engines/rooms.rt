@@ -172,6 +172,19 @@ pub(super) fn are_as_told(
     Some(count == cmds.len())
 }
 
+/// Whether a scan of so many rows is too long, where their bytes are let through.
+pub(super) fn is_long_of_rows(alloc: Global, rows: u64) -> Option<bool> {
+    let mut engine = Engine::new(alloc);
+    play(alloc, &mut engine, "0 begin 10\n")?;
+    for row in 0..rows {
+        let put = format!(in alloc; "0 put 10 k{row} -\n").ok()?;
+        play(alloc, &mut engine, put.as_str())?;
+    }
+    let scans = read_script(alloc, b"0 scan 10 - -\n".as_slice(), 1, Format::One).ok()?;
+    let (seat, scan) = scans.first()?;
+    engine.is_long(*seat, scan, u64::MAX - 1).ok()
+}
+
 fn is_long_as_told(engine: &Engine, seat: u8, cmd: &Cmd, row: &str) -> Option<bool> {
     let (most, wanted) = row.split_once(' ')?;
     let long = engine.is_long(seat, cmd, most.parse::<u64>().ok()?).ok()?;
