@@ -23,7 +23,8 @@ pub struct Readers {
 fn cut(list: &mut SmallVec<u64, IN_PLACE>, from: usize, to: usize)
     requires rises { from ≤ to }
     requires bound { to ≤ length list.old.items }
-    ensures { list.new.items ≡ take from list.old.items ++ drop to list.old.items }
+    ensures items { list.new.items ≡ take from list.old.items ++ drop to list.old.items }
+    ensures capacity { list.new.capacity ≡ list.old.capacity }
 {
     if from < to {
         list.drain(from..to);
@@ -33,7 +34,7 @@ fn cut(list: &mut SmallVec<u64, IN_PLACE>, from: usize, to: usize)
 impl Readers {
     ghost use Rattle.read_marks.specs.Readers.{SplitsAt, has_room, is_kept, is_reader, readers_of};
 
-    /// No readers.
+    /// No readers. It takes no memory, and the first two take none.
     pub fn new(alloc: Global) -> Readers
         ensures { readers_of result ≡ [] }
     {
@@ -142,18 +143,23 @@ impl Readers {
         ensures err { OnErr result (readers_of self.new ≡ readers_of self.old) }
         ensures room { OnErr result (has_room self.old → ⊥) }
     {
-        self.merge(ts, above, until)?;
         self.trim(forgotten);
-        Ok(())
+        self.merge(ts, above, until)
     }
 
-    /// The readers up to `through` go where they are more than half, which the one in the middle tells. They don't go at
-    /// each note, since the others move.
+    /// The readers up to `through` go where they are half, which the one in the middle tells, and then there is room. They
+    /// don't go at each note, since the others move.
     fn trim(&mut self, through: u64)
-        ensures { (j : ℕ) → is_kept through (readers_of self.new) j ≡ is_kept through (readers_of self.old) j }
+        ensures kept { (j : ℕ) → is_kept through (readers_of self.new) j ≡ is_kept through (readers_of self.old) j }
+        ensures room { has_room self.old → has_room self.new }
+        ensures full { (has_room self.new → ⊥) → readers_of self.new ≡ readers_of self.old }
     {
-        match self.list.get(self.list.len() / 2) {
-            Some(middle) if *middle <= through => self.forget_through(through),
+        let middle = self.list.len().saturating_sub(1) / 2;
+        match self.list.get(middle) {
+            Some(reader) if *reader <= through => {
+                let count = self.count_through(through);
+                cut(&mut self.list, 0, count);
+            }
             _ => {}
         }
     }
