@@ -10,9 +10,9 @@
 //! finds none, and has written nothing. Nothing depends on this crate.
 //!
 //! Some growths come only where much was called before: a list of 256 versions turns into blocks, a full block is
-//! halved, reads go over blocks, a scan lies over forty lone keys, and 16,384 marks are swept. Each has a story, which is made and not typed: what prepares the engine, the calls in question, whose
-//! growths alone are refused, what is asked behind a refusal, because all that stood has to stand, and what is asked in
-//! the end.
+//! halved, reads go over blocks, a scan makes room in forty lone keys, and 16,384 marks are swept. Each has a story, which
+//! is made and not typed: what prepares the engine, the calls in question, whose growths alone are refused, what is asked
+//! behind a refusal, because all that stood has to stand, and what is asked in the end.
 //!
 //! ```text
 //!                      the growth that is refused is this call's      and the reply again

@@ -1,8 +1,9 @@
 -- The readers of one segment, where those of a gap become one.
-use Rattle.std.proofs.Common.{ℕ, List, [], ◌∷◌, ◌++◌, Bool, true, false, cond, ◌≡◌, ◌<◌, ◌≤◌, ◌-◌, ◌+◌, ◌⊎◌, inl, inr, length, get_or, take, drop, leb, leb-true, leb-false, arith, refl, sym, length-append, append_assoc, max, set, subst, ◌∙◌}
-use Rattle.std.specs.List.{Contains, insert}
+use Rattle.std.proofs.Common.{ℕ, List, [], ◌∷◌, ◌++◌, Bool, true, false, ◌≡◌, ◌<◌, ◌≤◌, ◌-◌, ◌+◌, ◌⊎◌, inl, inr, length, get_or, take, drop, leb, leb-true, leb-false, arith, refl, ap, sym, length-append, append_assoc, max, set, subst, ◌∙◌, Err, Ok, OnErr, OnOk, Result}
+use Rattle.std.specs.List.{Contains, insert, refill}
 use Rattle.std.specs.List.Sorted.{IsNonDecreasing}
-use Rattle.std.proofs.lemmas.List.{get_or_default, get_or-append_right, get_or_append_left, take_more_set, drop-set-lt}
+use Rattle.std.proofs.Math.Seq.{take-append_seam}
+use Rattle.std.proofs.lemmas.List.{length-set, get_or_default, get_or-append_right, get_or_append_left, take_more_set, drop-set-lt}
 use Rattle.std.proofs.lemmas.List.Sorted.{IsNonDecreasingBy-push, IsNonDecreasingBy-take, IsNonDecreasingBy-drop}
 use Rattle.std.proofs.lemmas.List.Elements.{Contains-get_or, Contains-append_left, Contains-append_right, Contains-append_cases, Contains-push, Contains-push_cases}
 use Rattle.kept.specs.Marks.{IsPiece}
@@ -169,11 +170,18 @@ IsMerged xs zs ts above until = IsNonDecreasing zs × IsPiece (is_reader xs) (is
 merged : (xs zs : List ℕ) (above until ts a b top : ℕ) → IsNonDecreasing xs → SplitsAt xs above a → SplitsAt xs until b → a ≤ length xs → above < ts → IsGreatest xs above until ts top → zs ≡ (take a xs ++ top ∷ []) ++ drop b xs → IsMerged xs zs ts above until
 merged xs zs above until ts a b top up p q bound low g is = rw is (merged_rises xs above until ts a b top up p q bound g, merged_piece xs above until ts a b top p q bound low g)
 
+-- a reader written over another, in the list as it was lent
+refilled : (xs : List ℕ) (i x : ℕ) → refill (length xs) xs (set xs i x) ≡ set xs i x
+refilled xs i x = subst (λ n. take n (set xs i x ++ drop (length (set xs i x)) xs) ≡ set xs i x) (length-set xs i x) (take-append_seam (set xs i x) (drop (length (set xs i x)) xs))
+
 -- where readers stand in the gap
-pub merged_some : (xs zs : List ℕ) (above until ts a b w top : ℕ) → IsNonDecreasing xs → SplitsAt xs above a → SplitsAt xs until b → b ≤ length xs → above < ts → ts ≤ until → a < b → w ≡ get_or xs (b - 1) w → top ≡ max w ts
-    → zs ≡ take (a + 1) (set xs a top) ++ drop b (set xs a top) → IsMerged xs zs ts above until
-merged_some xs zs above until ts a b w top up p q bound low high some at sum is =
-    merged xs zs above until ts a b top up p q (omega arith) low (greatest_some xs above until ts a b w top up p q low high some bound at sum) (is ∙ written xs a b top some (omega arith))
+pub merged_some : (xs ys zs : List ℕ) (above until ts a b top : ℕ) → IsNonDecreasing xs → SplitsAt xs above a → SplitsAt xs until b → b ≤ length xs → above < ts → ts ≤ until → a < b → ys ≡ xs → top ≡ max (get_or ys (b - 1) 0) ts
+    → zs ≡ take (a + 1) (refill (length xs) xs (set ys a top)) ++ drop b (refill (length xs) xs (set ys a top)) → IsMerged xs zs ts above until
+merged_some xs ys zs above until ts a b top up p q bound low high some lent sum is =
+    let at : get_or xs (b - 1) 0 ≡ get_or xs (b - 1) (get_or xs (b - 1) 0) = get_or_default xs (b - 1) 0 _ (omega arith) in
+    let one = greatest_some xs above until ts a b (get_or xs (b - 1) 0) top up p q low high some bound at (subst (λ vs. top ≡ max (get_or vs (b - 1) 0) ts) lent sum) in
+    let over : refill (length xs) xs (set ys a top) ≡ set xs a top = ap (λ vs. refill (length xs) xs (set vs a top)) lent ∙ refilled xs a top in
+    merged xs zs above until ts a b top up p q (omega arith) low one (subst (λ vs. zs ≡ take (a + 1) vs ++ drop b vs) over is ∙ written xs a b top some (omega arith))
 
 -- where none does
 pub merged_none : (xs zs : List ℕ) (above until ts a b : ℕ) → IsNonDecreasing xs → SplitsAt xs above a → SplitsAt xs until b → a ≤ length xs → above < ts → ts ≤ until → b ≤ a → zs ≡ insert xs a ts → IsMerged xs zs ts above until
@@ -181,6 +189,6 @@ merged_none xs zs above until ts a b up p q bound low high none is =
     merged xs zs above until ts a b ts up p q bound low (greatest_none xs above until ts a b p q low high none) (is ∙ put_in xs a b ts (same_place xs above until a b p q (omega arith) bound none))
 
 -- readers that rise, whether one came or not
-pub rising_either : (xs zs ys : List ℕ) (t : Bool) → IsNonDecreasing xs → (zs ≡ ys → IsNonDecreasing zs) → zs ≡ cond t ys xs → IsNonDecreasing zs
-rising_either xs zs ys true up more is = more is
-rising_either xs zs ys false up more is = rw is up
+pub rising_either : {E : Type 0} (r : Result (Unit {0}) E) (xs zs ys : List ℕ) → IsNonDecreasing xs → (zs ≡ ys → IsNonDecreasing zs) → OnOk r (zs ≡ ys) → OnErr r (zs ≡ xs) → IsNonDecreasing zs
+rising_either (Ok u) xs zs ys up more ok err = more ok
+rising_either (Err e) xs zs ys up more ok err = rw err up

@@ -1,7 +1,8 @@
 -- The readers of one key, as a list.
-use Rattle.std.specs.Prelude.{ℕ, List, Bool, true, false, nat_eq, nat_le, nat_lt, ◌&&◌, ◌≡◌, ◌<◌, vec_len, vec_capacity}
+use Rattle.std.specs.Prelude.{ℕ, List, Bool, true, false, nat_eq, nat_le, nat_lt, ◌&&◌, ◌≡◌}
 use Rattle.std.specs.List.Sorted.{IsPartitionPoint}
 use Rattle.std.specs.Set.{is_member}
+use Rattle.smallvec.specs.SmallVec.{HasRoomFor}
 use Rattle.read_marks.specs.declared.readers.Readers.{Readers}
 
 abbrev pub readers_of : Readers → List ℕ
@@ -9,7 +10,7 @@ readers_of r = r.list.items
 
 -- one more is noted in place
 abbrev pub has_room : Readers → Type 0
-has_room r = vec_len r.list < vec_capacity r.list
+has_room r = HasRoomFor r.list 1
 
 -- the number is one of the readers
 abbrev pub is_reader : List ℕ → ℕ → Bool

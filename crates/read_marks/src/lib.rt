@@ -27,9 +27,9 @@
 //! - `raise`: O(log n) for each start from the span's lower bound to its upper one
 //! - `forget_through`: O(log m) and a move of those that stay; of spans O(log n) for each start
 //!
-//! A note takes memory for one reader, unless `make_room` has made room for it. A raise takes it for two starts: one of up
-//! to 24 bytes lies in the map, and a longer one takes memory of its own. The other calls take none, but that a long start
-//! is copied where neighbours are joined; where that is refused they are joined later.
+//! Up to two readers of a key lie in place. A note of one more takes memory, unless `make_room` has made room for it. A
+//! raise takes it for two starts: one of up to 24 bytes lies in the map, and a longer one takes memory of its own. The other
+//! calls take none, but that a long start is copied where neighbours are joined; where that is refused they are joined later.
 //!
 //! Tests: `layer_tests`.
 #![tactic(auto)]

@@ -1,25 +1,30 @@
 //! The readers of one key.
-ghost use Rattle.std.specs.Prelude.{◌≡◌, ◌<◌, ◌≤◌, ◌==◌, ◌&&◌, ℕ, List, [], ◌++◌, IfOk, OnOk, OnErr, IsTrue, ◌↔◌, false, length, nat_lt, filter, take, drop, vec_len, vec_capacity};
+ghost use Rattle.std.specs.Prelude.{◌≡◌, ◌<◌, ◌≤◌, ◌==◌, ◌&&◌, ℕ, List, [], ◌++◌, OnOk, OnErr, IsTrue, ◌↔◌, false, length, nat_lt, filter, take, drop};
 ghost use Rattle.std.specs.List.Sorted.{IsNonDecreasing};
 ghost use Rattle.kept.specs.Marks.{IsBetween, IsPiece};
 
+use smallvec::SmallVec;
 use std::alloc::{AllocError, Global};
 use timestamps::binary_search::BinarySearch;
+
+/// So many readers lie in place. Most keys have no more, and then none takes memory.
+const IN_PLACE: usize = 2;
 
 /// The timestamps of those that read a key.
 #[derive(Drop)]
 pub struct Readers {
-    list: Vec<u64>,
+    list: SmallVec<u64, IN_PLACE>,
     pub ghost rising: { IsNonDecreasing list.items },
 }
 
 /// Takes out what stands between two places. Mostly that is nothing. The places are compared first, since a drain of
 /// nothing costs too.
 #[inline(always)]
-fn cut(list: &mut Vec<u64>, from: usize, to: usize)
+fn cut(list: &mut SmallVec<u64, IN_PLACE>, from: usize, to: usize)
     requires rises { from ≤ to }
     requires bound { to ≤ length list.old.items }
-    ensures { list.new.items ≡ take from list.old.items ++ drop to list.old.items }
+    ensures items { list.new.items ≡ take from list.old.items ++ drop to list.old.items }
+    ensures capacity { list.new.capacity ≡ list.old.capacity }
 {
     if from < to {
         list.drain(from..to);
@@ -29,24 +34,24 @@ fn cut(list: &mut Vec<u64>, from: usize, to: usize)
 impl Readers {
     ghost use Rattle.read_marks.specs.Readers.{SplitsAt, has_room, is_kept, is_reader, readers_of};
 
-    /// No readers.
+    /// No readers. It takes no memory, and the first two take none.
     pub fn new(alloc: Global) -> Readers
         ensures { readers_of result ≡ [] }
     {
         Readers {
-            list: Vec::new(alloc),
+            list: SmallVec::new(alloc),
         }
     }
 
     /// One reader, or none where that is 0.
-    pub fn of(alloc: Global, latest: u64) -> Result<Readers, AllocError>
-        ensures { IfOk result (λ r. (j : ℕ) → is_reader (readers_of r) j ≡ (nat_lt 0 j && (j == latest))) }
+    pub fn of(alloc: Global, latest: u64) -> Readers
+        ensures { (j : ℕ) → is_reader (readers_of result) j ≡ (nat_lt 0 j && (j == latest)) }
     {
-        let mut list = Vec::new(alloc);
+        let mut list = SmallVec::new(alloc);
         if latest > 0 {
-            list.push(latest)?;
+            list.push_reserved(latest);
         }
-        Ok(Readers { list })
+        Readers { list }
     }
 
     /// How many readers are at or below a timestamp. The latest is asked first: for a gap without an end it tells that
@@ -55,14 +60,15 @@ impl Readers {
         ensures splits { SplitsAt (readers_of self.now) ts result }
         ensures bound { result ≤ length (readers_of self.now) }
     {
-        if let Some(latest) = self.list.last() {
+        let list = self.list.as_slice();
+        if let Some(latest) = list.last() {
             if *latest <= ts {
-                return self.list.len();
+                return list.len();
             }
         }
-        let mut left = BinarySearch::of(self.list.len());
+        let mut left = BinarySearch::of(list.len());
         while left.size > 0 {
-            left = left.after(self.list[left.middle()], ts);
+            left = left.after(list[left.middle()], ts);
         }
         left.low
     }
@@ -71,7 +77,8 @@ impl Readers {
     pub fn any_between(&self, above: u64, to: Option<u64>) -> bool
         ensures { IsTrue result ↔ IsBetween (is_reader (readers_of self.now)) above to }
     {
-        let Some(latest) = self.list.last() else {
+        let list = self.list.as_slice();
+        let Some(latest) = list.last() else {
             return false;
         };
         if *latest <= above {
@@ -81,7 +88,7 @@ impl Readers {
             return true;
         };
         let at = self.count_through(above);
-        self.list[at] <= top
+        list[at] <= top
     }
 
     /// Whether each reader is at or below `through`.
@@ -110,7 +117,8 @@ impl Readers {
         let from = self.count_through(above);
         let to = self.count_through(until);
         if from < to {
-            self.list[from] = self.list[to - 1].max(ts);
+            let list = self.list.as_mut_slice();
+            list[from] = list[to - 1].max(ts);
             cut(&mut self.list, from + 1, to);
             Ok(())
         } else {
@@ -135,18 +143,23 @@ impl Readers {
         ensures err { OnErr result (readers_of self.new ≡ readers_of self.old) }
         ensures room { OnErr result (has_room self.old → ⊥) }
     {
-        self.merge(ts, above, until)?;
         self.trim(forgotten);
-        Ok(())
+        self.merge(ts, above, until)
     }
 
-    /// The readers up to `through` go where they are more than half, which the one in the middle tells. They don't go at
-    /// each note, since the others move.
+    /// The readers up to `through` go where they are half, which the one in the middle tells, and then there is room. They
+    /// don't go at each note, since the others move.
     fn trim(&mut self, through: u64)
-        ensures { (j : ℕ) → is_kept through (readers_of self.new) j ≡ is_kept through (readers_of self.old) j }
+        ensures kept { (j : ℕ) → is_kept through (readers_of self.new) j ≡ is_kept through (readers_of self.old) j }
+        ensures room { has_room self.old → has_room self.new }
+        ensures full { (has_room self.new → ⊥) → readers_of self.new ≡ readers_of self.old }
     {
-        match self.list.get(self.list.len() / 2) {
-            Some(middle) if *middle <= through => self.forget_through(through),
+        let middle = self.list.len().saturating_sub(1) / 2;
+        match self.list.get(middle) {
+            Some(reader) if *reader <= through => {
+                let count = self.count_through(through);
+                cut(&mut self.list, 0, count);
+            }
             _ => {}
         }
     }

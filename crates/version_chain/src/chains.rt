@@ -192,7 +192,7 @@ impl Chains {
         ensures marks { HaveSameMarks (stored_of self.old) (stored_of self.new) }
         ensures forgotten { self.new.forgotten ≡ self.old.forgotten }
     {
-        let readers = Readers::of(self.alloc, self.spans.latest(key))?;
+        let readers = Readers::of(self.alloc, self.spans.latest(key));
         self.records.reserve(1)?;
         let number = self.keys.add(key, self.records.len())?;
         place(&mut self.records, number, Record { chain, readers });

@@ -1,4 +1,4 @@
-//! Marks of lone keys that a scan splits, and so many marks that they are swept.
+//! Lone keys with as many readers as lie in place, when a scan makes room for more; and so many marks that they are swept.
 use super::crowds::Crowd;
 use super::made::Lines;
 use super::prepared::Story;
@@ -7,10 +7,18 @@ use std::alloc::Global;
 /// At so many lone keys and starts all marks are swept.
 const LEAST_SWEEP: u64 = 16_384;
 
-/// A scan over forty keys that were read by themselves, which lie in several nodes of their map.
+/// A scan over forty keys that were read by themselves, below their version and above it. Two readers of a key lie in
+/// place, so the scan makes room for a third in each.
 pub(super) fn lone_keys_in_a_scan(alloc: Global) -> Option<Story> {
     let mut story = Story::new(alloc);
     let before = &mut story.before;
+    before.add("0 begin 500 => started", &[])?;
+    read_keys(before, 500, 10, 40)?;
+    before.add("0 begin 1000 => started", &[])?;
+    for key in 10u64..50 {
+        before.add("0 del 1000 kA => written", &[key])?;
+    }
+    before.add("0 commit 1000 => committed 40", &[])?;
     before.add("0 begin 2000 => started", &[])?;
     read_keys(before, 2000, 10, 40)?;
     before.add("1 begin 3000 => started", &[])?;
@@ -24,7 +32,8 @@ pub(super) fn lone_keys_in_a_scan(alloc: Global) -> Option<Story> {
     standing.add("2 abort 2500 => aborted", &[])?;
     let after = &mut story.after;
     for key in 10u64..50 {
-        write_late(after, key.saturating_add(1000), key)?;
+        write_late(after, key.saturating_add(400), key)?;
+        write_late(after, key.saturating_add(1100), key)?;
         write_late(after, key.saturating_add(2100), key)?;
     }
     after.add("2 begin 2600 => started", &[])?;

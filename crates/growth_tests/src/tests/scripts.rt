@@ -180,4 +180,39 @@ row b 2
 12 0 close 40 => closed 40 0
 13 0 scanat 40 - - => rows 0
 14 0 stats => stats 0 0 0 40 0
+@ A third reader of a key, by a get and by a scan
+0 0 begin 10 => started
+1 0 get 10 a => none
+2 0 get 10 b => none
+3 0 begin 20 => started
+4 0 put 20 a 1 => written
+5 0 put 20 b 1 => written
+6 0 commit 20 => committed 2
+7 0 begin 30 => started
+8 0 get 30 a => value 1
+9 0 get 30 b => value 1
+10 0 begin 40 => started
+11 0 put 40 a 2 => written
+12 0 put 40 b 2 => written
+13 0 commit 40 => committed 2
+14 0 begin 50 => started
+15 0 get 50 a => value 2
+16 0 scan 50 b - => rows 1
+row b 2
+17 1 begin 5 => started
+18 1 put 5 a 3 => toolate
+19 1 begin 6 => started
+20 1 put 6 b 3 => toolate
+21 1 begin 25 => started
+22 1 put 25 a 3 => toolate
+23 1 begin 26 => started
+24 1 put 26 b 3 => toolate
+25 1 begin 45 => started
+26 1 put 45 a 3 => toolate
+27 1 begin 46 => started
+28 1 put 46 b 3 => toolate
+29 1 begin 35 => started
+30 1 put 35 a 3 => written
+31 1 put 35 b 3 => written
+32 1 commit 35 => committed 2
 ";

@@ -83,14 +83,16 @@ none 50=yes
 forget 35=
 of= 50
 ",
-    // readers that are forgotten go once they are more than half
+    // readers that are forgotten go before a note once they are half; two readers lie in place
     "note 1 0 1 0=
 note 2 1 2 0=
 note 3 2 3 0=
-note 4 3 4 2=
+note 4 3 4 1=
 of= 1 2 3 4
-note 5 4 5 3=
-of= 4 5
+note 5 4 5 2=
+of= 3 4 5
+note 6 5 6 4=
+of= 5 6
 ",
 ];
 

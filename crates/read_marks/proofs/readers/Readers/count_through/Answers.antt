@@ -1,4 +1,4 @@
-use Rattle.std.proofs.Common.{get_or, arith, sym, ◌∙◌}
+use Rattle.std.proofs.Common.{get_or, arith}
 use Rattle.std.proofs.lemmas.Bool.{le-leb, lt-leb}
 use Rattle.std.proofs.lemmas.List.{get_or_default}
 use Rattle.read_marks.proofs.readers.Readers.count_through.Goals as goal
@@ -8,7 +8,7 @@ loop-left-preserved c = record {
   within = omega arith;
   left = λ d. c.after-left.ensures.left (λ k. get_or c.args.self.now.list.items k d) _
       (λ i j le lt. c.args.self.now.rising i j d le lt)
-      (rw (← c.middle.ensures) (sym (c.index.ensures ∙ get_or_default c.args.self.now.list.items c.middle.result _ d (omega arith))))
+      (rw (← c.middle.ensures, c.as_slice-list.ensures) (get_or_default c.args.self.now.list.items c.middle.result d 0 (omega arith)))
       (c.loop-left.invariant.left d);
 }
 
