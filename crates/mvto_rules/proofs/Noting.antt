@@ -9,9 +9,9 @@ use Rattle.spans.specs.Kept.{Kept}
 use Rattle.spans.proofs.Steps.{by_test, key_itself}
 use Rattle.kept.specs.Changes.{IsAlike, IsReadBy}
 use Rattle.kept.specs.Finding.{IsNextAbove, seen}
-use Rattle.kept.specs.Marks.{IsNoted, IsPiece, until}
+use Rattle.kept.specs.Marks.{IsLate, IsNoted, IsPiece, until}
 use Rattle.kept.proofs.Noting.{merged_noted, own_noted}
-use Rattle.version_chain.specs.Marking.{IsMarkedAt}
+use Rattle.version_chain.specs.Marking.{IsCrossedIn, IsMarkedAt}
 use Rattle.version_chain.specs.Stores.{HaveSameMarks, IsAsBefore, Stored, after_of, marked_in, version_in}
 use Rattle.mvto_rules.specs.Holding.{holding, marked_of}
 use Rattle.mvto_rules.specs.declared.rules.Rules.{Rules}
@@ -87,6 +87,13 @@ only_marks k r s' before =
 -- where the store means what it did, the same is kept
 pub same_held : (k : Kept) (r : Rules) (s' : Stored) → IsAsBefore r.store s' → HaveSameMarks r.store s' → holding k (record r { store = s' }) ≡ holding k r
 same_held k r s' before same = only_marks k r s' before ∙ ap (λ m. record (holding k r) { marked = m }) (same_marks r.store s' same)
+
+-- what a store says of a write is what is kept of it
+pub is_late : (k : Kept) (r : Rules) (x : List ℕ) (t : ℕ) → IsCrossedIn r.store x t → IsLate (holding k r) x t true
+is_late k r x t crossed = (λ _. crossed, λ _. refl)
+
+pub isnt_late : (k : Kept) (r : Rules) (x : List ℕ) (t : ℕ) → (IsCrossedIn r.store x t → ⊥) → IsLate (holding k r) x t false
+isnt_late k r x t free = (λ on. (let no : false ≡ true = on in cc), λ crossed. absurd (free crossed))
 
 -- a read of another's version is noted in its gap
 pub gap_read : (k : Kept) (r : Rules) (s' : Stored) (x : List ℕ) (t above : ℕ) (next : Option ℕ) → above < t → t ≤ MAX → IsNextAbove (version_in r.store x) t next → IsAsBefore r.store s' → IsMarkedAt r.store s' x t above (until next)
