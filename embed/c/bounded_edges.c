@@ -287,6 +287,38 @@ static void several_polls(void) {
     }
 }
 
+// A scan of more rows is too long, however many bytes are let through, unless all are.
+static void many_rows(void) {
+    doing = "many rows";
+    CHECK(ripsawbean_open(&db, 1) == RIPSAWBEAN_OK);
+    made = 0;
+    line("0 begin 10\n");
+    for (unsigned row = 0; row <= RIPSAWBEAN_MOST_ROWS; row++) {
+        char key[9];
+        snprintf(key, sizeof key, "k%05u", row);
+        ripsawbean_answer answer;
+        CHECK(ripsawbean_put(&db, 0, 10, line_of(key, 6), 6, other_of("", 0), 0, &answer) == RIPSAWBEAN_OK);
+        made++;
+    }
+    const char *text = "0 scan 10 - k32768\n0 scan 10 - -\n0 scan 10 k00001 -\n";
+    const size_t of_a_row = strlen("row k00000 -\n"), bounds[] = {ALL - 1, 24 * RIPSAWBEAN_MOST_ROWS, ALL};
+    for (size_t b = 0; b < sizeof bounds / sizeof *bounds; b++) {
+        ripsawbean_taken taken;
+        ripsawbean_done *told = notes_of(3);
+        uint8_t *out = out_of(2000000);
+        CHECK(ripsawbean_calls(&db, line_of(text, strlen(text)), strlen(text), out, 2000000, told, 3, bounds[b], &taken) == RIPSAWBEAN_OK);
+        size_t rows = 0;
+        for (size_t i = 0; i < 3; i++) {
+            bool is_long = i == 1 && bounds[b] != ALL;
+            CHECK(told[i].status == (is_long ? RIPSAWBEAN_ANSWERTOOLONG : RIPSAWBEAN_OK));
+            if (is_long) CHECK(told[i].length == 0);
+            else rows += RIPSAWBEAN_MOST_ROWS + (i == 1);
+        }
+        CHECK(taken.lines == 3 && taken.length > rows * of_a_row && taken.length < rows * of_a_row + 200);
+    }
+    ripsawbean_close(&db);
+}
+
 static void a_closed_handle(void) {
     doing = "a closed handle";
     ripsawbean closed = RIPSAWBEAN_INITIALIZER;
@@ -300,7 +332,7 @@ static void a_closed_handle(void) {
 }
 
 int main(void) {
-    make_guarded(1000, 4000);
+    make_guarded(1000, 2000000);
     CHECK(ripsawbean_open(&db, 4) == RIPSAWBEAN_OK);
     line("3 open - - 0\n");
     line("0 begin 10\n");
@@ -322,6 +354,7 @@ int main(void) {
     a_closed_handle();
     ripsawbean_close(&db);
     long_polls();
+    many_rows();
     printf("bounded_edges: %lu checks\n", checks);
     return 0;
 }

@@ -145,9 +145,8 @@ fn what_lags_in_bytes_is_let_go() {
 
 #[test]
 fn while_memory_is_full_those_that_hold_an_eighth_of_it_are_let_go() {
-    // The feed's ring has eight bytes more.
-    for (size, resident, left) in [(2000, 7992, 1), (500, 7993, 1), (2000, 7993, 0)] {
-        let mut core = core(&["--max-memory", "8000", "--ring", "1"]);
+    for (size, resident, left) in [(2000, 8000, 1), (500, 8001, 1), (2000, 8001, 0)] {
+        let mut core = core(&["--max-memory", "8000"]);
         let mut one = session(&mut core);
         let value = "x".repeat(size);
         answers(&mut core, &mut one, &format!("open - - 0\nprotect 0\nbegin\nput . k {value}\ncommit .\n"));

@@ -4,7 +4,7 @@ use super::*;
 use crate::gate::{Right, Who};
 use crate::options::LONGEST_ROW;
 use crate::testing::{answers, core, end, session, texts, tidy, Dice};
-use ripsawbean::{Command, Span};
+use ripsawbean::{Command, Span, MOST_ROWS};
 use std::time::Duration;
 
 #[test]
@@ -144,6 +144,23 @@ fn an_answer_that_would_be_too_long_makes_no_call() {
     for line in ["begin\nscan . a c", "scanat 1 b -", "poll 1 2"] {
         let told = texts(&mut core, &mut one, &format!("{line}\n"));
         assert!(told.contains("=> rows 2\n") || told.contains("=> messages 2\n"), "{line}: {told:.200}");
+    }
+}
+
+#[test]
+fn a_scan_of_more_rows_than_are_let_through_makes_no_call() {
+    let mut core = core(&[]);
+    let mut one = session(&mut core);
+    let puts: String = (0..=MOST_ROWS).map(|row| format!("put . k{row:05} -\n")).collect();
+    assert!(texts(&mut core, &mut one, &format!("begin\n{puts}commit .\nclose 1\n")).ends_with("=> closed 1 0\n"));
+    for scan in ["scan .", "scanat 1"] {
+        let rows = format!("rows {MOST_ROWS}");
+        assert_eq!(answers(&mut core, &mut one, &format!("begin\n{scan} - k{MOST_ROWS:05}\n"))[1], rows);
+        assert_eq!(answers(&mut core, &mut one, &format!("begin\n{scan} k00001 -\n"))[1], rows);
+        let calls = core.ledger.calls;
+        let told = answers(&mut core, &mut one, &format!("begin\n{scan} - -\nstats\n"));
+        assert!(told[1].ends_with(" 25 answertoolong"), "{told:?}");
+        assert_eq!((told.len(), core.ledger.calls), (3, calls + 2));
     }
 }
 
