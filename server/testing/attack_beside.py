@@ -61,7 +61,7 @@ def test_commits_of_which_a_hundred_readers_are_told(room: Room, scale: Scale) -
 
 
 def test_scans_of_deleted_rows(room: Room, scale: Scale) -> str:
-    return beside(room, "deleted_scans", scale.of(50_000, 300_000))
+    return beside(room, "deleted_scans", scale.of(100_000, 300_000))
 
 
 def test_pages_over_deleted_rows(room: Room, scale: Scale) -> str:

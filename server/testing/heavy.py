@@ -18,6 +18,7 @@ from handmade import HANDSHAKE, Cut, Session, Wire, bearer, fill, framed
 TOKEN = ""
 PAUSE = 0.05  # seconds before a client that was thrown out comes again
 MOST_ROWS = 32768  # of a scan that the library lets through
+SURELY_PASSED = 40_000  # deleted keys: that a scan passes over more than some 65,000 is known by a sample
 
 
 def say(word: str) -> None:
@@ -150,9 +151,13 @@ def deleted_pages(port: int, count: int = 100_000) -> None:
 
 
 def deleted_scans(port: int, count: int = 100_000, times: int = 500) -> None:
-    """Scans of rows that are deleted and not collected: each answers `rows 0`, so no answer gets long."""
+    """Scans of rows that are deleted and not collected: each answers `rows 0`, so no answer gets long. One of all of them
+    is refused, and one of so many as are let through isn't."""
     holder = delete_and_hold(port, count)
-    ask = asking(port, "begin\n%sabort .\n" % ("scan . gone/ gone0\n" * times))
+    scan, answer = "scan . gone/ gone/%07d\n" % SURELY_PASSED, session(port).call("begin\nscan . gone/ gone0\nabort .\n")
+    if " 25 answertoolong " not in answer or "=> rows 0\n" not in session(port).call("begin\n%sabort .\n" % scan):
+        raise ValueError("a scan of all is let through, or one of fewer isn't: " + answer)
+    ask = asking(port, "begin\n%sabort .\n" % (scan * times))
     again_and_again(lambda: (holder, ask()))
 
 
