@@ -1,5 +1,4 @@
-// Ripsawbean inside a program: an in-memory multiversion timestamp database whose committed changes leave it as ordered
-// feeds.
+// Ripsawbean in a program: a multiversion timestamp database in memory whose committed changes leave it as ordered feeds.
 //
 //     ripsawbean db = RIPSAWBEAN_INITIALIZER;
 //     uint8_t out[4096];
@@ -62,6 +61,7 @@ typedef struct {
 #define RIPSAWBEAN_MAX_RING 65536                        // of the ring, which has no effect; 1 is the least
 #define RIPSAWBEAN_MAX_TIMESTAMP UINT64_C(9223372036854775807) // above it a command is answered "tsrange", with RIPSAWBEAN_OK
 #define RIPSAWBEAN_NONE UINT64_MAX                       // where there is no timestamp to tell
+#define RIPSAWBEAN_MOST_ROWS 32768                       // of a scan among many lines, unless all is let through
 
 // What a line may have. A line that has more is told as a fault.
 #define RIPSAWBEAN_SEATS 64                              // a line begins with a seat, 0 to 63
@@ -113,7 +113,7 @@ enum {
 
     // The first by ripsawbean_versions_at alone, the second by a note of ripsawbean_calls alone.
     RIPSAWBEAN_BELOWHORIZON = 24,  // the timestamp is below the horizon, so versions may be gone
-    RIPSAWBEAN_ANSWERTOOLONG = 25, // the rows or messages have more bytes than are let through: no call was made
+    RIPSAWBEAN_ANSWERTOOLONG = 25, // it has more bytes of rows or messages, or more rows, than are let through: no call was made
 
     // By what opens a database or a replica, before anything else is looked at. The handle is as it was.
     RIPSAWBEAN_PROCESSOR = 26      // the processor lacks what the code needs: on x86-64, what x86-64-v2 has
@@ -122,8 +122,7 @@ enum {
 // The version of the library: 65536 times the first of its three numbers, 256 times the second, and the third.
 uint32_t ripsawbean_version(void);
 
-// Opens a closed handle on a new and empty database. The ring is how many rows a feed once kept at hand. It has no effect
-// any more.
+// Opens a closed handle on a new and empty database. The ring, how many rows a feed once kept at hand, has no effect.
 //
 //     RIPSAWBEAN_OK        it is open
 //     RIPSAWBEAN_RING      whatever the handle is; tested first
@@ -414,9 +413,10 @@ typedef struct {
 
 // Makes the calls of lines, one after another, each up to its newline, and shows their texts, one behind another. A
 // faulty line makes no call, and the next one is taken; it ends nothing. Nor does a line make its call whose answer would
-// have more than `most` bytes of rows or messages, as they are counted above; UINT64_MAX lets all through. What would be
-// refused has none, but a scan that would be "blocked" has the rows before what blocks it. The texts stand in the first
-// taken->length bytes of out, whole; the rest of out is as it was, and so are the notes behind the first taken->lines.
+// have more than `most` bytes of rows or messages, as they are counted above, or as a scan more than RIPSAWBEAN_MOST_ROWS
+// rows; UINT64_MAX lets all through. What would be refused has none, but a scan that would be "blocked" has the rows before
+// what blocks it. The texts stand in the first taken->length bytes of out, whole; the rest of out is as it was, and so
+// are the notes behind the first taken->lines.
 //
 //     RIPSAWBEAN_OK         all lines were taken, or there is no room for a further note
 //     RIPSAWBEAN_UNWRITTEN  the last line that was taken made its call, and its text found no room or no memory: its

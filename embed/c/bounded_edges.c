@@ -163,31 +163,29 @@ static void polls(void) {
     }
 }
 
-// A poll of more messages than are looked at first, from a ring and from the store.
+// A poll of more messages than are looked at first.
 static void long_polls(void) {
     doing = "long polls";
-    for (uint32_t ring = 1; ring <= 1024; ring *= 1024) {
-        for (uint64_t room = 0; room <= 100; room++) {
-            ripsawbean one = RIPSAWBEAN_INITIALIZER;
-            uint8_t out[4000];
-            char text[100];
-            size_t length;
-            ripsawbean_answer answer;
-            CHECK(ripsawbean_open(&one, ring) == RIPSAWBEAN_OK);
-            CHECK(ripsawbean_call(&one, (const uint8_t *)"0 open - - 0\n", 13, out, sizeof out, &length) == RIPSAWBEAN_OK);
-            CHECK(ripsawbean_begin(&one, 0, 1, &answer) == RIPSAWBEAN_OK);
-            for (int i = 0; i < 99; i++) {
-                int size = snprintf(text, sizeof text, "%02d", i);
-                CHECK(ripsawbean_put(&one, 0, 1, (const uint8_t *)text, (size_t)size, (const uint8_t *)text, 1, &answer) == RIPSAWBEAN_OK);
-            }
-            CHECK(ripsawbean_commit(&one, 0, 1, &answer) == RIPSAWBEAN_OK);
-            CHECK(ripsawbean_close_to(&one, 0, 1, &answer) == RIPSAWBEAN_OK);
-            // 99 rows of 20 bytes and a resolved message
-            CHECK(ripsawbean_poll_within(&one, 0, 1, 1000, 20 * room + 3, out, sizeof out, &length, &answer) == RIPSAWBEAN_OK);
-            CHECK(is_answer(&answer, RIPSAWBEAN_ANSWER_MESSAGES, room, 0));
-            CHECK(length == (room < 100 ? 20 * room : 99 * 20 + 17));
-            ripsawbean_close(&one);
+    for (uint64_t room = 0; room <= 100; room++) {
+        ripsawbean one = RIPSAWBEAN_INITIALIZER;
+        uint8_t out[4000];
+        char text[100];
+        size_t length;
+        ripsawbean_answer answer;
+        CHECK(ripsawbean_open(&one, 1) == RIPSAWBEAN_OK);
+        CHECK(ripsawbean_call(&one, (const uint8_t *)"0 open - - 0\n", 13, out, sizeof out, &length) == RIPSAWBEAN_OK);
+        CHECK(ripsawbean_begin(&one, 0, 1, &answer) == RIPSAWBEAN_OK);
+        for (int i = 0; i < 99; i++) {
+            int size = snprintf(text, sizeof text, "%02d", i);
+            CHECK(ripsawbean_put(&one, 0, 1, (const uint8_t *)text, (size_t)size, (const uint8_t *)text, 1, &answer) == RIPSAWBEAN_OK);
         }
+        CHECK(ripsawbean_commit(&one, 0, 1, &answer) == RIPSAWBEAN_OK);
+        CHECK(ripsawbean_close_to(&one, 0, 1, &answer) == RIPSAWBEAN_OK);
+        // 99 rows of 20 bytes and a resolved message
+        CHECK(ripsawbean_poll_within(&one, 0, 1, 1000, 20 * room + 3, out, sizeof out, &length, &answer) == RIPSAWBEAN_OK);
+        CHECK(is_answer(&answer, RIPSAWBEAN_ANSWER_MESSAGES, room, 0));
+        CHECK(length == (room < 100 ? 20 * room : 99 * 20 + 17));
+        ripsawbean_close(&one);
     }
 }
 
@@ -287,6 +285,38 @@ static void several_polls(void) {
     }
 }
 
+// A scan of more rows is too long, however many bytes are let through, unless all are.
+static void many_rows(void) {
+    doing = "many rows";
+    CHECK(ripsawbean_open(&db, 1) == RIPSAWBEAN_OK);
+    made = 0;
+    line("0 begin 10\n");
+    for (unsigned row = 0; row <= RIPSAWBEAN_MOST_ROWS; row++) {
+        char key[9];
+        snprintf(key, sizeof key, "k%05u", row);
+        ripsawbean_answer answer;
+        CHECK(ripsawbean_put(&db, 0, 10, line_of(key, 6), 6, other_of("", 0), 0, &answer) == RIPSAWBEAN_OK);
+        made++;
+    }
+    const char *text = "0 scan 10 - k32768\n0 scan 10 - -\n0 scan 10 k00001 -\n";
+    const size_t of_a_row = strlen("row k00000 -\n"), bounds[] = {ALL - 1, 24 * RIPSAWBEAN_MOST_ROWS, ALL};
+    for (size_t b = 0; b < sizeof bounds / sizeof *bounds; b++) {
+        ripsawbean_taken taken;
+        ripsawbean_done *told = notes_of(3);
+        uint8_t *out = out_of(2000000);
+        CHECK(ripsawbean_calls(&db, line_of(text, strlen(text)), strlen(text), out, 2000000, told, 3, bounds[b], &taken) == RIPSAWBEAN_OK);
+        size_t rows = 0;
+        for (size_t i = 0; i < 3; i++) {
+            bool is_long = i == 1 && bounds[b] != ALL;
+            CHECK(told[i].status == (is_long ? RIPSAWBEAN_ANSWERTOOLONG : RIPSAWBEAN_OK));
+            if (is_long) CHECK(told[i].length == 0);
+            else rows += RIPSAWBEAN_MOST_ROWS + (i == 1);
+        }
+        CHECK(taken.lines == 3 && taken.length > rows * of_a_row && taken.length < rows * of_a_row + 200);
+    }
+    ripsawbean_close(&db);
+}
+
 static void a_closed_handle(void) {
     doing = "a closed handle";
     ripsawbean closed = RIPSAWBEAN_INITIALIZER;
@@ -300,7 +330,7 @@ static void a_closed_handle(void) {
 }
 
 int main(void) {
-    make_guarded(1000, 4000);
+    make_guarded(1000, 2000000);
     CHECK(ripsawbean_open(&db, 4) == RIPSAWBEAN_OK);
     line("3 open - - 0\n");
     line("0 begin 10\n");
@@ -322,6 +352,7 @@ int main(void) {
     a_closed_handle();
     ripsawbean_close(&db);
     long_polls();
+    many_rows();
     printf("bounded_edges: %lu checks\n", checks);
     return 0;
 }

@@ -337,7 +337,7 @@ impl Core {
         let collected = self.ledger.collected.saturating_mul(ROW + rows.bytes / rows.rows.max(1));
         let (_, given_back) = growth.taken();
         let freed = collected + self.ledger.taken_back + given_back;
-        self.closing.memory.look(resident + growth.rings(), self.taken(), freed, growth.now());
+        self.closing.memory.look(resident, self.taken(), freed, growth.now());
     }
 }
 

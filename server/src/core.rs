@@ -34,6 +34,8 @@ use std::time::Instant;
 
 /// Bytes that are kept for the text of an event: more than a line and its answer may have, but for rows and messages.
 const SPARE: usize = 1 << 20;
+/// What the library is opened with, which has no effect.
+pub const RING: u32 = 1;
 /// Bytes of a dump that are written at once, where no line is longer.
 const PIECE: usize = 1 << 14;
 
@@ -74,7 +76,7 @@ enum Wanted<'a> {
 impl Core {
     /// A new and empty database, of which nothing is kept. Who starts the server draws its identity.
     pub fn new(options: &Options, identity: String, log: Arc<Log>) -> Result<Core, OpenError> {
-        Ok(Core::of(Database::open(options.ring)?, identity, options, log))
+        Ok(Core::of(Database::open(RING)?, identity, options, log))
     }
 
     /// The database as its journal tells it.
@@ -94,7 +96,7 @@ impl Core {
         Core {
             database,
             identity,
-            ledger: Ledger::new(options.ring),
+            ledger: Ledger::default(),
             seats: Seats::default(),
             transcript: Transcript::new(options.keep, options.keep_bytes),
             names: Names::new(options.max_consumers),

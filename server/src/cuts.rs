@@ -3,11 +3,12 @@
 //! A scan costs what it tells, and what it passes over: keys that are deleted, or that were first written above its
 //! timestamp. Each of them was written above the horizon, or it would be collected. So one in `SHARE` of the keys that are
 //! written is kept here until the horizon has passed it. The database alone knows what stands where: these are mere
-//! places in its order.
+//! places in its order. Pages go from one to the next; a scan that can't be cut is refused where there are too many.
 //!
 //! ```text
 //! written above the horizon     a1 a2 a3 .. a9999          kept  a17 a3021 a8254
 //! a page of a .. b              a .. a17, a17 .. a3021, ..  until there is enough, or the turn is over
+//! scan . a b                    is refused, if `MOST` were 2
 //! ```
 //!
 //! 1. Which keys are kept no client knows.
@@ -18,8 +19,11 @@ use std::collections::BTreeMap;
 use std::hash::BuildHasher;
 use std::ops::Bound;
 
-/// Keys of which one is kept: some 0.1 milliseconds of a walk.
-const SHARE: u64 = 1024;
+/// Keys of which one is kept: some 0.1 milliseconds of a walk, and four times that where each is marked as read.
+pub const SHARE: u64 = 1024;
+/// Those that one call may pass over, which takes some 25 milliseconds. As many rows as a scan may have come with half of
+/// them, and hardly ever with more.
+pub const MOST: usize = 64;
 
 #[derive(Debug)]
 pub struct Cuts {
@@ -55,9 +59,18 @@ impl Cuts {
 
     /// The first one above a key, and below a bound where there is one.
     pub fn first(&self, above: &[u8], hi: Option<&[u8]>) -> Option<&[u8]> {
+        self.within(above, hi).next()
+    }
+
+    /// Those above a key, and below a bound where there is one.
+    pub fn within<'a, 'b>(
+        &'a self,
+        above: &[u8],
+        hi: Option<&'b [u8]>,
+    ) -> impl Iterator<Item = &'a [u8]> + use<'a, 'b> {
         let behind = (Bound::Excluded(above), Bound::Unbounded);
-        let (key, _) = self.kept.range::<[u8], _>(behind).next()?;
-        Some(key.as_slice()).filter(|key| hi.is_none_or(|hi| *key < hi))
+        let keys = self.kept.range::<[u8], _>(behind).map(|(key, _)| key.as_slice());
+        keys.take_while(move |key| hi.is_none_or(|hi| *key < hi))
     }
 }
 
@@ -96,5 +109,7 @@ mod tests {
         assert_eq!(cuts.first(b"k000000", Some(b"k000001\0")), Some(&b"k000001"[..]));
         assert_eq!(cuts.first(b"k000000", Some(b"k000001")), None);
         assert_eq!(cuts.first(b"k000004", None), None);
+        assert_eq!(cuts.within(b"k000001", Some(b"k000004")).collect::<Vec<_>>(), [b"k000002", b"k000003"]);
+        assert_eq!(cuts.within(b"k000003", Some(b"k000001")).count(), 0);
     }
 }

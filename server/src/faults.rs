@@ -58,7 +58,8 @@ pub fn why(name: &str, line: &[u8]) -> String {
         "ahead" => "this timestamp lies more than --ahead above all others",
         "replytoolong" => "the answers to this message are longer than --max-reply",
         "answertoolong" => {
-            "the answers to this message would be longer than --max-answer: ask for less, or in another message"
+            "the answers to this message would be longer than --max-answer, or a scan has more than 32768 rows, or passes \
+             over too many deleted keys: ask for less, or in another message"
         }
         "full" if line.starts_with(b"put") => "memory is full: keys can be deleted, and not put",
         "full" if line.starts_with(b"open") || line.starts_with(b"protect") => {

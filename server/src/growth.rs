@@ -15,14 +15,13 @@
 //! 2. Timestamps of steps rise, and a step has `STEP` bytes before the next one begins: so there are few.
 //! 3. What was read stays in the library behind its closing, until it has doubled. So `memory` lays room aside for it twice.
 //! 4. Feeds that are streamed, and protections of names and of requests, have bounds of their own, and `reserve` has them.
-//! 5. A feed's ring isn't resident before rows come to it. So rings of sessions' feeds count as if all of them were.
 
 use std::collections::VecDeque;
 
 // This is what resident memory grows by, and somewhat more. server/testing/attack_growth.py makes some hundred thousand of
 // each kind and compares. An empty transaction takes 30 bytes, and one that deletes 145. A key that is read takes 160 and,
 // above 24 bytes, its length; each bound of a span as much. A delete takes 310 and, above 24 bytes, three times its key.
-// A transaction that is undecided takes 218, a protection 217, and a feed 790, its ring, and three times its command.
+// A transaction that is undecided takes 218, a protection 217, and a feed 790, and three times its command.
 
 /// Bytes that a transaction takes until it is closed, also one that was decided.
 const BEGUN: u64 = 40;
@@ -36,12 +35,10 @@ const DELETED: u64 = 440;
 const COPIES: u64 = 3;
 /// Bytes that a protection takes.
 const PROTECTED: u64 = 260;
-/// Bytes that a feed takes beside its ring and its command.
+/// Bytes that a feed takes beside its command.
 const FEED: u64 = 900;
 /// How often a feed's command is kept, or its span.
 const COMMANDS: u64 = 4;
-/// Bytes of a place of a feed's ring, also of an empty one.
-pub const PLACE: u64 = 8;
 /// Bytes that one step has.
 const STEP: u64 = 1 << 16;
 
@@ -69,8 +66,6 @@ impl<T> Grown<T> {
 
 #[derive(Debug, Default)]
 pub struct Growth {
-    /// Bytes of a feed's ring.
-    ring: u64,
     open: Steps,
     deleted: Steps,
     /// Transactions that are undecided.
@@ -78,8 +73,6 @@ pub struct Growth {
     /// Bytes of feeds and protections that sessions hold, and all that they ever held.
     held: u64,
     ever_held: u64,
-    /// Bytes of those feeds' rings.
-    rings: u64,
 }
 
 #[derive(Debug, Default)]
@@ -92,11 +85,6 @@ struct Steps {
 }
 
 impl Growth {
-    /// Where each feed has a ring of so many rows.
-    pub fn new(ring: u32) -> Growth {
-        Growth { ring: PLACE * u64::from(ring), ..Growth::default() }
-    }
-
     /// A transaction has begun. `greatest` is at or above each timestamp that has.
     pub fn begin(&mut self, greatest: u64) {
         self.open.add(greatest, BEGUN);
@@ -137,17 +125,11 @@ impl Growth {
 
     /// A session has opened a feed, by a command of so many bytes.
     pub fn open_feed(&mut self, bytes: u64) {
-        self.rings += self.ring;
-        self.hold(self.of_feed(bytes));
+        self.hold(of_feed(bytes));
     }
 
     pub fn end_feed(&mut self, bytes: u64) {
-        self.rings -= self.ring;
-        self.held -= self.of_feed(bytes);
-    }
-
-    fn of_feed(&self, bytes: u64) -> u64 {
-        FEED + self.ring + COMMANDS * bytes
+        self.held -= of_feed(bytes);
     }
 
     fn hold(&mut self, bytes: u64) {
@@ -160,16 +142,15 @@ impl Growth {
         Grown { open: self.open.bytes, deleted: self.deleted.bytes, held }
     }
 
-    /// Bytes that rings of sessions' feeds may have, of which some may be resident.
-    pub fn rings(&self) -> u64 {
-        self.rings
-    }
-
     /// Bytes that all but deletes ever took, and those that were given back.
     pub fn taken(&self) -> (u64, u64) {
         let taken = self.open.total + self.ever_held;
         (taken, taken - self.open.bytes - self.held)
     }
+}
+
+fn of_feed(bytes: u64) -> u64 {
+    FEED + COMMANDS * bytes
 }
 
 impl Steps {
@@ -231,16 +212,14 @@ mod tests {
 
     #[test]
     fn what_sessions_hold_goes_as_it_came() {
-        let mut growth = Growth::new(10);
+        let mut growth = Growth::default();
         growth.protect();
         growth.open_feed(20);
-        let held = PROTECTED + FEED + 10 * PLACE + COMMANDS * 20;
+        let held = PROTECTED + FEED + COMMANDS * 20;
         assert_eq!((growth.now(), growth.taken()), (Grown { held, ..Grown::default() }, (held, 0)));
-        assert_eq!(growth.rings(), 10 * PLACE);
         growth.release();
         growth.end_feed(20);
         assert_eq!((growth.now(), growth.taken()), (Grown::default(), (held, held)));
-        assert_eq!(growth.rings(), 0);
     }
 
     #[test]

@@ -67,7 +67,6 @@ pub struct Asked {
     pub place: PathBuf,
     pub restore: Option<PathBuf>,
     pub is_moved: bool,
-    pub ring: u32,
 }
 
 /// Opens a journal, and makes the database from it. A new one gets this identity.
@@ -80,7 +79,7 @@ pub fn open(asked: &Asked, identity: &str) -> Result<Recovered, Error> {
     if let Some(file) = &asked.restore {
         restore::restore(&mut *store, file, identity)?;
     }
-    recovery::recover(store, asked.ring, identity, asked.is_moved)
+    recovery::recover(store, identity, asked.is_moved)
 }
 
 /// Why there is no journal to go on with, or why it can't be written.

@@ -144,11 +144,6 @@ pub struct Ledger {
 }
 
 impl Ledger {
-    /// That of a new database, where each feed has a ring of so many rows.
-    pub fn new(ring: u32) -> Ledger {
-        Ledger { growth: Growth::new(ring), ..Ledger::default() }
-    }
-
     /// Notes what an event did, by a call of this owner.
     pub fn note(&mut self, seats: &mut Seats, owner: Owner, outcome: &Outcome) {
         self.calls += 1;

@@ -31,6 +31,7 @@
 
 use crate::budget::FREE;
 use crate::core::{may_be_long, Core};
+use crate::cuts;
 use crate::door::Turn;
 use crate::faults::why;
 use crate::gate::Right;
@@ -74,6 +75,7 @@ pub enum Fault {
     NoRight,
     Draining,
     Skipped,
+    AnswerTooLong,
 }
 
 impl Fault {
@@ -87,6 +89,7 @@ impl Fault {
             Fault::NoRight => 69,
             Fault::Draining => 70,
             Fault::Skipped => 71,
+            Fault::AnswerTooLong => 25,
         }
     }
 
@@ -100,6 +103,7 @@ impl Fault {
             Fault::NoRight => "noright",
             Fault::Draining => "draining",
             Fault::Skipped => "skipped",
+            Fault::AnswerTooLong => "answertoolong",
         }
     }
 }
@@ -202,7 +206,7 @@ fn take(core: &mut Core, session: &mut Session, line: &[u8], told: &mut Told, ou
         Err(CallError::Line(fault)) => told.fault(core, session, fault.code(), fault.name(), line, out),
         Err(CallError::NoMemory) => told.fault(core, session, 12, "nomemory", line, out),
         Err(CallError::Spent) => told.fault(core, session, 13, "spent", line, out),
-        Err(CallError::AnswerTooLong) => told.fault(core, session, 25, "answertoolong", line, out),
+        Err(CallError::AnswerTooLong) => told.tell(core, session, Fault::AnswerTooLong, line, out),
         Err(CallError::Unwritten) => Err(Lost),
     }
 }
@@ -279,6 +283,7 @@ fn prepared(core: &Core, session: &mut Session, line: &[u8], is_spoiled: bool) -
         (b"closehard", Some(to)) => bound(core, to).map(|()| None),
         (b"put", Some(_)) if !core.is_full() => Ok(dot(session, command, line)),
         (b"put", Some(_)) => Err(Fault::Full),
+        (b"scan" | b"scanat", Some(rest)) if passes_over_many(core, rest) => Err(Fault::AnswerTooLong),
         (b"get" | b"scan" | b"del" | b"commit" | b"abort", Some(_)) => Ok(dot(session, command, line)),
         (b"open" | b"openinitial" | b"openevery" | b"openinitialevery" | b"protect", Some(_)) if !core.may_hold() => {
             Err(Fault::Full)
@@ -400,6 +405,17 @@ fn has_room(core: &Core, session: &Session, kind: Kind) -> Prepared {
     } else {
         Err(Fault::TooMany)
     }
+}
+
+/// Whether a scan would pass over too many keys of which it tells nothing, whatever it tells: that can't be cut into turns.
+fn passes_over_many(core: &Core, rest: &[u8]) -> bool {
+    let words: Vec<&[u8]> = rest.split(|&byte| byte == b' ').collect();
+    let key = |at: usize| unspell(std::str::from_utf8(words.get(at)?).ok()?);
+    // A word that spells no bytes is the database's to refuse.
+    let (Some(lo), Some(hi)) = (key(1), key(2)) else { return false };
+    let hi = Some(hi.as_slice()).filter(|hi| !hi.is_empty());
+    let is_far = core.cuts.within(&lo, hi).nth(cuts::MOST).is_some();
+    is_far
 }
 
 fn poll(core: &Core, line: &[u8], rest: &[u8]) -> Prepared {

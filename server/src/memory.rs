@@ -9,7 +9,7 @@
 //! 2. Where resident memory grows nonetheless, counting begins anew.
 //! 3. Between two looks it becomes full once more was written than there was room for.
 //! 4. Rows are written for `OFTEN` at most until it is looked at again, because each takes more than it counts: its event
-//!    is kept for the transcript, and feeds keep it at hand. What is taken above the limit is `reserve`'s.
+//!    is kept for the transcript. What is taken above the limit is `reserve`'s.
 //! 5. While resident memory is above the limit, each kind of `growth` is `share_of` it above the least that there was of it
 //!    since. So nobody fills it by what isn't rows, and each goes on as what was before is closed, collected, or ended.
 

@@ -133,7 +133,6 @@ pub struct Options {
     pub port: u16,
     pub address: IpAddr,
     pub host: Vec<String>,
-    pub ring: u32,
     pub max_lag: u64,
     pub max_lag_bytes: u64,
     pub ahead: u64,
@@ -279,11 +278,12 @@ fn asked(
 }
 
 fn options(given: &Given) -> Result<Options, Fault> {
+    // It is looked at, and that is all.
+    let _ring: u32 = given.whole("ring")?;
     let options = Options {
         port: given.whole("port")?,
         address: address(given)?,
         host: given.names("host")?,
-        ring: given.whole("ring")?,
         max_lag: given.whole("max-lag")?,
         max_lag_bytes: given.whole("max-lag-bytes")?,
         ahead: given.whole("ahead")?,

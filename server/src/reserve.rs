@@ -18,7 +18,6 @@
 
 use crate::api::pages;
 use crate::budget::FREE;
-use crate::growth::PLACE;
 use crate::journal;
 use crate::memory;
 use crate::options::Options;
@@ -73,7 +72,6 @@ fn beside(options: &Options, workers: usize) -> u64 {
 fn parts(options: &Options, workers: usize) -> [usize; 10] {
     let Options { max_message, max_reply, max_answer, max_connections, max_feeds, keep, keep_bytes, .. } = *options;
     let (seats, twice) = (usize::from(SEATS), |bytes: usize| bytes.saturating_mul(2));
-    let stream = PIECE * PIECES + PLACE as usize * options.ring as usize;
     let connection = CONNECTION + if options.tls.is_some() { TLS } else { 0 };
     [
         PROGRAM + BETWEEN_LOOKS + STACK * (workers + THREADS),
@@ -83,7 +81,7 @@ fn parts(options: &Options, workers: usize) -> [usize; 10] {
         max_message.saturating_add(socket::BESIDE).saturating_mul(seats),
         answers(max_reply, max_answer, workers),
         twice(reports::UNREAD),
-        max_feeds.saturating_mul(stream).saturating_add(MADE * PIECE * workers),
+        max_feeds.saturating_mul(PIECE * PIECES).saturating_add(MADE * PIECE * workers),
         options.max_consumers.saturating_mul(NAME),
         journal::MOST_BYTES + journal::MOST * REMEMBERED,
     ]
@@ -152,10 +150,9 @@ mod tests {
     fn each_bound_counts() {
         let usual = reserve(&options(&[]), 4);
         let names = ["max-message", "max-reply", "max-answer", "max-connections", "max-feeds", "keep", "keep-bytes"];
-        for name in names.into_iter().chain(["max-memory", "max-consumers", "ring"]) {
+        for name in names.into_iter().chain(["max-memory", "max-consumers"]) {
             let most = match name {
                 "keep" | "keep-bytes" => 1 << 40,
-                "ring" => 1 << 16,
                 _ => 1_u64 << 19,
             };
             let more = reserve(&options(&[&format!("--{name}"), &most.to_string()]), 4);

@@ -149,7 +149,7 @@ async fn open(options: &Options, log: Arc<Log>) -> Result<Opened, Failure> {
         let kept = "nothing is kept: this database ends with the server, and --data FOLDER keeps one".into();
         return Ok(Opened { core, answers: VecDeque::new(), kept });
     };
-    let asked = journal::Asked { place, restore: options.restore.clone(), is_moved: options.moved, ring: options.ring };
+    let asked = journal::Asked { place, restore: options.restore.clone(), is_moved: options.moved };
     let began = Instant::now();
     // It may take long, and waits for disks.
     let opened = tokio::task::spawn_blocking(move || journal::open(&asked, &identity)).await;

@@ -24,8 +24,7 @@ FEEDS = [size // 10 for size in SIZES]
 THERE = [ROWS // 2, ROWS - EACH]
 LONG = "x" * 200
 OPTIONS = ("--keep", "0", "--keep-bytes", "0", "--max-memory", "0", "--max-age", "86400", "--seat-age", "0",
-           "--max-lag", "1000000000", "--max-held", "1000000", "--history", "86400",
-           "--ring", "8")
+           "--max-lag", "1000000000", "--max-held", "1000000", "--history", "86400")
 
 
 @dataclasses.dataclass(frozen=True)

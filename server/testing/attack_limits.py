@@ -455,7 +455,7 @@ def test_what_is_no_row_has_a_bound_too(room: Room, scale: Scale) -> str:
     reserve = reserve_of(room, options)
     server = room.start(limited(room, MOST + reserve, options))
     session, over = Session(server.port), threading.Event()
-    early = [Session(server.port) for _ in range(6)]  # whose feeds have rings, to which nothing has come yet
+    early = [Session(server.port) for _ in range(6)]  # whose feeds were there before it was full
     assert all(is_all_taken(one.call("open - - 0\n" * 1000)) for one in early)
     for at in itertools.count():
         if " 67 full " in session.call("begin\nput . row/%d %s\ncommit .\n" % (at, VALUE)):

@@ -17,6 +17,8 @@ from handmade import HANDSHAKE, Cut, Session, Wire, bearer, fill, framed
 
 TOKEN = ""
 PAUSE = 0.05  # seconds before a client that was thrown out comes again
+MOST_ROWS = 32768  # of a scan that the library lets through
+SURELY_PASSED = 40_000  # deleted keys: that a scan passes over more than some 65,000 is known by a sample
 
 
 def say(word: str) -> None:
@@ -103,17 +105,33 @@ def protections(port: int, count: int = 1_000_000) -> None:
     again_and_again(lambda: (time.sleep(0.2), fetch(port, "/holders")))
 
 
-def scans(port: int, count: int = 100_000) -> None:
-    """One call each, which nothing interrupts: so it is asked again after a while."""
+def longest_scans(port: int, count: int) -> Callable[[], object]:
+    """Scans of as many of these rows as a scan may have: one call each, which nothing interrupts."""
     fill(session(port), "scanned/", count)
-    ask = asking(port, "begin\nscan . scanned/ scanned0\nabort .\n")
+    scan, end = "begin\nscan . scanned/ %s\nabort .\n", "scanned/%07d" % MOST_ROWS
+    if count < MOST_ROWS or "=> rows %d\n" % MOST_ROWS not in session(port).call(scan % end):
+        raise ValueError("a scan of as many rows as are let through is refused")
+    return asking(port, scan % end)
+
+
+def scans(port: int, count: int = 100_000) -> None:
+    """Each behind a while."""
+    ask = longest_scans(port, count)
     again_and_again(lambda: (ask(), time.sleep(0.2)))
 
 
 def scans_on_and_on(port: int, count: int = 100_000) -> None:
     """The same without a pause."""
+    again_and_again(longest_scans(port, count))
+
+
+def refused_scans(port: int, count: int = 100_000) -> None:
+    """Scans of more rows than a scan may have, on and on: each is refused before it has begun."""
     fill(session(port), "scanned/", count)
-    again_and_again(asking(port, "begin\nscan . scanned/ scanned0\nabort .\n"))
+    scan = "begin\nscan . scanned/ scanned0\nabort .\n"
+    if " 25 answertoolong " not in session(port).call(scan):
+        raise ValueError("a scan of so many rows is let through")
+    again_and_again(asking(port, scan))
 
 
 def delete_and_hold(port: int, count: int) -> Session:
@@ -133,9 +151,13 @@ def deleted_pages(port: int, count: int = 100_000) -> None:
 
 
 def deleted_scans(port: int, count: int = 100_000, times: int = 500) -> None:
-    """Scans of rows that are deleted and not collected: each answers `rows 0`, so no answer gets long."""
+    """Scans of rows that are deleted and not collected: each answers `rows 0`, so no answer gets long. One of all of them
+    is refused, and one of so many as are let through isn't."""
     holder = delete_and_hold(port, count)
-    ask = asking(port, "begin\n%sabort .\n" % ("scan . gone/ gone0\n" * times))
+    scan, answer = "scan . gone/ gone/%07d\n" % SURELY_PASSED, session(port).call("begin\nscan . gone/ gone0\nabort .\n")
+    if " 25 answertoolong " not in answer or "=> rows 0\n" not in session(port).call("begin\n%sabort .\n" % scan):
+        raise ValueError("a scan of all is let through, or one of fewer isn't: " + answer)
+    ask = asking(port, "begin\n%sabort .\n" % (scan * times))
     again_and_again(lambda: (holder, ask()))
 
 

@@ -30,7 +30,7 @@ from .errors import (
     Unwritten, ValueLength, WordCount,
 )
 from .events import Answer, Event, Message, Record, Resolved, Row, messages_of, spell, unspell
-from .handles import VERSION as __version__
+from .handles import MOST_ROWS, VERSION as __version__
 from .looks import Held, Places, version
 from .replica import Replica
 
@@ -38,5 +38,5 @@ __all__ = [
     "Database", "Answer", "Event", "Held", "Places", "Record", "Replica", "Row", "Resolved", "messages_of", "spell", "unspell", "version",
     "Error", "LineFault", "WordCount", "UnknownCommand", "Number", "KeyLength", "ValueLength", "Session", "NoNewline",
     "LineTooLong", "BadByte", "NoMemory", "Spent", "Unwritten", "AnswerTooLong", "RingRange", "Closed", "AlreadyOpen", "Refused",
-    "NotTaken", "NoMessage", "NotAfter", "OutsideSpan", "ResolvedBack", "NoFeed", "BelowHorizon", "Processor",
+    "NotTaken", "NoMessage", "NotAfter", "OutsideSpan", "ResolvedBack", "NoFeed", "BelowHorizon", "Processor", "MOST_ROWS",
 ]

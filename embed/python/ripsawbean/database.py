@@ -174,7 +174,8 @@ class Database(Opened):
 
         A faulty line makes no call, and the next one is taken. NoMemory and Spent end the list before the lines behind
         theirs, which weren't looked at, and so does Unwritten, whose call was made: `text` asks for its text. A scan or a poll
-        whose answer would have more than `most` bytes of rows or messages makes no call either: AnswerTooLong.
+        whose answer would have more than `most` bytes of rows or messages makes no call either: AnswerTooLong. Nor does a scan of
+        more than MOST_ROWS rows, unless all are let through, as they are where `most` isn't given.
         """
         if most >> 64:
             raise _out_of_range(0)

@@ -153,7 +153,7 @@ class BelowHorizon(Error, ValueError):
 
 
 class AnswerTooLong(Error):
-    """The answer would have more bytes than `Database.calls` lets through. No call was made."""
+    """The answer would have more bytes or rows than `Database.calls` lets through. No call was made."""
 
     status = 25
 

@@ -72,6 +72,7 @@ LIBRARY = _load()
 SIZE, TIME = ctypes.c_size_t, ctypes.c_uint64
 BYTES, ROOM, TIME_AT = [ctypes.c_char_p, SIZE], [ctypes.c_void_p, SIZE, ctypes.POINTER(SIZE)], ctypes.POINTER(TIME)
 NONE = (1 << 64) - 1
+MOST_ROWS = 32768  # of a scan that `Database.calls` lets through
 _Self = TypeVar("_Self", bound="Opened")
 
 

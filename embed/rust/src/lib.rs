@@ -66,6 +66,6 @@ pub use event::{Event, Message, Row};
 pub use looks::{version, Held, Places};
 pub use record::{CommandKind, Outcome, Record};
 pub use replica::Replica;
-pub use several::Calls;
+pub use several::{Calls, MOST_ROWS};
 pub use typed::{Closed, Room, Rows, Told};
 pub use word::{unspell, Spelled};

@@ -5,6 +5,9 @@ use crate::error::CallError;
 use crate::event::Event;
 use crate::raw::Done;
 
+/// Rows of a scan that [`Database::calls_within`] lets through, at most.
+pub const MOST_ROWS: usize = 32_768;
+
 impl Database {
     /// Makes the calls of lines, one after another, each up to its newline: a result a line, in their order.
     ///
@@ -29,7 +32,8 @@ impl Database {
 
     /// The same, but that a scan or a poll whose answer would have more than `most` bytes of rows or messages makes no
     /// call: its result is [`CallError::AnswerTooLong`], and the next line is taken. A row or a message has the bytes of
-    /// its key and its value, and 17 more. [`u64::MAX`] lets all through.
+    /// its key and its value, and 17 more. The same comes of a scan of more than [`MOST_ROWS`] rows, because its time goes
+    /// with them. [`u64::MAX`] lets all through.
     pub fn calls_within(&mut self, lines: impl AsRef<[u8]>, most: u64) -> Calls<'_> {
         let lines = lines.as_ref();
         let count = lines.iter().filter(|&&byte| byte == b'\n').count() + 1;

@@ -1,6 +1,6 @@
 //! Many lines at once: what each tells is what it tells alone.
 
-use ripsawbean::{CallError, Database, LineFault};
+use ripsawbean::{CallError, Database, LineFault, MOST_ROWS};
 
 fn open() -> Database {
     Database::open(1024).expect("it opens")
@@ -71,4 +71,26 @@ fn an_answer_that_is_too_long() {
     assert_eq!(calls.taken(), lines.len());
     let told: Vec<_> = calls.map(|result| result.map(|event| event.text().to_string())).collect();
     assert_eq!(told, [Err(CallError::AnswerTooLong), Ok("4 0 get 10 a => value 12345\n".to_string())]);
+}
+
+#[test]
+fn a_scan_of_more_rows_than_are_let_through() {
+    let mut db = open();
+    db.begin(0, 10).expect("a call");
+    for row in 0..=MOST_ROWS {
+        db.put(0, 10, format!("k{row:05}").as_bytes(), b"").expect("a call");
+    }
+    let most = u64::MAX - 1;
+    let told = |db: &mut Database, lines: &str, most: u64| -> Vec<_> {
+        db.calls_within(lines, most).map(|result| result.map(|event| event.text().lines().count() - 1)).collect()
+    };
+    let fewer = format!("k{MOST_ROWS:05}");
+    let scans = format!("0 scan 10 - {fewer}\n0 scan 10 - -\n");
+    assert_eq!(told(&mut db, &scans, most), [Ok(MOST_ROWS), Err(CallError::AnswerTooLong)]);
+    assert_eq!(told(&mut db, &scans, u64::MAX), [Ok(MOST_ROWS), Ok(MOST_ROWS + 1)]);
+    db.commit(0, 10).expect("a call");
+    db.close_to(0, 10).expect("a call");
+    let scans = format!("0 scanat 10 - {fewer}\n0 scanat 10 - -\n0 scanat 11 - -\n");
+    assert_eq!(told(&mut db, &scans, most), [Ok(MOST_ROWS), Err(CallError::AnswerTooLong), Ok(0)]);
+    assert_eq!(told(&mut db, &scans, u64::MAX), [Ok(MOST_ROWS), Ok(MOST_ROWS + 1), Ok(0)]);
 }

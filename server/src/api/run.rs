@@ -12,24 +12,24 @@
 //! 1. All its calls are made under one lock, at a timestamp above all that began. So no write of it comes too late, and
 //!    no two plans block each other. A session's undecided write may block a read of it: then nothing was changed.
 //! 2. When `run` returns, the transaction is decided. Where there was no memory to abort it, --max-age does it.
-//! 3. It reads at most `MOST_READ` rows, and tells at most --max-reply bytes.
+//! 3. It reads at most `MOST_ROWS` rows, passes over at most `cuts::MOST` parts of spans, and tells at most --max-reply
+//!    bytes. So others wait for some 30 milliseconds.
 
 use super::bytes::length_of;
 use super::pages::{Page, Unread, MOST_BYTES};
 use super::plan::{Bounds, Condition, Plan, Step};
 use super::remembered::Keep;
 use crate::core::Core;
+use crate::cuts;
 use crate::journal::Form;
 use crate::outcome::Outcome;
 use crate::refusal::Refusal;
 use crate::seats::Owner;
-use ripsawbean::{CallError, Command, CommandError, Refusal as Refused, Room, Span};
+use ripsawbean::{CallError, Command, CommandError, Refusal as Refused, Room, Span, MOST_ROWS};
 use std::borrow::Cow;
 use std::collections::BTreeSet;
 use tokio::sync::watch;
 
-/// Rows that one transaction reads by scans: some 0.1 seconds in which no one else is served.
-const MOST_READ: usize = 100_000;
 /// Rows of a part of a span that is compared with a snapshot.
 const PART: usize = 1000;
 /// What a row costs in an answer beside its key and value.
@@ -136,7 +136,11 @@ impl Stop {
             Stop::TooMuch => Refusal::new(
                 422,
                 "toomuch",
-                format!("a transaction reads {MOST_READ} rows at most: nothing was changed"),
+                format!(
+                    "a transaction reads {MOST_ROWS} rows at most, and passes over some {} deleted keys: nothing was \
+                     changed",
+                    cuts::MOST as u64 * cuts::SHARE
+                ),
             ),
             Stop::ReplyTooLong => {
                 let why = "the answer would be longer than --max-reply: nothing was changed";
@@ -161,7 +165,7 @@ impl From<Unread> for Stop {
 pub fn run<'p>(core: &mut Core, plan: &'p Plan<'_>, keep: Option<&Keep<'_>>) -> Result<End<'p>, Stop> {
     check(core, plan)?;
     let timestamp = core.ledger.next_timestamp();
-    let mut running = Running { core, timestamp, own: BTreeSet::new(), read: 0, bytes: 0 };
+    let mut running = Running { core, timestamp, own: BTreeSet::new(), read: 0, passed: 0, bytes: 0 };
     running.begin()?;
     let ended = running.steps(plan).and_then(|end| running.commit(end, keep));
     if !matches!(ended, Ok(End::Committed(_)) | Err(Stop::Lost)) {
@@ -198,8 +202,9 @@ struct Running<'c, 'p> {
     timestamp: u64,
     /// Keys that it has written.
     own: BTreeSet<&'p [u8]>,
-    /// Rows that scans have read.
+    /// Rows that scans have read, and cuts that they have passed.
     read: usize,
+    passed: usize,
     /// Bytes that are told.
     bytes: usize,
 }
@@ -351,14 +356,20 @@ impl<'p> Running<'_, 'p> {
 
     /// The first rows of a span as the transaction sees them.
     fn read(&mut self, span: Span<'_>, most: usize) -> Result<Page, Stop> {
-        let command = Command::Scan { ts: self.timestamp, span };
+        let far = self.core.cuts.within(span.lo, span.hi).nth(cuts::MOST - self.passed).map(<[u8]>::to_vec);
+        let near = Span { lo: span.lo, hi: far.as_deref().or(span.hi) };
+        let command = Command::Scan { ts: self.timestamp, span: near };
         let room = Room { rows: most as u64, bytes: MOST_BYTES };
-        let page = self.core.scan(command, room).map_err(|error| match error {
+        let mut page = self.core.scan(command, room).map_err(|error| match error {
             CommandError::Refused(refusal) => self.stop("scan", Ok(Outcome::Refused(refusal))),
             CommandError::Call(error) => self.stop("scan", Err(error)),
         })?;
+        let end = page.next.as_deref().or(near.hi);
+        self.passed += self.core.cuts.within(span.lo, end).count();
         self.read += page.rows.len();
-        match self.read > MOST_READ {
+        let is_short = page.rows.len() < most && page.next.is_none() && far.is_some();
+        page.next = page.next.or(far);
+        match self.read > MOST_ROWS || is_short {
             true => Err(Stop::TooMuch),
             false => Ok(page),
         }

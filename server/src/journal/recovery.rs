@@ -18,6 +18,7 @@ use super::rules::{holds, Rule};
 use super::store::{Kind, Place, Series, Store};
 use super::writer::{Position, Writer};
 use super::{Failure, Journal};
+use crate::core::RING;
 use crate::lag::Amount;
 use crate::lines::number_in;
 use ripsawbean::{CallError, Database, Event, OpenError};
@@ -77,8 +78,8 @@ impl fmt::Display for Error {
 
 /// Makes the database from a store, and goes on writing to it. Where there is nothing yet a database of this identity
 /// begins.
-pub fn recover(mut store: Box<dyn Store>, ring: u32, identity: &str, is_moved: bool) -> Result<Recovered, Error> {
-    let mut reading = Reading::new(Database::open(ring).map_err(Error::Open)?);
+pub fn recover(mut store: Box<dyn Store>, identity: &str, is_moved: bool) -> Result<Recovered, Error> {
+    let mut reading = Reading::new(Database::open(RING).map_err(Error::Open)?);
     let all = found(&mut *store)?;
     reading.take_all(&mut *store, &all)?;
     let is = store.place();

@@ -24,7 +24,7 @@ mod model;
 const NO_HISTORY: [&str; 2] = ["--history", "0"];
 
 fn asked(place: &Path) -> Asked {
-    Asked { place: place.into(), restore: None, is_moved: true, ring: 16 }
+    Asked { place: place.into(), restore: None, is_moved: true }
 }
 
 fn core_of(asked: &Asked) -> Result<Core, String> {

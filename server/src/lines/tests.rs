@@ -1,10 +1,11 @@
 //! Lines of a session beside the database itself: what README promises of them.
 
 use super::*;
+use crate::cuts::Cuts;
 use crate::gate::{Right, Who};
 use crate::options::LONGEST_ROW;
 use crate::testing::{answers, core, end, session, texts, tidy, Dice};
-use ripsawbean::{Command, Span};
+use ripsawbean::{Command, Span, MOST_ROWS};
 use std::time::Duration;
 
 #[test]
@@ -145,6 +146,56 @@ fn an_answer_that_would_be_too_long_makes_no_call() {
         let told = texts(&mut core, &mut one, &format!("{line}\n"));
         assert!(told.contains("=> rows 2\n") || told.contains("=> messages 2\n"), "{line}: {told:.200}");
     }
+}
+
+#[test]
+fn a_scan_of_more_rows_than_are_let_through_makes_no_call() {
+    let mut core = core(&[]);
+    let mut one = session(&mut core);
+    let puts: String = (0..=MOST_ROWS).map(|row| format!("put . k{row:05} -\n")).collect();
+    assert!(texts(&mut core, &mut one, &format!("begin\n{puts}commit .\nclose 1\n")).ends_with("=> closed 1 0\n"));
+    for scan in ["scan .", "scanat 1"] {
+        let rows = format!("rows {MOST_ROWS}");
+        assert_eq!(answers(&mut core, &mut one, &format!("begin\n{scan} - k{MOST_ROWS:05}\n"))[1], rows);
+        assert_eq!(answers(&mut core, &mut one, &format!("begin\n{scan} k00001 -\n"))[1], rows);
+        let calls = core.ledger.calls;
+        let told = answers(&mut core, &mut one, &format!("begin\n{scan} - -\nstats\n"));
+        assert!(told[1].ends_with(" 25 answertoolong"), "{told:?}");
+        assert_eq!((told.len(), core.ledger.calls), (3, calls + 2));
+    }
+}
+
+#[test]
+fn a_scan_that_would_pass_over_many_keys_makes_no_call() {
+    let mut core = core(&[]);
+    core.cuts = Cuts::of(1);
+    let mut one = session(&mut core);
+    answers(&mut core, &mut one, "protect 0\n");
+    for command in ["put . %25%02 x\n", "del . %25%02\n"] {
+        let lines: String = (0..70).map(|at| command.replace("%02", &format!("{at:02}"))).collect();
+        answers(&mut core, &mut one, &format!("begin\n{lines}commit .\n"));
+    }
+    answers(&mut core, &mut one, "close 2\n");
+    for (span, is_made) in [
+        ("- -", false),
+        ("%25 -", false),
+        ("%2500 %2566", false),
+        ("%2500 %2565", true),
+        ("%2505 -", true),
+        ("& '", true),
+        ("%2566 %2500", true),
+    ] {
+        for scan in ["scan .", "scanat 2"] {
+            let told = answers(&mut core, &mut one, &format!("begin\n{scan} {span}\n"));
+            let wanted = if is_made { "rows 0" } else { " 25 answertoolong" };
+            assert!(told[1].ends_with(wanted), "{scan} {span}: {told:?}");
+        }
+    }
+    assert!(answers(&mut core, &mut one, "scanat 2 %2\n")[0].ends_with(" 1 wordcount"));
+    tidy(&mut core);
+    answers(&mut core, &mut one, "release 1\n");
+    core.cuts.forget_through(2);
+    assert_eq!(answers(&mut core, &mut one, "scanat 2 - -\n"), ["rows 0"]);
 }
 
 #[test]

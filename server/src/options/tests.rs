@@ -28,7 +28,7 @@ fn defaults_are_those_that_operators_know() {
     let options = options_of("", &[], "");
     let seconds = |number: f64| Duration::from_secs_f64(number);
     assert_eq!((options.port, options.address.to_string()), (7077, "127.0.0.1".to_string()));
-    assert_eq!((options.ring, options.max_lag, options.ahead), (1024, 1_000_000, 1_000_000));
+    assert_eq!((options.max_lag, options.ahead), (1_000_000, 1_000_000));
     assert_eq!((options.keep, options.keep_bytes), (10_000, 67_108_864));
     assert_eq!((options.max_message, options.max_reply, options.max_answer), (1_048_576, 8_388_608, 4_194_304));
     assert_eq!((options.max_connections, options.max_feeds, options.max_consumers), (512, 256, 1024));
@@ -54,10 +54,10 @@ fn what_is_kept_has_a_place() {
 
 #[test]
 fn the_command_line_says_more_than_the_environment_and_that_more_than_the_file() {
-    let file = "# a comment\n\n max-lag = 3 \nport=30\nring = 300\nhost = c.example\nhost = d.example\n";
+    let file = "# a comment\n\n max-lag = 3 \nport=30\nmax-feeds = 300\nhost = c.example\nhost = d.example\n";
     let environment = [("RIPSAWBEAN_MAX_LAG", "2"), ("RIPSAWBEAN_PORT", "20"), ("RIPSAWBEAN_KEEP", "")];
     let options = options_of("--max-lag 1 --config server.conf", &environment, file);
-    assert_eq!((options.max_lag, options.port, options.ring, options.keep), (1, 20, 300, 10_000));
+    assert_eq!((options.max_lag, options.port, options.max_feeds, options.keep), (1, 20, 300, 10_000));
     assert_eq!(options.host, ["c.example", "d.example"]);
     let environment = [("RIPSAWBEAN_CONFIG", "server.conf"), ("RIPSAWBEAN_HOST", " a.example  b.example:8443")];
     let options = options_of("", &environment, file);
@@ -192,7 +192,7 @@ fn any_file_gives_options_within_their_ranges_or_a_sentence() {
         match given("--config server.conf", &[], &file) {
             Ok(Asked::Serve(options)) => {
                 served += 1;
-                assert!(options.max_connections >= 8 && options.ring >= 1 && options.ring <= 65536, "{file}");
+                assert!(options.max_connections >= 8 && options.max_feeds >= 1, "{file}");
                 assert!(options.patience >= Duration::from_millis(100) && options.max_message <= 1 << 30, "{file}");
                 assert!(options.address.is_loopback() || options.tokens.is_some(), "{file}");
             }

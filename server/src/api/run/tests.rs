@@ -2,6 +2,7 @@
 
 use super::*;
 use crate::core::Core;
+use crate::cuts::Cuts;
 use crate::seats::Session;
 use crate::testing::{answers, core, end, say, session, tidy};
 
@@ -251,12 +252,42 @@ fn unchanged_has_to_be_a_snapshot_that_can_be_read() {
 }
 
 #[test]
+fn a_transaction_passes_over_few_deleted_keys() {
+    let (mut core, _) = with_rows(0);
+    core.cuts = Cuts::of(1);
+    let mut one = session(&mut core);
+    say(&mut core, &mut one, "protect 0\n");
+    for command in ["put . k%02 x\n", "del . k%02\n"] {
+        let lines: String = (0..70).map(|at| command.replace("%02", &format!("{at:02}"))).collect();
+        say(&mut core, &mut one, &format!("begin\n{lines}commit .\n"));
+    }
+    say(&mut core, &mut one, "begin\nput . k62a 1\nput . k69a 1\ncommit .\n");
+    let scan = |lo: &str, hi: &str, limit: u64| format!(r#"{{"scan":["{lo}","{hi}"],"limit":{limit}}}"#);
+    let both = |one: &str, other: &str| format!(r#"{{"then":[{one},{other}]}}"#);
+    for (scans, is_made) in [
+        (both(&scan("k", "k60", 9), r#"{"get":"a"}"#), true),
+        (both(&scan("k", "k66", 9), r#"{"get":"a"}"#), false),
+        // What is told is found before.
+        (both(&scan("k", "l", 1), r#"{"get":"a"}"#), true),
+        (both(&scan("k", "l", 2), r#"{"get":"a"}"#), false),
+        // Each scan counts.
+        (both(&scan("k00", "k33", 9), &scan("k00", "k33", 9)), true),
+        (both(&scan("k00", "k34", 9), &scan("k00", "k34", 9)), false),
+    ] {
+        let plan = plan(&scans);
+        let made = told(&mut core, &plan).map_err(|stop| stop.refusal().error);
+        assert_eq!(made.is_ok(), is_made, "{scans} {made:?}");
+        assert!(made.is_ok() || made == Err("toomuch"), "{scans}");
+    }
+}
+
+#[test]
 fn a_transaction_is_bounded() {
     let (mut core, _) = with_rows(11_000);
     let scans =
         |count: usize| format!(r#"{{"then":[{}]}}"#, vec![r#"{"scan":[null,null],"limit":10000}"#; count].join(","));
-    assert!(run(&mut core, &plan(&scans(10)), None).is_ok());
-    assert_eq!(stopped(&mut core, &scans(11)), (422, "toomuch"));
+    assert!(run(&mut core, &plan(&scans(3)), None).is_ok());
+    assert_eq!(stopped(&mut core, &scans(4)), (422, "toomuch"));
     let mut core = crate::testing::core(&["--max-reply", "1000"]);
     committed(&mut core, &format!(r#"{{"then":[{{"put":"a","value":"{}"}}]}}"#, "x".repeat(600)));
     assert_eq!(
