@@ -8,12 +8,12 @@ then 1. `tools/test_lint.py` plants a breach of each rule in a small house.
 
 import os
 import re
-import subprocess
 import sys
 from collections import defaultdict
 
 import body_page
 import git
+import kit
 
 TOP = os.path.dirname(os.path.dirname(os.path.abspath(__file__)))
 LONGEST_CLAUSE = 160
@@ -42,12 +42,12 @@ def rule(function):
 class House:
     """The files that git knows, and those that it doesn't know yet and doesn't ignore."""
 
-    def __init__(self, top, version=None):
+    def __init__(self, top, logic=None):
         self.top = top
         listed = git.said(top, "ls-files", "-z", "--cached", "--others", "--exclude-standard")
         self.paths = sorted({it for it in listed.split("\0") if it and os.path.isfile(os.path.join(top, it))})
         self.read = {}
-        self.given_version = version
+        self.given_logic = logic
 
     def text(self, path):
         if path not in self.read:
@@ -69,12 +69,10 @@ class House:
         names = [line.partition("#")[0].partition(":") for line in self.text("crates.txt").splitlines()]
         return [head.split()[0] for head, colon, _ in names if colon]
 
-    def version(self):
-        """The kit's line, as `rt version` says it."""
-        if not self.given_version:
-            told = subprocess.run(["rt", "version"], capture_output=True, check=True, text=True).stdout
-            self.given_version = told.strip()
-        return self.given_version
+    def logic(self):
+        """The logic of the kit that is installed."""
+        self.given_logic = self.given_logic or kit.logic()
+        return self.given_logic
 
 
 def line_at(text, at):
@@ -303,34 +301,41 @@ def claims(house):
                     yield "docs/PROOF.md", number, "no crate of its heading has a public %s" % name
 
 
+# The logic that README names, and the version and the logic that the program tells.
+LOGIC = re.compile(r"\blogic ([0-9a-f]{8,})\b")
+PROGRAMS = re.compile(r'"([\d.]+)\nproved with Rattle of logic (\w+)"')
+
+
 @rule
-def kit_version(house):
-    """README names the kit that is installed, as `rt version` says it."""
-    told = re.findall(r"rattle-kit-\w+ logic \w+", house.text("README.md"))
+def logic_of_readme(house):
+    """README names the logic of the kit that is installed."""
+    told = list(LOGIC.finditer(house.text("README.md")))
     if not told:
-        yield "README.md", 1, "it names no kit"
+        yield "README.md", 1, "it names no logic"
     for it in told:
-        if it != house.version():
-            number = line_at(house.text("README.md"), house.text("README.md").index(it))
-            yield "README.md", number, "it names %s, and the kit is %s" % (it, house.version())
+        yield from other_logic(house, "README.md", it, it[1])
 
 
 @rule
-def program_version(house):
-    """`mvfeed --version` tells the kit that is installed."""
+def logic_of_program(house):
+    """`mvfeed --version` tells the logic of the kit that is installed."""
     path = "crates/command_line/src/version.rt"
     if path not in house.paths:
         return
     told = PROGRAMS.search(house.text(path))
     if not told:
-        yield path, 1, "it tells no version and kit"
-    elif told[2] != house.version():
-        number = line_at(house.text(path), told.start(2))
-        yield path, number, "it tells %s, and the kit is %s" % (told[2], house.version())
+        yield path, 1, "it tells no version and logic"
+    else:
+        yield from other_logic(house, path, told, told[2])
 
 
-# The version that the program tells, and the kit.
-PROGRAMS = re.compile(r'"([\d.]+)\nproved with ([^"\n]*)"')
+def other_logic(house, path, found, told):
+    """The breach of a file that tells another logic."""
+    if told != house.logic():
+        number = line_at(house.text(path), found.end())
+        yield path, number, "it tells the logic %s, and the kit's is %s" % (told, house.logic())
+
+
 # Where else the version stands. In the library it is a number with a byte for each part.
 VERSIONS = {
     "embed/rust/Cargo.toml": r'^version = "(.*)"',

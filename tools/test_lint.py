@@ -14,10 +14,10 @@ import testing
 
 lint.MOST_CLAUSES = 0
 
-KIT = "rattle-kit-1a logic 00ff"
+LOGIC = "00112233445566ff"
 SOUND = {
     "README.md": "# House\n\nFor readers. It has 12 crates and eleven commands; [more](docs/GUIDE.md#first-steps).\n\n"
-    "| server | 33,737 |\n\nKit: %s\n" % KIT,
+    "| server | 33,737 |\n\nProved with Rattle of logic %s.\n" % LOGIC,
     "docs/PERFORMANCE.md": "# Performance\n\nFor askers. It makes 33,737.\n",
     "docs/GUIDE.md": "# Guide\n\nFor users.\n\n## First steps\n\n"
     "See `crates/low/src/lib.rt`, 12 must-fail edits and `kept`'s two public functions.\n",
@@ -27,7 +27,8 @@ SOUND = {
     "crates/spans/src/calls/commands.rt": "//! Commands.\n\npub enum Cmd {\n%s}\n"
     % "".join("    C%d { ts: u64 },\n" % n for n in range(11)),
     "crates/low/specs/Ones.antt": "-- what one is\n",
-    "crates/command_line/src/version.rt": '//! Which.\n\nconst VERSION: &str = "0.1.0\nproved with %s";\n' % KIT,
+    "crates/command_line/src/version.rt": "//! Which.\n\n"
+    'const VERSION: &str = "0.1.0\nproved with Rattle of logic %s";\n' % LOGIC,
     "embed/rust/Cargo.toml": '[package]\nversion = "0.1.0"\n',
     "CHANGELOG.md": "# What has changed\n\n## 0.1.0\n\n## 0.0.9\n",
     "clients/javascript/package.json": '{\n  "version": "0.1.0"\n}\n',
@@ -65,7 +66,7 @@ def house_of(files):
 def breaches(files, rules=None):
     """The rules that are broken in a house of these files."""
     with house_of(files) as top:
-        house = lint.House(top, version=KIT)
+        house = lint.House(top, logic=LOGIC)
         return [name for name in rules or lint.RULES for _ in lint.RULES[name](house)]
 
 
@@ -127,9 +128,9 @@ PLANTED = {
         ("docs/PROOF.md", "", "# Proof\n\nFor auditors.\n\n## Low (crate `low`)\n\n| `one`, `_ne`, `_two` | one |\n"),
         ("docs/PROOF.md", "", "# Proof\n\nFor auditors.\n\n## Kept (crate `kept`)\n\n| `one`, `three` | one |\n"),
     ],
-    "kit_version": [("README.md", "kit-1a", "kit-1b"), ("README.md", KIT, "")],
-    "program_version": [
-        ("crates/command_line/src/version.rt", "kit-1a", "kit-1b"),
+    "logic_of_readme": [("README.md", LOGIC, LOGIC[:-1] + "e"), ("README.md", LOGIC, "")],
+    "logic_of_program": [
+        ("crates/command_line/src/version.rt", LOGIC, LOGIC + "e"),
         ("crates/command_line/src/version.rt", "proved", "built"),
     ],
     "versions": [

@@ -339,10 +339,14 @@ fn is_sentence(alloc: Global, sentence: Option<Sentence>, wanted: &str) -> Optio
 const TEXTS: [(&str, &str, &str); 9] = [
     (
         "mvfeed,--version",
-        "mvfeed 0.1.0\nproved with rattle-kit-",
+        "mvfeed 0.1.0\nproved with Rattle of logic ",
         "\n",
     ),
-    ("mvfeed,-V", "mvfeed 0.1.0\nproved with rattle-kit-", "\n"),
+    (
+        "mvfeed,-V",
+        "mvfeed 0.1.0\nproved with Rattle of logic ",
+        "\n",
+    ),
     ("mvfeed,help", "A multiversion timestamp database", GUIDE),
     ("mvfeed,--help", "A multiversion timestamp database", GUIDE),
     (
