@@ -15,7 +15,8 @@ which has the last word. An edit of more than one body, or of a clause, a consta
 A batch is checked in a room of its own, and there the functions that it changes alone. A crate whose library the gate
 has left in the checkout since its sources changed is proved, and so are those below it. Any other is proved first, and
 its batches are checked over what that kept. What was refused is noted in a folder of the user's, by the sum of all that
-it read, so the same edit over the same sources is not tried again on the machine.
+its refusal rests on, so the same edit is not tried again on the machine until one of that changes. A crate that was
+tried whole gets a row in docs/LAST-RUN.md: tried.py beside this says what that rests on.
 """
 
 import argparse
@@ -33,7 +34,9 @@ from contextlib import suppress
 
 import body_page
 import git
+import kit
 import side_by_side
+import tried
 from body_edits import apply, check_alone, in_batches, read_edit, refusals, text_of
 from side_by_side import link_or_copy
 
@@ -54,9 +57,12 @@ def kept_copy(one, other):
 class Trial:
     """One run: the crates that are still to be proved, the batches that wait, and what is left to be tried singly."""
 
-    def __init__(self, checkout, room, edits, notes, given):
+    def __init__(self, checkout, room, asked, notes, given):
         self.top, self.rooms = os.path.join(room, "top"), os.path.join(room, "rooms")
-        self.edits, self.notes, self.given = edits, notes, given
+        self.checkout, self.asked, self.notes, self.given = checkout, asked, notes, given
+        self.refused = {named(it) for edits in asked.values() for it in edits if notes.has(it)}
+        left = {name: [it for it in edits if named(it) not in self.refused] for name, edits in asked.items()}
+        self.edits = edits = {name: it for name, it in left.items() if it}
         self.jobs = given.jobs or len(os.sched_getaffinity(0))
         self.ends = time.monotonic() + 60 * given.minutes if given.minutes is not None else None
         self.crates = {it.name: it for name in edits for it in side_by_side.crates_for(self.top, name)}
@@ -64,7 +70,7 @@ class Trial:
         self.waiting, self.made = side_by_side.below({**self.deps, "": [*self.deps]}, ""), set()
         self.behind = side_by_side.behind([self.crates[it] for it in self.waiting])
         self.of_gate = self.laid_in(checkout)
-        self.batches, self.singles, self.begun, self.refused = [], [], [], set()
+        self.batches, self.singles, self.begun, self.commit = [], [], [], git.commit(checkout)
         self.failed, self.count = [], 0
         self.memory = side_by_side.free_memory()
         self.children, self.is_ending = [], False
@@ -247,6 +253,16 @@ class Trial:
     def keep(self, refused):
         self.refused.update(map(named, refused))
         self.notes.keep(refused)
+        self.note({it.crate for it in refused})
+
+    def note(self, crates, is_over=False):
+        """Gives those of these crates their row that are tried whole, each once all of it is refused, or at the end."""
+        for name in crates:
+            count = sum(named(it) in self.refused for it in self.asked[name])
+            every = len(tried.edits_of(self.top, name))
+            if len(self.asked[name]) == every and (is_over or count == every):
+                row = tried.row(self.notes.sources, name, every, count, self.commit)
+                tried.put(self.checkout, {name: row})
 
     def not_refused(self):
         """What failed, and each edit of the crates that were begun which nothing refused, however it was lost."""
@@ -270,28 +286,16 @@ def named(edit):
 
 
 class Notes:
-    """Which wrong bodies were refused before, each by the sum of its text and of all that its crate's proof reads."""
+    """Which wrong bodies were refused before, each by the sum of its text and of all that refuses it."""
 
-    def __init__(self, folder, top):
-        self.folder, self.top, self.sums = folder, top, {}
+    def __init__(self, folder, sources):
+        self.folder, self.sources = folder, sources
         os.makedirs(folder, exist_ok=True)
-        self.kit = subprocess.run(["rt", "version"], stdout=subprocess.PIPE, check=True).stdout
-
-    def sum_of(self, name):
-        """The sum of the sources of a crate and of all below it, without their comments."""
-        if name not in self.sums:
-            deps = side_by_side.listed(text_of(os.path.join(self.top, "crates.txt")))
-            found = hashlib.sha256(self.kit)
-            for crate in [*side_by_side.below(deps, name), name]:
-                found.update(("%s: %s\n" % (crate, deps[crate])).encode())
-                for path in side_by_side.sources(os.path.join(self.top, "crates", crate)):
-                    found.update(("%s %s\n" % (os.path.relpath(path, self.top), uncommented(path))).encode())
-            self.sums[name] = found.digest()
-        return self.sums[name]
 
     def note_of(self, edit):
-        text = text_of(os.path.join(self.top, "crates", edit.crate, "wrong-bodies", edit.name + ".edit"))
-        return os.path.join(self.folder, hashlib.sha256(self.sum_of(edit.crate) + text.encode()).hexdigest())
+        text = tried.text_of_edit(self.sources.top, edit.crate, edit.name)
+        own = hashlib.sha256(self.sources.of_proof(edit.crate) + text.encode())
+        return os.path.join(self.folder, own.hexdigest())
 
     def has(self, edit):
         return os.path.exists(self.note_of(edit))
@@ -299,13 +303,6 @@ class Notes:
     def keep(self, refused):
         for it in refused:
             open(self.note_of(it), "w").close()
-
-
-def uncommented(path):
-    """The lines of a source that are more than a comment."""
-    mark = "//" if path.endswith(".rt") else "--"
-    lines = text_of(path).splitlines()
-    return "\n".join(it for it in lines if it.strip() and not it.lstrip().startswith(mark))
 
 
 def notes_folder():
@@ -349,6 +346,7 @@ def given_words(words):
     parser = argparse.ArgumentParser(prog="wrong-bodies", add_help=False)
     parser.add_argument("--minutes", type=float)
     parser.add_argument("--since")
+    parser.add_argument("--stale", action="store_true")
     parser.add_argument("--jobs", type=int)
     parser.add_argument("--singly", action="store_true")
     parser.add_argument("--list", action="store_true")
@@ -356,6 +354,8 @@ def given_words(words):
     given = parser.parse_args(words)
     if given.since and given.crates:
         parser.error("--since takes its crates from the commit, so it goes with no crate")
+    if given.stale and (given.since or given.crates):
+        parser.error("--stale takes its crates from docs/LAST-RUN.md, so it goes with no crate and without --since")
     return given
 
 
@@ -368,12 +368,11 @@ def copied(checkout, room):
     return top
 
 
-def asked_for(checkout, top, given):
+def asked_for(checkout, top, given, standing):
     """The crates that are to be tried, or single wrong bodies of them."""
     if not given.since:
-        crates = os.path.join(top, "crates")
-        with_bodies = [it for it in os.listdir(crates) if os.path.isdir(os.path.join(crates, it, "wrong-bodies"))]
-        return given.crates or sorted(with_bodies)
+        with_bodies = [it for it in os.listdir(os.path.join(top, "crates")) if tried.edits_of(top, it)]
+        return given.crates or sorted({*with_bodies}.difference(standing))
     names = changed_since(checkout, given.since)
     if not names:
         print("no crate has changed since %s" % given.since)
@@ -387,22 +386,30 @@ def main(words):
         return write_page(checkout)
     with tempfile.TemporaryDirectory(prefix="wrong-bodies-") as room:
         top = copied(checkout, room)
-        notes = Notes(notes_folder(), top)
-        asked = named_edits(top, asked_for(checkout, top, given))
-        before = sum(notes.has(it) for edits in asked.values() for it in edits)
-        new = {name: [it for it in edits if not notes.has(it)] for name, edits in asked.items()}
-        trial = Trial(checkout, room, {name: edits for name, edits in new.items() if edits}, notes, given)
+        sources = tried.Sources(top, kit.logic())
+        rows = {name: it for name, it in tried.of(checkout).items() if tried.edits_of(top, name)}
+        rows = {name: it for name, it in rows.items() if sources.holds(name, it)}
+        standing = rows if given.stale else {}
+        if standing:
+            print("the rows of %d crates hold, with each wrong body refused" % len(standing), flush=True)
+        asked = named_edits(top, asked_for(checkout, top, given, standing))
+        trial = Trial(checkout, room, asked, Notes(notes_folder(), sources), given)
+        before = len(trial.refused)
         if before:
             print("%d were refused before, over the same sources" % before, flush=True)
+        trial.note([name for name in asked if name not in trial.edits and name not in rows])
         signal.signal(signal.SIGTERM, trial.end)
         signal.signal(signal.SIGINT, trial.end)
         trial.run_singly() if given.singly else trial.run()
+        missing = [name for name in trial.begun if not trial.refused.issuperset(map(named, asked[name]))]
+        trial.note(missing, is_over=True)
     missed = trial.not_refused()
     for it in missed:
         print("not refused: %s" % it)
     left = len(trial.edits) - len(trial.begun)
     verdict = "not all were refused" if missed else "each was refused"
-    counts = before + trial.count, len(asked) - left, left, verdict
+    before += sum(int(it.tried) for it in standing.values())
+    counts = before + trial.count, len(standing) + len(asked) - left, left, verdict
     print("wrong bodies: %d tried in %d crates, %d crates left; %s" % counts)
     return 1 if missed else 0
 
