@@ -241,7 +241,8 @@ class Runs(testing.Housed):
     def test_crates_whose_rows_hold_are_passed_over(self):
         first = self.commit()
         last = "wrong bodies: 0 tried in 0 crates, 3 crates left; each was refused"
-        self.assertEqual(self.tried("--stale", "--minutes", "0"), (0, last, []))
+        told = ["rows that hold: 0; to try: low other top", last]
+        self.assertEqual(self.ran("--stale", "--minutes", "0"), (0, told, []))
         self.assertEqual(self.tried("low/one", "top")[2], ["low one", "top three"])
         self.assertEqual(self.rows(), {"top": ("1", "1", first)})
         last = "wrong bodies: 4 tried in 3 crates, 0 crates left; each was refused"

@@ -109,10 +109,9 @@ class Sources:
         """The sum of all by which a crate's wrong bodies are refused."""
         if crate not in self.proofs:
             found = hashlib.sha256(self.logic.encode())
-            for it in side_by_side.below(self.deps, crate):
-                found.update(it.encode() + self.said_by(it))
-            found.update(("%s: %s" % (crate, self.deps[crate])).encode())
-            found.update(self.sum_of(self.of_crate[crate], is_whole=True))
+            for it in [*side_by_side.below(self.deps, crate), crate]:
+                found.update(("%s: %s\n" % (it, self.deps[it])).encode())
+                found.update(self.said_by(it) if it != crate else self.sum_of(self.of_crate[it], is_whole=True))
             self.proofs[crate] = found.digest()
         return self.proofs[crate]
 

@@ -15,8 +15,8 @@ which has the last word. An edit of more than one body, or of a clause, a consta
 A batch is checked in a room of its own, and there the functions that it changes alone. A crate whose library the gate
 has left in the checkout since its sources changed is proved, and so are those below it. Any other is proved first, and
 its batches are checked over what that kept. What was refused is noted in a folder of the user's, by the sum of all that
-its refusal rests on, so the same edit is not tried again on the machine until one of that changes. A crate that was
-tried whole gets a row in docs/LAST-RUN.md: tried.py beside this says what that rests on.
+its refusal rests on, so the same edit is not tried again on the machine until some of that changes. A crate that was
+tried whole gets a row in docs/LAST-RUN.md, and tried.py beside this says how long that holds.
 """
 
 import argparse
@@ -390,9 +390,9 @@ def main(words):
         rows = {name: it for name, it in tried.of(checkout).items() if tried.edits_of(top, name)}
         rows = {name: it for name, it in rows.items() if sources.holds(name, it)}
         standing = rows if given.stale else {}
-        if standing:
-            print("the rows of %d crates hold, with each wrong body refused" % len(standing), flush=True)
         asked = named_edits(top, asked_for(checkout, top, given, standing))
+        if given.stale:
+            print("rows that hold: %d; to try: %s" % (len(standing), " ".join(asked) or "none"), flush=True)
         trial = Trial(checkout, room, asked, Notes(notes_folder(), sources), given)
         before = len(trial.refused)
         if before:
