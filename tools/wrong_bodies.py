@@ -57,12 +57,9 @@ def kept_copy(one, other):
 class Trial:
     """One run: the crates that are still to be proved, the batches that wait, and what is left to be tried singly."""
 
-    def __init__(self, checkout, room, asked, notes, given):
+    def __init__(self, checkout, room, edits, notes, given):
         self.top, self.rooms = os.path.join(room, "top"), os.path.join(room, "rooms")
-        self.checkout, self.asked, self.notes, self.given = checkout, asked, notes, given
-        self.refused = {named(it) for edits in asked.values() for it in edits if notes.has(it)}
-        left = {name: [it for it in edits if named(it) not in self.refused] for name, edits in asked.items()}
-        self.edits = edits = {name: it for name, it in left.items() if it}
+        self.edits, self.notes, self.given = edits, notes, given
         self.jobs = given.jobs or len(os.sched_getaffinity(0))
         self.ends = time.monotonic() + 60 * given.minutes if given.minutes is not None else None
         self.crates = {it.name: it for name in edits for it in side_by_side.crates_for(self.top, name)}
@@ -70,7 +67,7 @@ class Trial:
         self.waiting, self.made = side_by_side.below({**self.deps, "": [*self.deps]}, ""), set()
         self.behind = side_by_side.behind([self.crates[it] for it in self.waiting])
         self.of_gate = self.laid_in(checkout)
-        self.batches, self.singles, self.begun, self.commit = [], [], [], git.commit(checkout)
+        self.batches, self.singles, self.begun, self.refused = [], [], [], set()
         self.failed, self.count = [], 0
         self.memory = side_by_side.free_memory()
         self.children, self.is_ending = [], False
@@ -253,16 +250,6 @@ class Trial:
     def keep(self, refused):
         self.refused.update(map(named, refused))
         self.notes.keep(refused)
-        self.note({it.crate for it in refused})
-
-    def note(self, crates, is_over=False):
-        """Gives those of these crates their row that are tried whole, each once all of it is refused, or at the end."""
-        for name in crates:
-            count = sum(named(it) in self.refused for it in self.asked[name])
-            every = len(tried.edits_of(self.top, name))
-            if len(self.asked[name]) == every and (is_over or count == every):
-                row = tried.row(self.notes.sources, name, every, count, self.commit)
-                tried.put(self.checkout, {name: row})
 
     def not_refused(self):
         """What failed, and each edit of the crates that were begun which nothing refused, however it was lost."""
@@ -286,23 +273,40 @@ def named(edit):
 
 
 class Notes:
-    """Which wrong bodies were refused before, each by the sum of its text and of all that refuses it."""
+    """Which wrong bodies are refused, now or before: each is noted by the sum of its text and of all that refuses it. A
+    crate that is tried whole gets its row."""
 
-    def __init__(self, folder, sources):
-        self.folder, self.sources = folder, sources
+    def __init__(self, folder, sources, checkout):
+        self.folder, self.sources, self.checkout = folder, sources, checkout
+        self.asked, self.refused, self.commit = {}, set(), git.commit(checkout)
         os.makedirs(folder, exist_ok=True)
+
+    def not_noted(self, asked):
+        """Those of the wrong bodies that are asked for which weren't refused before, by their crates."""
+        self.asked = asked
+        self.refused = {named(it) for edits in asked.values() for it in edits if os.path.exists(self.note_of(it))}
+        left = {name: [it for it in edits if named(it) not in self.refused] for name, edits in asked.items()}
+        return {name: edits for name, edits in left.items() if edits}
 
     def note_of(self, edit):
         text = tried.text_of_edit(self.sources.top, edit.crate, edit.name)
         own = hashlib.sha256(self.sources.of_proof(edit.crate) + text.encode())
         return os.path.join(self.folder, own.hexdigest())
 
-    def has(self, edit):
-        return os.path.exists(self.note_of(edit))
-
     def keep(self, refused):
         for it in refused:
             open(self.note_of(it), "w").close()
+        self.refused.update(map(named, refused))
+        self.put_rows({it.crate for it in refused})
+
+    def put_rows(self, crates, is_over=False):
+        """Gives those of these crates their row that are tried whole, each once all of it is refused, or at the end."""
+        for name in crates:
+            count = sum(named(it) in self.refused for it in self.asked[name])
+            every = len(tried.edits_of(self.sources.top, name))
+            if len(self.asked[name]) == every and (is_over or count == every):
+                row = tried.row(self.sources, name, every, count, self.commit)
+                tried.put(self.checkout, {name: row})
 
 
 def notes_folder():
@@ -393,16 +397,17 @@ def main(words):
         asked = named_edits(top, asked_for(checkout, top, given, standing))
         if given.stale:
             print("rows that hold: %d; to try: %s" % (len(standing), " ".join(asked) or "none"), flush=True)
-        trial = Trial(checkout, room, asked, Notes(notes_folder(), sources), given)
-        before = len(trial.refused)
+        notes = Notes(notes_folder(), sources, checkout)
+        trial = Trial(checkout, room, notes.not_noted(asked), notes, given)
+        before = len(notes.refused)
         if before:
             print("%d were refused before, over the same sources" % before, flush=True)
-        trial.note([name for name in asked if name not in trial.edits and name not in rows])
+        notes.put_rows([name for name in asked if name not in trial.edits and name not in rows])
         signal.signal(signal.SIGTERM, trial.end)
         signal.signal(signal.SIGINT, trial.end)
         trial.run_singly() if given.singly else trial.run()
-        missing = [name for name in trial.begun if not trial.refused.issuperset(map(named, asked[name]))]
-        trial.note(missing, is_over=True)
+        missing = [name for name in trial.begun if not notes.refused.issuperset(map(named, asked[name]))]
+        notes.put_rows(missing, is_over=True)
     missed = trial.not_refused()
     for it in missed:
         print("not refused: %s" % it)
