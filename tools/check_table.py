@@ -31,13 +31,14 @@ class Check:
 
 
 def read(minutes: Optional[int] = None, since: Optional[str] = None) -> List[Check]:
-    """All checks, in their order. A soak takes so many minutes, and wrong bodies are of what changed since a commit."""
+    """All checks, in their order. A soak takes so many minutes, and wrong bodies are of what changed since a commit, or
+    else of the crates whose rows don't hold."""
     lasts = 10 if minutes is None else minutes
     bounds = ["--minutes %d" % lasts] if minutes is not None else []
     given = {
         "minutes": lasts,
         "half": 30 * lasts,
-        "bounds": " ".join([*bounds, *(["--since " + shlex.quote(since)] if since else [])]),
+        "bounds": " ".join([*bounds, "--since " + shlex.quote(since) if since else "--stale"]),
         "since": "of those changed since %s" % since if since else "",
         "room": ROOM,
     }

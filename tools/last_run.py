@@ -1,4 +1,5 @@
-"""The page docs/LAST-RUN.md: `checks` writes it, and packaging/record.py reads it. `top` is a checkout."""
+"""The page docs/LAST-RUN.md: `checks` writes it, and packaging/record.py reads it. Below the rows of the checks stand
+those of tried.py. `top` is a checkout."""
 
 import datetime
 import os
@@ -42,13 +43,18 @@ def read(text: str) -> Rows:
     return {name.strip("`"): Row(*cells) for name, *cells in lines if len(cells) == 6 and name.startswith("`")}
 
 
-def of(top: str) -> Rows:
-    """The rows of a checkout's page."""
+def text(top: str) -> str:
+    """The text of a checkout's page, which has no rows where there is none."""
     try:
         with open(os.path.join(top, PAGE), encoding="utf-8") as it:
-            return read(it.read())
+            return it.read()
     except FileNotFoundError:
-        return {}
+        return HEAD
+
+
+def of(top: str) -> Rows:
+    """The rows of a checkout's page."""
+    return read(text(top))
 
 
 def unmarked(row: Row) -> Row:
@@ -64,13 +70,15 @@ def marked(top: str, row: Row, check: Check) -> Row:
 
 
 def put(top: str, rows: Rows, checks: Collection[Check]) -> None:
-    """Puts the rows into the page, in the order of the checks, and keeps those of checks that weren't run."""
-    kept = of(top)
+    """Puts the rows into the page, in the order of the checks, and keeps those of checks that weren't run, and what
+    stands below."""
+    kept, below = of(top), "".join(text(top).partition("\n## ")[1:])
     kept = {it.name: marked(top, kept[it.name], it) for it in checks if it.name in kept and it.name not in rows}
     found = {it.name: {**kept, **rows}.get(it.name) for it in checks}
     with open(os.path.join(top, PAGE), "w", encoding="utf-8") as it:
         it.write(HEAD)
         it.writelines("| `%s` | %s |\n" % (name, " | ".join(row)) for name, row in found.items() if row)
+        it.write(below)
 
 
 def uncommitted(top: str) -> Rows:

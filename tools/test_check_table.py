@@ -49,6 +49,6 @@ class Table(testing.Housed):
 
     def test_wrong_bodies_of_some_crates_say_so(self):
         all_of_them, some = self.check("wrong-bodies"), self.check("wrong-bodies", minutes=3, since="abc")
-        self.assertEqual((all_of_them.command[1:], all_of_them.word), ([], ""))
+        self.assertEqual((all_of_them.command[1:], all_of_them.word), (["--stale"], ""))
         self.assertEqual(some.command[1:], ["--minutes", "3", "--since", "abc"])
         self.assertEqual(some.word, "of those changed since abc")

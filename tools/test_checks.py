@@ -13,6 +13,7 @@ import check_table
 import gate_counts
 import last_run
 import testing
+import tried
 from check_table import Check
 
 checks = testing.script("checks")
@@ -94,15 +95,18 @@ class Checks(testing.Housed):
             self.assertEqual(told[-1], "checks: %d passed, %d failed" % (1 - status, status))
 
     def test_rows_of_a_log_and_of_another_checkout_are_taken_and_nothing_is_run(self):
+        self.write("crates/low/wrong-bodies/one.edit", "")
         self.commit()
         other = os.path.join(self.room, "other")
         subprocess.run(["git", "clone", "-q", self.top, other], check=True)
         with mock.patch.object(self, "top", other):
             self.assertEqual(self.ran(check_of("echo 3 tests"))[0], 0)
+        of_crate = {"low": tried.Row("2", "2", "`00`", "`0123456`", "1 May 2026")}
+        tried.put(other, of_crate)
         one = check_of("false")
         status, told, row = self.ran(one, "--rows", other)
         self.assertEqual((status, told[-1], row), (0, "checks: 0 passed, 0 failed", last_run.of(other)["one"]))
-        self.assertEqual(told[0], "rows of %s: one" % other)
+        self.assertEqual((told[0], tried.of(self.top)), ("rows of %s: one, low" % other, of_crate))
         self.write("log", "1 passed, 0 failed\n")
         status, told, row = self.ran(check_of("false", name="gate"), "--gate-log", os.path.join(self.top, "log"))
         self.assertEqual((status, row[:2]), (0, ("passed", "1 passed, 0 failed")))

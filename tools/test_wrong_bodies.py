@@ -9,7 +9,9 @@ import unittest
 from types import SimpleNamespace
 
 import body_edits
+import last_run
 import testing
+import tried
 import wrong_bodies
 
 PLAYER = testing.player("bodies_rt.py")
@@ -45,6 +47,7 @@ FILES = {
     "crates/top/wrong-bodies/three.edit": edit("three is well", "three is wrong"),
     "crates/other/src/lib.rt": "of other\n",
     "crates/other/wrong-bodies/four.edit": edit("of other", "of another"),
+    last_run.PAGE: last_run.HEAD,
 }
 ALL = ["low one two", "singly other/four", "top three"]
 
@@ -129,7 +132,6 @@ class Runs(testing.Housed):
         self.assertEqual(self.tried("top")[2], [])
 
     def test_the_page_is_written(self):
-        os.mkdir(os.path.join(self.top, "docs"))
         self.assertEqual(self.ran("--list")[0], 0)
         rows = [it for it in self.lines("docs/WRONG-BODIES.md") if it.startswith(("#", "| `", "- "))]
         wanted = ["# Wrong bodies", "## low", "| `one` | One is wrong. |", "| `two` |  |", "- `gate`"]
@@ -232,6 +234,45 @@ class Runs(testing.Housed):
         last = "wrong bodies: 2 tried in 2 crates, 0 crates left; each was refused"
         self.assertEqual(self.ran("top", "other", forgets=False)[1:], ([told[0].replace("1", "2"), last], []))
 
+    def rows(self):
+        """The crates of the page's rows, each with how many were tried and refused, and the commit."""
+        return {name: (it.tried, it.refused, it.commit.strip("`")) for name, it in tried.of(self.top).items()}
+
+    def test_crates_whose_rows_hold_are_passed_over(self):
+        first = self.commit()
+        last = "wrong bodies: 0 tried in 0 crates, 3 crates left; each was refused"
+        told = ["rows that hold: 0; to try: low other top", last]
+        self.assertEqual(self.ran("--stale", "--minutes", "0"), (0, told, []))
+        self.assertEqual(self.tried("low/one", "top")[2], ["low one", "top three"])
+        self.assertEqual(self.rows(), {"top": ("1", "1", first)})
+        last = "wrong bodies: 4 tried in 3 crates, 0 crates left; each was refused"
+        self.assertEqual(self.tried("--stale"), (0, last, ["low one two", "singly other/four"]))
+        wanted = {"low": ("2", "2", first), "top": ("1", "1", first), "other": ("1", "1", first)}
+        self.assertEqual(self.rows(), wanted)
+        self.assertEqual(self.tried("--stale"), (0, last, []))
+        self.write("crates/low/src/lib.rt", LOW.replace("two is well", "two is well, anew"))
+        second = self.commit()
+        self.assertEqual(self.tried("--stale")[2], ["low one two"])
+        self.assertEqual(self.rows(), {**wanted, "low": ("2", "2", second)})
+
+    def test_a_crate_of_which_one_was_not_refused_is_tried_again(self):
+        self.with_edits(two=edit("two is well", "two is fine"))
+        self.assertEqual({name: it[:2] for name, it in self.rows().items()}, {"low": ("2", "1")})
+        self.assertEqual(self.tried("--stale", "--jobs", "1")[::2], (1, sorted([*ALL, "singly low/two"])))
+
+    def test_what_was_refused_bit_by_bit_gives_a_row(self):
+        self.ran("low/one")
+        self.ran("low/two", forgets=False)
+        self.assertEqual(self.rows(), {})
+        self.assertEqual(self.ran("--stale", "--minutes", "0", forgets=False)[2], [])
+        self.assertEqual(list(self.rows()), ["low"])
+
+    def test_stale_crates_go_with_no_crate_and_no_commit(self):
+        for more in (["low"], ["--since", "HEAD"]):
+            status, told, batches = self.ran("--stale", *more)
+            self.assertEqual((status, batches), (2, []))
+            self.assertIn("--stale takes its crates from docs/LAST-RUN.md", told[-1])
+
     def test_a_comment_more_has_nothing_tried_again(self):
         self.ran("low")
         self.write("crates/low/src/lib.rt", "// Why.\n" + LOW)
@@ -244,13 +285,13 @@ class Runs(testing.Housed):
         self.assertEqual((status, tried), (2, []))
         self.assertIn("--since takes its crates from the commit", told[-1])
 
-    def test_another_kit_tries_all_again(self):
-        """What one kit refused says nothing of another kit."""
+    def test_another_logic_tries_all_again(self):
+        """What one logic refused says nothing of another one. A kit of the same logic may have any name."""
         self.ran("low")
         self.assertEqual(self.ran("low", forgets=False)[2], [])
-        version = 'if verb == "version":\n    print("another kit")\n    sys.exit()\nif verb in ("lib", "check"):'
-        self.write("../bin/rt", PLAYER.replace('if verb in ("lib", "check"):', version))
-        self.assertEqual(self.ran("low", forgets=False)[2], ["low one two"])
+        for version, tried in {"another kit logic 1a": [], "a kit logic 1b": ["low one two"]}.items():
+            self.write("../bin/rt", PLAYER.replace("a kit logic 1a", version))
+            self.assertEqual(self.ran("low", forgets=False)[2], tried)
 
     def test_a_crate_has_changed_where_any_file_of_its_proof_has(self):
         """Definitions, proofs and wrong bodies count as sources do."""

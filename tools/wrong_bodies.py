@@ -15,7 +15,8 @@ which has the last word. An edit of more than one body, or of a clause, a consta
 A batch is checked in a room of its own, and there the functions that it changes alone. A crate whose library the gate
 has left in the checkout since its sources changed is proved, and so are those below it. Any other is proved first, and
 its batches are checked over what that kept. What was refused is noted in a folder of the user's, by the sum of all that
-it read, so the same edit over the same sources is not tried again on the machine.
+its refusal rests on, so the same edit is not tried again on the machine until some of that changes. A crate that was
+tried whole gets a row in docs/LAST-RUN.md, and tried.py beside this says how long that holds.
 """
 
 import argparse
@@ -33,7 +34,9 @@ from contextlib import suppress
 
 import body_page
 import git
+import kit
 import side_by_side
+import tried
 from body_edits import apply, check_alone, in_batches, read_edit, refusals, text_of
 from side_by_side import link_or_copy
 
@@ -270,42 +273,40 @@ def named(edit):
 
 
 class Notes:
-    """Which wrong bodies were refused before, each by the sum of its text and of all that its crate's proof reads."""
+    """Which wrong bodies are refused, now or before: each is noted by the sum of its text and of all that refuses it. A
+    crate that is tried whole gets its row."""
 
-    def __init__(self, folder, top):
-        self.folder, self.top, self.sums = folder, top, {}
+    def __init__(self, folder, sources, checkout):
+        self.folder, self.sources, self.checkout = folder, sources, checkout
+        self.asked, self.refused, self.commit = {}, set(), git.commit(checkout)
         os.makedirs(folder, exist_ok=True)
-        self.kit = subprocess.run(["rt", "version"], stdout=subprocess.PIPE, check=True).stdout
 
-    def sum_of(self, name):
-        """The sum of the sources of a crate and of all below it, without their comments."""
-        if name not in self.sums:
-            deps = side_by_side.listed(text_of(os.path.join(self.top, "crates.txt")))
-            found = hashlib.sha256(self.kit)
-            for crate in [*side_by_side.below(deps, name), name]:
-                found.update(("%s: %s\n" % (crate, deps[crate])).encode())
-                for path in side_by_side.sources(os.path.join(self.top, "crates", crate)):
-                    found.update(("%s %s\n" % (os.path.relpath(path, self.top), uncommented(path))).encode())
-            self.sums[name] = found.digest()
-        return self.sums[name]
+    def not_noted(self, asked):
+        """Those of the wrong bodies that are asked for which weren't refused before, by their crates."""
+        self.asked = asked
+        self.refused = {named(it) for edits in asked.values() for it in edits if os.path.exists(self.note_of(it))}
+        left = {name: [it for it in edits if named(it) not in self.refused] for name, edits in asked.items()}
+        return {name: edits for name, edits in left.items() if edits}
 
     def note_of(self, edit):
-        text = text_of(os.path.join(self.top, "crates", edit.crate, "wrong-bodies", edit.name + ".edit"))
-        return os.path.join(self.folder, hashlib.sha256(self.sum_of(edit.crate) + text.encode()).hexdigest())
-
-    def has(self, edit):
-        return os.path.exists(self.note_of(edit))
+        text = tried.text_of_edit(self.sources.top, edit.crate, edit.name)
+        own = hashlib.sha256(self.sources.of_proof(edit.crate) + text.encode())
+        return os.path.join(self.folder, own.hexdigest())
 
     def keep(self, refused):
         for it in refused:
             open(self.note_of(it), "w").close()
+        self.refused.update(map(named, refused))
+        self.put_rows({it.crate for it in refused})
 
-
-def uncommented(path):
-    """The lines of a source that are more than a comment."""
-    mark = "//" if path.endswith(".rt") else "--"
-    lines = text_of(path).splitlines()
-    return "\n".join(it for it in lines if it.strip() and not it.lstrip().startswith(mark))
+    def put_rows(self, crates, is_over=False):
+        """Gives those of these crates their row that are tried whole, each once all of it is refused, or at the end."""
+        for name in crates:
+            count = sum(named(it) in self.refused for it in self.asked[name])
+            every = len(tried.edits_of(self.sources.top, name))
+            if len(self.asked[name]) == every and (is_over or count == every):
+                row = tried.row(self.sources, name, every, count, self.commit)
+                tried.put(self.checkout, {name: row})
 
 
 def notes_folder():
@@ -349,6 +350,7 @@ def given_words(words):
     parser = argparse.ArgumentParser(prog="wrong-bodies", add_help=False)
     parser.add_argument("--minutes", type=float)
     parser.add_argument("--since")
+    parser.add_argument("--stale", action="store_true")
     parser.add_argument("--jobs", type=int)
     parser.add_argument("--singly", action="store_true")
     parser.add_argument("--list", action="store_true")
@@ -356,6 +358,8 @@ def given_words(words):
     given = parser.parse_args(words)
     if given.since and given.crates:
         parser.error("--since takes its crates from the commit, so it goes with no crate")
+    if given.stale and (given.since or given.crates):
+        parser.error("--stale takes its crates from docs/LAST-RUN.md, so it goes with no crate and without --since")
     return given
 
 
@@ -368,12 +372,11 @@ def copied(checkout, room):
     return top
 
 
-def asked_for(checkout, top, given):
+def asked_for(checkout, top, given, standing):
     """The crates that are to be tried, or single wrong bodies of them."""
     if not given.since:
-        crates = os.path.join(top, "crates")
-        with_bodies = [it for it in os.listdir(crates) if os.path.isdir(os.path.join(crates, it, "wrong-bodies"))]
-        return given.crates or sorted(with_bodies)
+        with_bodies = [it for it in os.listdir(os.path.join(top, "crates")) if tried.edits_of(top, it)]
+        return given.crates or sorted({*with_bodies}.difference(standing))
     names = changed_since(checkout, given.since)
     if not names:
         print("no crate has changed since %s" % given.since)
@@ -387,22 +390,31 @@ def main(words):
         return write_page(checkout)
     with tempfile.TemporaryDirectory(prefix="wrong-bodies-") as room:
         top = copied(checkout, room)
-        notes = Notes(notes_folder(), top)
-        asked = named_edits(top, asked_for(checkout, top, given))
-        before = sum(notes.has(it) for edits in asked.values() for it in edits)
-        new = {name: [it for it in edits if not notes.has(it)] for name, edits in asked.items()}
-        trial = Trial(checkout, room, {name: edits for name, edits in new.items() if edits}, notes, given)
+        sources = tried.Sources(top, kit.logic())
+        rows = {name: it for name, it in tried.of(checkout).items() if tried.edits_of(top, name)}
+        rows = {name: it for name, it in rows.items() if sources.holds(name, it)}
+        standing = rows if given.stale else {}
+        asked = named_edits(top, asked_for(checkout, top, given, standing))
+        if given.stale:
+            print("rows that hold: %d; to try: %s" % (len(standing), " ".join(asked) or "none"), flush=True)
+        notes = Notes(notes_folder(), sources, checkout)
+        trial = Trial(checkout, room, notes.not_noted(asked), notes, given)
+        before = len(notes.refused)
         if before:
             print("%d were refused before, over the same sources" % before, flush=True)
+        notes.put_rows([name for name in asked if name not in trial.edits and name not in rows])
         signal.signal(signal.SIGTERM, trial.end)
         signal.signal(signal.SIGINT, trial.end)
         trial.run_singly() if given.singly else trial.run()
+        missing = [name for name in trial.begun if not notes.refused.issuperset(map(named, asked[name]))]
+        notes.put_rows(missing, is_over=True)
     missed = trial.not_refused()
     for it in missed:
         print("not refused: %s" % it)
     left = len(trial.edits) - len(trial.begun)
     verdict = "not all were refused" if missed else "each was refused"
-    counts = before + trial.count, len(asked) - left, left, verdict
+    before += sum(int(it.tried) for it in standing.values())
+    counts = before + trial.count, len(standing) + len(asked) - left, left, verdict
     print("wrong bodies: %d tried in %d crates, %d crates left; %s" % counts)
     return 1 if missed else 0
 

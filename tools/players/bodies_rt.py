@@ -13,6 +13,8 @@ import sys
 
 verb, *names = sys.argv[1:]
 crate, status, notes = os.path.basename(os.getcwd()), 0, open(os.environ["NOTES"], "a")
+if verb == "version":
+    print("a kit logic 1a")
 if verb in ("lib", "check"):
     turned, is_taken = [], "taken" in open("src/lib.rt").read()
     if verb == "check" and not os.path.isdir("out/incremental") and is_taken:
