@@ -6,7 +6,7 @@ use std::process::Abort;
 use timestamps::key::Key;
 use timestamps::ts::Ts;
 
-/// What is asked by lines.
+/// Calls that lines ask for.
 pub(super) trait Asked {
     /// Makes the call of a line's words, and writes what it is answered; none where the line is no call.
     fn ask(&mut self, alloc: Global, words: Words<'_>, out: &mut Vec<u8>) -> Option<()>;

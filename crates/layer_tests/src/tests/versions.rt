@@ -352,7 +352,7 @@ fn keys_in(alloc: Global, store: &Store, words: &mut Words<'_>, out: &mut Vec<u8
     Some(())
 }
 
-/// What is committed after a place, whose key `-` is none: of each version its timestamp and its key.
+/// The committed versions after a place, whose key `-` is none: of each its timestamp and its key.
 fn follows(alloc: Global, store: &Store, words: &mut Words<'_>, out: &mut Vec<u8>) -> Option<()> {
     let ts = words.number();
     let first = words.key(alloc)?;
