@@ -432,7 +432,7 @@ class Growing(threading.Thread):
 
 
 class Holding(Growing):
-    """Opens feeds and protects, five hundred of each, and ends them with its session, again and again."""
+    """Opens feeds and protects, nine hundred of each, and ends them with its session, again and again."""
 
     def __hash__(self) -> int:
         return id(self)

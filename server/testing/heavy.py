@@ -149,6 +149,18 @@ def deleted_pages(port: int, count: int = 100_000) -> None:
     again_and_again(lambda: (holder, fetch(port, "/rows?lo=gone/&hi=gone0")))
 
 
+def deleted_feeds(port: int, count: int = 100_000) -> None:
+    """Feeds that begin with rows which are deleted and not collected: none has a row, but the first resolved message."""
+    holder = delete_and_hold(port, count)
+
+    def work() -> None:
+        wire = Wire(port)
+        wire.ask("GET", "/feed?lo=gone/&hi=gone0", bearer(TOKEN))
+        wire.until(b'{"resolved":"')
+        wire.close()
+    again_and_again(lambda: (holder, work()))
+
+
 def deleted_scans(port: int, count: int = 100_000, times: int = 500) -> None:
     """Scans of as many rows that are deleted and not collected as are let through: each answers `rows 0`, so no answer gets
     long. How many those are is known by a sample."""
