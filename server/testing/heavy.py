@@ -150,7 +150,7 @@ def deleted_pages(port: int, count: int = 100_000) -> None:
 
 
 def deleted_feeds(port: int, count: int = 100_000) -> None:
-    """Feeds that begin with rows which are deleted and not collected: none has a row, but the first resolved message."""
+    """Feeds that begin where rows are deleted and not collected: none is told but the first resolved message."""
     holder = delete_and_hold(port, count)
 
     def work() -> None:
@@ -162,8 +162,8 @@ def deleted_feeds(port: int, count: int = 100_000) -> None:
 
 
 def deleted_scans(port: int, count: int = 100_000, times: int = 500) -> None:
-    """Scans of as many rows that are deleted and not collected as are let through: each answers `rows 0`, so no answer gets
-    long. How many those are is known by a sample."""
+    """Scans of as many rows that are deleted and not collected as are let through: each answers `rows 0`, so no answer
+    gets long. How many those are is known by a sample."""
     holder, mine = delete_and_hold(port, count), session(port)
     scan = "scan . gone/ gone/%07d\n"
     made, refused = 0, count
