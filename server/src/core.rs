@@ -12,7 +12,7 @@
 use crate::api::holds::Holds;
 use crate::api::pages::Page;
 use crate::closing::Closing;
-use crate::cuts::Cuts;
+use crate::cuts::{Cuts, Write};
 use crate::door::Turn;
 use crate::journal::recovery::Recovered;
 use crate::journal::Journal;
@@ -28,7 +28,7 @@ use ripsawbean::{
     unspell, CallError, Command, CommandError, Database, DumpError, DumpPlace, Event, OpenError, Outcome as Did,
     Record, Refusal, Room, VersionError,
 };
-use std::io::Write;
+use std::io::Write as _;
 use std::sync::Arc;
 use std::time::Instant;
 
@@ -138,9 +138,9 @@ impl Core {
         let outcome = outcome?;
         match outcome {
             Outcome::Started { ts } => session.last = Some(ts),
-            Outcome::Written { ts, .. } => {
+            Outcome::Written { ts, is_delete, .. } => {
                 let word = key_of(line);
-                self.cuts.note(word, ts, || unspell(std::str::from_utf8(word).ok()?));
+                self.cuts.note(word, Write { ts, is_delete }, || unspell(std::str::from_utf8(word).ok()?));
             }
             _ => {}
         }
@@ -327,7 +327,8 @@ impl Core {
         let outcome = self.note(owner, Words::Command(command), is_told);
         self.record(Some(command));
         if let Command::Put { ts, key, .. } | Command::Del { ts, key } = command {
-            self.cuts.note(key, ts, || Some(key.to_vec()));
+            let is_delete = matches!(command, Command::Del { .. });
+            self.cuts.note(key, Write { ts, is_delete }, || Some(key.to_vec()));
         }
         outcome
     }

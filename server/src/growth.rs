@@ -5,8 +5,8 @@
 //! `ledger` tells it of each event. `memory` has the bound, by which `lines` and `run` refuse.
 //!
 //! ```text
-//! begin 7, get 7 a     open 227       close 7      open 0
-//! begin 8, del 8 b     deleted 461    collect 8    deleted 0
+//! begin 7, get 7 a     open 336       close 7      open 0
+//! begin 8, del 8 b     deleted 467    collect 8    deleted 0
 //! protect 7            held 260       release 1    held 0
 //! ```
 //!
@@ -19,16 +19,20 @@
 use std::collections::VecDeque;
 
 // This is what resident memory grows by, and somewhat more. server/testing/attack_growth.py makes some hundred thousand of
-// each kind and compares. An empty transaction takes 30 bytes, and one that deletes 145. A key that is read takes 160 and,
-// above 24 bytes, its length; each bound of a span as much. A delete takes 310 and, above 24 bytes, three times its key.
-// A transaction that is undecided takes 218, a protection 217, and a feed 790, and three times its command.
+// each kind and compares. An empty transaction takes 29 bytes, and one that deletes 145. A key that is read takes 250 and,
+// above 24 bytes, twice its length; each bound of a span 94 and, above 24 bytes, its length. A delete takes 340 and, above
+// 24 bytes, three times its key. A transaction that is undecided takes 221, a protection 217, and a feed 490 and twice its
+// command.
 
 /// Bytes that a transaction takes until it is closed, also one that was decided.
 const BEGUN: u64 = 40;
 /// Bytes that it takes beside that until it is decided.
 const UNDECIDED: u64 = 210;
-/// Bytes that each key takes that is read, or each bound of a span, beside its length.
-const READ: u64 = 180;
+/// Bytes that a key takes that is read, and how often it is kept.
+const READ: u64 = 280;
+const READ_COPIES: u64 = 2;
+/// Bytes that each bound of a span takes that is read, beside its length.
+const BOUND: u64 = 120;
 /// Bytes that a delete takes, where its key has no other version, beside its line.
 const DELETED: u64 = 440;
 /// How often a deleted key is kept.
@@ -36,11 +40,18 @@ const COPIES: u64 = 3;
 /// Bytes that a protection takes.
 const PROTECTED: u64 = 260;
 /// Bytes that a feed takes beside its command.
-const FEED: u64 = 900;
+const FEED: u64 = 600;
 /// How often a feed's command is kept, or its span.
-const COMMANDS: u64 = 4;
+const COMMANDS: u64 = 3;
 /// Bytes that one step has.
 const STEP: u64 = 1 << 16;
+
+/// What a transaction reads by one call.
+#[derive(Clone, Copy, Debug, PartialEq, Eq)]
+pub enum Read {
+    Key,
+    Span,
+}
 
 /// Something of either kind, such as its bytes.
 #[derive(Clone, Copy, Debug, Default, PartialEq, Eq)]
@@ -97,8 +108,8 @@ impl Growth {
     }
 
     /// A transaction has read a key, or a span by its two bounds, which have so many bytes.
-    pub fn read(&mut self, greatest: u64, bounds: u64, bytes: u64) {
-        self.open.add(greatest, READ * bounds + bytes);
+    pub fn read(&mut self, greatest: u64, read: Read, bytes: u64) {
+        self.open.add(greatest, of_read(read, bytes));
     }
 
     /// A transaction has deleted a key, by a line of so many bytes.
@@ -149,6 +160,13 @@ impl Growth {
     }
 }
 
+fn of_read(read: Read, bytes: u64) -> u64 {
+    match read {
+        Read::Key => READ + READ_COPIES * bytes,
+        Read::Span => 2 * BOUND + bytes,
+    }
+}
+
 fn of_feed(bytes: u64) -> u64 {
     FEED + COMMANDS * bytes
 }
@@ -179,9 +197,9 @@ mod tests {
     fn closing_ends_what_is_open_and_a_collection_what_is_deleted() {
         let mut growth = Growth::default();
         growth.begin(7);
-        growth.read(7, 1, 10);
+        growth.read(7, Read::Key, 10);
         growth.delete(7, 20);
-        let wanted = Grown { open: BEGUN + READ + 10, deleted: DELETED + 60, held: 0 };
+        let wanted = Grown { open: BEGUN + READ + 20, deleted: DELETED + 60, held: 0 };
         assert_eq!(growth.now(), Grown { held: UNDECIDED, ..wanted });
         growth.decide();
         growth.close(6);
@@ -198,7 +216,7 @@ mod tests {
     fn nothing_is_given_back_too_early_and_there_are_few_steps() {
         let mut growth = Growth::default();
         for at in 1..=10_000 {
-            growth.read(at, 1, 0);
+            growth.read(at, Read::Key, 0);
         }
         let few = 10_000 * READ / STEP + 1;
         assert!(growth.open.steps.len() as u64 <= few);

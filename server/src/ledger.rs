@@ -149,7 +149,7 @@ impl Ledger {
         self.calls += 1;
         match *outcome {
             Outcome::Nothing => {}
-            Outcome::Read { bounds, bytes } => self.growth.read(self.greatest, bounds, bytes),
+            Outcome::Read { read, bytes } => self.growth.read(self.greatest, read, bytes),
             Outcome::Written { ts, bytes, is_delete } => self.wrote(ts, bytes, is_delete),
             Outcome::Started { ts } => self.started(seats, owner, ts),
             Outcome::Committed { ts, rows } => self.committed(seats, ts, rows),

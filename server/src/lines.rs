@@ -283,7 +283,7 @@ fn prepared(core: &Core, session: &mut Session, line: &[u8], is_spoiled: bool) -
         (b"closehard", Some(to)) => bound(core, to).map(|()| None),
         (b"put", Some(_)) if !core.is_full() => Ok(dot(session, command, line)),
         (b"put", Some(_)) => Err(Fault::Full),
-        (b"scan" | b"scanat", Some(rest)) if passes_over_many(core, rest) => Err(Fault::AnswerTooLong),
+        (b"scan" | b"scanat", Some(rest)) if passes_over_many(core, session, rest) => Err(Fault::AnswerTooLong),
         (b"get" | b"scan" | b"del" | b"commit" | b"abort", Some(_)) => Ok(dot(session, command, line)),
         (b"open" | b"openinitial" | b"openevery" | b"openinitialevery" | b"protect", Some(_)) if !core.may_hold() => {
             Err(Fault::Full)
@@ -408,13 +408,14 @@ fn has_room(core: &Core, session: &Session, kind: Kind) -> Prepared {
 }
 
 /// Whether a scan would pass over too many keys of which it tells nothing, whatever it tells: that can't be cut into turns.
-fn passes_over_many(core: &Core, rest: &[u8]) -> bool {
+fn passes_over_many(core: &Core, session: &Session, rest: &[u8]) -> bool {
     let words: Vec<&[u8]> = rest.split(|&byte| byte == b' ').collect();
     let key = |at: usize| unspell(std::str::from_utf8(words.get(at)?).ok()?);
-    // A word that spells no bytes is the database's to refuse.
-    let (Some(lo), Some(hi)) = (key(1), key(2)) else { return false };
+    let at = number_in(words[0]).or(session.last);
+    // What isn't right is the database's to refuse.
+    let (Some(at), Some(lo), Some(hi)) = (at, key(1), key(2)) else { return false };
     let hi = Some(hi.as_slice()).filter(|hi| !hi.is_empty());
-    let is_far = core.cuts.within(&lo, hi).nth(cuts::MOST).is_some();
+    let is_far = core.cuts.passed(&lo, hi, at).nth(cuts::MOST).is_some();
     is_far
 }
 

@@ -7,6 +7,7 @@
 //! 3 0 get 12 a => blocked 11        Refused(Blocked(11))
 //! ```
 
+use crate::growth::Read;
 use ripsawbean::{Closed, Command, CommandKind, Database, Outcome as Answer, Refusal};
 use std::fmt;
 
@@ -15,9 +16,9 @@ use std::fmt;
 pub enum Outcome {
     /// Nothing that the ledger follows: a read of a snapshot, or `stats`.
     Nothing,
-    /// A transaction read a key, or a span of two bounds, by so many bytes.
+    /// A transaction read a key, or a span by its two bounds, which have so many bytes.
     Read {
-        bounds: u64,
+        read: Read,
         bytes: u64,
     },
     /// A transaction wrote a row by a line of so many bytes.
@@ -116,8 +117,8 @@ impl Outcome {
         let at = record.at;
         match record.outcome {
             Answer::None | Answer::Value(_) | Answer::Rows(_) => match record.command {
-                CommandKind::Get => Outcome::Read { bounds: 1, bytes: words.keys() },
-                CommandKind::Scan => Outcome::Read { bounds: 2, bytes: words.keys() },
+                CommandKind::Get => Outcome::Read { read: Read::Key, bytes: words.keys() },
+                CommandKind::Scan => Outcome::Read { read: Read::Span, bytes: words.keys() },
                 _ => Outcome::Nothing,
             },
             Answer::Stats { .. } => Outcome::Nothing,
@@ -218,8 +219,8 @@ mod tests {
         assert_eq!(last_of(&WRITTEN), Outcome::Committed { ts: 7, rows: 2 });
         assert_eq!(last_of(&["0 begin 7", "0 abort 7"]), Outcome::Aborted { ts: 7 });
         assert_eq!(last_of(&["0 begin 7", "0 begin 9", "0 get 9 a", "0 put 7 a 1"]), Outcome::TooLate { ts: 7 });
-        assert_eq!(last_of(&["0 begin 7", "0 get 7 =>"]), Outcome::Read { bounds: 1, bytes: 8 });
-        assert_eq!(after_writing(&["0 begin 9", "0 scan 9 - =>"]), Outcome::Read { bounds: 2, bytes: 11 });
+        assert_eq!(last_of(&["0 begin 7", "0 get 7 =>"]), Outcome::Read { read: Read::Key, bytes: 8 });
+        assert_eq!(after_writing(&["0 begin 9", "0 scan 9 - =>"]), Outcome::Read { read: Read::Span, bytes: 11 });
         assert_eq!(after_writing(&["0 close 9", "0 readat 9 a"]), Outcome::Nothing);
     }
 

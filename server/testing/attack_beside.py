@@ -64,6 +64,10 @@ def test_scans_of_deleted_rows(room: Room, scale: Scale) -> str:
     return beside(room, "deleted_scans", scale.of(100_000, 300_000))
 
 
+def test_feeds_that_begin_with_deleted_rows(room: Room, scale: Scale) -> str:
+    return beside(room, "deleted_feeds", scale.of(50_000, 300_000))
+
+
 def test_pages_over_deleted_rows(room: Room, scale: Scale) -> str:
     return beside(room, "deleted_pages", scale.of(50_000, 300_000))
 

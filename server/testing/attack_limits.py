@@ -432,7 +432,7 @@ class Growing(threading.Thread):
 
 
 class Holding(Growing):
-    """Opens feeds and protects, five hundred of each, and ends them with its session, again and again."""
+    """Opens feeds and protects, nine hundred of each, and ends them with its session, again and again."""
 
     def __hash__(self) -> int:
         return id(self)
@@ -442,7 +442,7 @@ class Holding(Growing):
             with contextlib.suppress(OSError):
                 session = Session(self.server.port)
                 closed = session.call("stats\n").split(" ")[-2]
-                answer = session.call("".join(self.line % (at, closed, closed) for at in range(500)))
+                answer = session.call("".join(self.line % (at, closed, closed) for at in range(900)))
                 self.made += answer.count(" => opened ") + answer.count(" => protected ")
                 self.full += answer.count(" 67 full ")
                 session.close()
@@ -461,8 +461,8 @@ def test_what_is_no_row_has_a_bound_too(room: Room, scale: Scale) -> str:
         if " 67 full " in session.call("begin\nput . row/%d %s\ncommit .\n" % (at, VALUE)):
             break
     clients = [Growing(server, line, over) for line in ("del . gone/%09d\n", "get . absent/%09d\n") for _ in range(3)]
-    held = "openinitial low/%09d - %s\nprotect %s\n"
-    clients += [Holding(server, held, over) for _ in range(3)]
+    held = "openinitial low/%09d" + "x" * 200 + " - %s\nprotect %s\n"
+    clients += [Holding(server, held, over) for _ in range(6)]
     threads = [threading.Thread(target=hold_up, args=(server, over), daemon=True), *clients]
     for one in threads:
         one.start()
@@ -472,7 +472,7 @@ def test_what_is_no_row_has_a_bound_too(room: Room, scale: Scale) -> str:
     over.set()
     for one in threads:
         one.join(LONGEST)
-    deletes, reads, holds = (sum(one.made for one in clients[at : at + 3]) for at in (0, 3, 6))
+    deletes, reads, holds = (sum(one.made for one in clients[at:to]) for at, to in ((0, 3), (3, 6), (6, 12)))
     figures = "%d deletes, %d reads, %d feeds and protections, %d refused; %d MB of addresses at most, of %d MB" % (
         deletes, reads, holds, sum(one.full for one in clients), peak_of_addresses(server) >> 20, MOST + reserve >> 20)
     assert not server.has_ended() and peak_of_addresses(server) < MOST + reserve, figures

@@ -18,7 +18,6 @@ from handmade import HANDSHAKE, Cut, Session, Wire, bearer, fill, framed
 TOKEN = ""
 PAUSE = 0.05  # seconds before a client that was thrown out comes again
 MOST_ROWS = 32768  # of a scan that the library lets through
-SURELY_PASSED = 40_000  # deleted keys: that a scan passes over more than some 65,000 is known by a sample
 
 
 def say(word: str) -> None:
@@ -150,14 +149,31 @@ def deleted_pages(port: int, count: int = 100_000) -> None:
     again_and_again(lambda: (holder, fetch(port, "/rows?lo=gone/&hi=gone0")))
 
 
-def deleted_scans(port: int, count: int = 100_000, times: int = 500) -> None:
-    """Scans of rows that are deleted and not collected: each answers `rows 0`, so no answer gets long. One of all of them
-    is refused, and one of so many as are let through isn't."""
+def deleted_feeds(port: int, count: int = 100_000) -> None:
+    """Feeds that begin where rows are deleted and not collected: none is told but the first resolved message."""
     holder = delete_and_hold(port, count)
-    scan, answer = "scan . gone/ gone/%07d\n" % SURELY_PASSED, session(port).call("begin\nscan . gone/ gone0\nabort .\n")
-    if " 25 answertoolong " not in answer or "=> rows 0\n" not in session(port).call("begin\n%sabort .\n" % scan):
-        raise ValueError("a scan of all is let through, or one of fewer isn't: " + answer)
-    ask = asking(port, "begin\n%sabort .\n" % (scan * times))
+
+    def work() -> None:
+        wire = Wire(port)
+        wire.ask("GET", "/feed?lo=gone/&hi=gone0", bearer(TOKEN))
+        wire.until(b'{"resolved":"')
+        wire.close()
+    again_and_again(lambda: (holder, work()))
+
+
+def deleted_scans(port: int, count: int = 100_000, times: int = 500) -> None:
+    """Scans of as many rows that are deleted and not collected as are let through: each answers `rows 0`, so no answer
+    gets long. How many those are is known by a sample."""
+    holder, mine = delete_and_hold(port, count), session(port)
+    scan = "scan . gone/ gone/%07d\n"
+    made, refused = 0, count
+    while refused > made + 1:
+        middle = (made + refused) // 2
+        is_refused = " 25 answertoolong " in mine.call("begin\n%sabort .\n" % scan % middle)
+        made, refused = (made, middle) if is_refused else (middle, refused)
+    if not 10_000 < made < 90_000:
+        raise ValueError("scans of %d deleted rows are let through" % made)
+    ask = asking(port, "begin\n%sabort .\n" % (scan % made * times))
     again_and_again(lambda: (holder, ask()))
 
 

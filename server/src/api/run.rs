@@ -356,7 +356,8 @@ impl<'p> Running<'_, 'p> {
 
     /// The first rows of a span as the transaction sees them.
     fn read(&mut self, span: Span<'_>, most: usize) -> Result<Page, Stop> {
-        let far = self.core.cuts.within(span.lo, span.hi).nth(cuts::MOST - self.passed).map(<[u8]>::to_vec);
+        let far = self.core.cuts.passed(span.lo, span.hi, self.timestamp).nth(cuts::MOST - self.passed);
+        let far = far.map(<[u8]>::to_vec);
         let near = Span { lo: span.lo, hi: far.as_deref().or(span.hi) };
         let command = Command::Scan { ts: self.timestamp, span: near };
         let room = Room { rows: most as u64, bytes: MOST_BYTES };
@@ -365,7 +366,7 @@ impl<'p> Running<'_, 'p> {
             CommandError::Call(error) => self.stop("scan", Err(error)),
         })?;
         let end = page.next.as_deref().or(near.hi);
-        self.passed += self.core.cuts.within(span.lo, end).count();
+        self.passed += self.core.cuts.passed(span.lo, end, self.timestamp).count();
         self.read += page.rows.len();
         let is_short = page.rows.len() < most && page.next.is_none() && far.is_some();
         page.next = page.next.or(far);

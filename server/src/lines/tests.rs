@@ -172,18 +172,18 @@ fn a_scan_that_would_pass_over_many_keys_makes_no_call() {
     let mut one = session(&mut core);
     answers(&mut core, &mut one, "protect 0\n");
     for command in ["put . %25%02 x\n", "del . %25%02\n"] {
-        let lines: String = (0..70).map(|at| command.replace("%02", &format!("{at:02}"))).collect();
+        let lines: String = (0..40).map(|at| command.replace("%02", &format!("{at:02}"))).collect();
         answers(&mut core, &mut one, &format!("begin\n{lines}commit .\n"));
     }
     answers(&mut core, &mut one, "close 2\n");
     for (span, is_made) in [
         ("- -", false),
         ("%25 -", false),
-        ("%2500 %2566", false),
-        ("%2500 %2565", true),
-        ("%2505 -", true),
+        ("%2500 %2534", false),
+        ("%2500 %2533", true),
+        ("%2507 -", true),
         ("& '", true),
-        ("%2566 %2500", true),
+        ("%2534 %2500", true),
     ] {
         for scan in ["scan .", "scanat 2"] {
             let told = answers(&mut core, &mut one, &format!("begin\n{scan} {span}\n"));

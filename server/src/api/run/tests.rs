@@ -258,21 +258,21 @@ fn a_transaction_passes_over_few_deleted_keys() {
     let mut one = session(&mut core);
     say(&mut core, &mut one, "protect 0\n");
     for command in ["put . k%02 x\n", "del . k%02\n"] {
-        let lines: String = (0..70).map(|at| command.replace("%02", &format!("{at:02}"))).collect();
+        let lines: String = (0..40).map(|at| command.replace("%02", &format!("{at:02}"))).collect();
         say(&mut core, &mut one, &format!("begin\n{lines}commit .\n"));
     }
-    say(&mut core, &mut one, "begin\nput . k62a 1\nput . k69a 1\ncommit .\n");
+    say(&mut core, &mut one, "begin\nput . k30a 1\nput . k39a 1\ncommit .\n");
     let scan = |lo: &str, hi: &str, limit: u64| format!(r#"{{"scan":["{lo}","{hi}"],"limit":{limit}}}"#);
     let both = |one: &str, other: &str| format!(r#"{{"then":[{one},{other}]}}"#);
     for (scans, is_made) in [
-        (both(&scan("k", "k60", 9), r#"{"get":"a"}"#), true),
-        (both(&scan("k", "k66", 9), r#"{"get":"a"}"#), false),
+        (both(&scan("k", "k32", 9), r#"{"get":"a"}"#), true),
+        (both(&scan("k", "k33", 9), r#"{"get":"a"}"#), false),
         // What is told is found before.
         (both(&scan("k", "l", 1), r#"{"get":"a"}"#), true),
         (both(&scan("k", "l", 2), r#"{"get":"a"}"#), false),
         // Each scan counts.
-        (both(&scan("k00", "k33", 9), &scan("k00", "k33", 9)), true),
-        (both(&scan("k00", "k34", 9), &scan("k00", "k34", 9)), false),
+        (both(&scan("k00", "k17", 9), &scan("k00", "k17", 9)), true),
+        (both(&scan("k00", "k18", 9), &scan("k00", "k18", 9)), false),
     ] {
         let plan = plan(&scans);
         let made = told(&mut core, &plan).map_err(|stop| stop.refusal().error);
