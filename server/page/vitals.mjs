@@ -115,7 +115,7 @@ function closingTile({ holders, metrics }) {
   const inTheWay = holders.transaction.find((it) => it.timestamp === oldest);
   const delay = metrics.value("closing_delay_seconds") ?? inTheWay?.age ?? 0;
   const [value, unit] = ageText(delay);
-  const note = inTheWay && `waits for ${oldest}`;
+  const note = inTheWay && delay > 0 ? `waits for ${oldest}` : undefined;
   return { name: "closing", rest: "delay", value, unit, note, isLate: delay > LATE, measure: delay, full: LATE };
 }
 
