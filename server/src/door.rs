@@ -29,7 +29,7 @@ pub const TURN: Duration = Duration::from_millis(5);
 /// Who took longer rests for this part of what it took too much.
 const REST: u32 = 2;
 /// Shorter rests aren't worth a timer.
-const SHORTEST_REST: Duration = Duration::from_millis(1);
+pub const SHORTEST_REST: Duration = Duration::from_millis(1);
 
 /// Whether work has come to its end in its turn.
 #[derive(Clone, Copy, Debug, PartialEq, Eq)]

@@ -338,7 +338,8 @@ impl Ledger {
         }
     }
 
-    fn told(&mut self, number: u64, count: u64, floor: u64) {
+    /// A feed has told so many messages, and needs nothing below its floor, where that has moved.
+    pub fn told(&mut self, number: u64, count: u64, floor: u64) {
         self.catch_up(number);
         let Some(feed) = self.feeds.get_mut(&number) else { return };
         feed.told += count;

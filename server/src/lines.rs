@@ -284,6 +284,7 @@ fn prepared(core: &Core, session: &mut Session, line: &[u8], is_spoiled: bool) -
         (b"put", Some(_)) if !core.is_full() => Ok(dot(session, command, line)),
         (b"put", Some(_)) => Err(Fault::Full),
         (b"scan" | b"scanat", Some(rest)) if passes_over_many(core, session, rest) => Err(Fault::AnswerTooLong),
+        (b"openinitial" | b"openinitialevery", Some(rest)) if begins_with_many(core, rest) => Err(Fault::AnswerTooLong),
         (b"get" | b"scan" | b"del" | b"commit" | b"abort", Some(_)) => Ok(dot(session, command, line)),
         (b"open" | b"openinitial" | b"openevery" | b"openinitialevery" | b"protect", Some(_)) if !core.may_hold() => {
             Err(Fault::Full)
@@ -410,10 +411,19 @@ fn has_room(core: &Core, session: &Session, kind: Kind) -> Prepared {
 /// Whether a scan would pass over too many keys of which it tells nothing, whatever it tells: that can't be cut into turns.
 fn passes_over_many(core: &Core, session: &Session, rest: &[u8]) -> bool {
     let words: Vec<&[u8]> = rest.split(|&byte| byte == b' ').collect();
-    let key = |at: usize| unspell(std::str::from_utf8(words.get(at)?).ok()?);
-    let at = number_in(words[0]).or(session.last);
+    is_far(core, number_in(words[0]).or(session.last), &words[1..])
+}
+
+/// The same of the snapshot that a feed begins with.
+fn begins_with_many(core: &Core, rest: &[u8]) -> bool {
+    let words: Vec<&[u8]> = rest.split(|&byte| byte == b' ').collect();
+    is_far(core, words.get(2).and_then(|word| number_in(word)), &words)
+}
+
+fn is_far(core: &Core, at: Option<u64>, bounds: &[&[u8]]) -> bool {
+    let key = |at: usize| unspell(std::str::from_utf8(bounds.get(at)?).ok()?);
     // What isn't right is the database's to refuse.
-    let (Some(at), Some(lo), Some(hi)) = (at, key(1), key(2)) else { return false };
+    let (Some(at), Some(lo), Some(hi)) = (at, key(0), key(1)) else { return false };
     let hi = Some(hi.as_slice()).filter(|hi| !hi.is_empty());
     let is_far = core.cuts.passed(&lo, hi, at).nth(cuts::MOST).is_some();
     is_far

@@ -73,6 +73,7 @@ mod routes;
 mod seats;
 mod serving;
 mod session;
+mod snapshot;
 mod socket;
 mod stream;
 mod streams;

@@ -17,7 +17,9 @@
 //!    message, once.
 //! 2. The feed lives as long as the stream, and no longer.
 //! 3. One piece waits for a reader, of at most `ENOUGH` bytes and one poll more.
+//! 4. Behind a poll of far more than a turn, while others waited, no stream polls for a part of that time.
 
+use crate::api::pages::Unread;
 use crate::before::with_before;
 use crate::connections::Connection;
 use crate::core::Core;
@@ -28,6 +30,7 @@ use crate::json::Object;
 use crate::ledger::Ended;
 use crate::outcome::Outcome;
 use crate::pace;
+use crate::snapshot::Snapshot;
 use crate::streams::Place;
 use bytes::Bytes;
 use ripsawbean::Refusal as Refused;
@@ -49,6 +52,8 @@ const ENOUGH: usize = 1 << 15;
 pub struct Stream {
     place: Place,
     feed: u64,
+    /// What is to be told before the feed's messages.
+    snapshot: Option<Snapshot>,
     before: Option<Before>,
     form: Form,
     sender: Sender,
@@ -88,6 +93,8 @@ struct Told {
 enum Next {
     /// There may be more to poll.
     Poll,
+    /// The snapshot is told, and the feed comes next.
+    Feed,
     /// There was no memory for more.
     Pause,
     /// All is told until closed moves.
@@ -102,6 +109,7 @@ impl Stream {
             moved: place.server().door.moved(),
             place,
             feed,
+            snapshot: None,
             before: None,
             form,
             sender,
@@ -115,6 +123,11 @@ impl Stream {
     /// Tells each row with the value before.
     pub fn with(self, before: Option<Before>) -> Stream {
         Stream { before, ..self }
+    }
+
+    /// Tells this before the feed's messages.
+    pub fn behind(self, snapshot: Option<Snapshot>) -> Stream {
+        Stream { snapshot, ..self }
     }
 
     /// Follows the feed to its end. The last message waits for its reader, but not for ever.
@@ -144,6 +157,9 @@ impl Stream {
 
     async fn step(&mut self) -> Result<(), Stop> {
         self.room().await?;
+        while self.place.server().streams.rests() > Duration::ZERO {
+            sleep(self.place.server().streams.rests()).await;
+        }
         let told = self.look()?;
         if !told.text.is_empty() {
             let piece = self.form.messages(told.text.into());
@@ -153,7 +169,7 @@ impl Stream {
         }
         match told.next {
             // Others get a turn while it catches up.
-            Next::Poll => tokio::task::yield_now().await,
+            Next::Poll | Next::Feed => tokio::task::yield_now().await,
             Next::Pause => sleep(LOOK).await,
             Next::Cut => return Err(Stop::Gone),
             Next::Wait if self.written.elapsed() > IDLE => self.send(self.form.idle()).await?,
@@ -188,7 +204,7 @@ impl Stream {
     /// The next messages.
     fn look(&mut self) -> Result<Told, Stop> {
         self.moved.borrow_and_update();
-        let (told, closed) = self.place.server().door.run(|core| {
+        let (looked, rest) = self.place.server().door.turn_and_rest(|core, _| {
             if let Some(ended) = core.ledger.take_end(self.feed) {
                 return Err(Stop::Ended(ended));
             }
@@ -200,10 +216,19 @@ impl Stream {
                 return Ok((Told::nothing(), closed));
             }
             core.journal.begin();
-            let told = polled(core, self.feed, self.before);
-            Ok((Told { rests: core.journal.needed(), ..told }, closed))
-        })?;
+            let told = match &mut self.snapshot {
+                Some(snapshot) => paged(core, self.feed, snapshot, self.before),
+                None => {
+                    let told = polled(core, self.feed, self.before);
+                    Told { rests: core.journal.needed(), ..told }
+                }
+            };
+            Ok((told, closed))
+        });
+        self.place.server().streams.rest(rest);
+        let (told, closed) = looked?;
         self.waits = false;
+        self.snapshot.take_if(|_| matches!(told.next, Next::Feed));
         self.seen = matches!(told.next, Next::Wait).then_some(closed);
         Ok(told)
     }
@@ -254,6 +279,26 @@ fn polled(core: &mut Core, feed: u64, before: Option<Before>) -> Told {
             return Told { next: Next::Poll, ..told };
         }
     }
+}
+
+/// The next page of what comes before the feed's messages.
+fn paged(core: &mut Core, feed: u64, snapshot: &mut Snapshot, before: Option<Before>) -> Told {
+    let mut told = Told::nothing();
+    let page = match snapshot.tell(core, pace::PLAIN, &mut told.text) {
+        Ok(page) => page,
+        Err(Unread::NoMemory) => return Told { next: Next::Pause, ..told },
+        // The feed holds it.
+        Err(Unread::BelowHorizon(_)) => return Told { next: Next::Cut, ..told },
+    };
+    core.ledger.told(feed, page.count, 0);
+    if let Some(Before { initial }) = before {
+        match with_before(core, &told.text, initial) {
+            Ok(text) => told.text = text,
+            Err(_) => return Told { next: Next::Cut, ..told },
+        }
+    }
+    let next = if page.is_last { Next::Feed } else { Next::Poll };
+    Told { count: page.count, next, rests: core.journal.all(), ..told }
 }
 
 #[cfg(test)]
@@ -323,7 +368,7 @@ pub mod tests {
             match told.next {
                 Next::Cut => return false,
                 Next::Wait => break,
-                Next::Poll => {}
+                Next::Poll | Next::Feed => {}
                 Next::Pause => is_at_once = false,
             }
         }

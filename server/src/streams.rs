@@ -12,6 +12,7 @@
 //! 2. `open` counts the streams from their feed's opening to their end.
 
 use crate::core::Core;
+use crate::door::SHORTEST_REST;
 use crate::form::Form;
 use crate::gate::Right;
 use crate::http::{Request, Response};
@@ -23,17 +24,21 @@ use crate::query::{arguments, flag_in, Arguments};
 use crate::refusal::Refusal;
 use crate::routes::Server;
 use crate::seats::Owner;
+use crate::snapshot::Snapshot;
 use crate::stream::{Before, Stream};
 use ripsawbean::{CallError, Command, Refusal as Refused, Span};
 use std::sync::atomic::{AtomicU64, AtomicUsize, Ordering::Relaxed};
 use std::sync::Arc;
+use std::time::{Duration, Instant};
 
 /// What all streams have in common, as `metrics` tells it.
-#[derive(Default)]
 pub struct Streams {
     open: AtomicUsize,
     messages: AtomicU64,
     bytes: AtomicU64,
+    began: Instant,
+    /// Microseconds from the beginning to when they may look again.
+    rest: AtomicU64,
 }
 
 /// A stream's place among --max-feeds.
@@ -47,7 +52,31 @@ struct Opened {
     generation: Option<u64>,
 }
 
+impl Default for Streams {
+    fn default() -> Streams {
+        let [messages, bytes, rest] = Default::default();
+        Streams { open: AtomicUsize::new(0), messages, bytes, began: Instant::now(), rest }
+    }
+}
+
 impl Streams {
+    /// One of them has held others up for too long, so none looks for a while: whoever follows one such feed after another
+    /// would let in one call between two.
+    pub fn rest(&self, time: Duration) {
+        if time >= SHORTEST_REST {
+            let until = self.began.elapsed() + time;
+            self.rest.fetch_max(until.as_micros() as u64, Relaxed);
+        }
+    }
+
+    /// How long they rest yet.
+    pub fn rests(&self) -> Duration {
+        match self.rest.load(Relaxed) {
+            0 => Duration::ZERO,
+            rest => Duration::from_micros(rest).saturating_sub(self.began.elapsed()),
+        }
+    }
+
     /// Streams that are open.
     pub fn open(&self) -> u64 {
         self.open.load(Relaxed) as u64
@@ -110,12 +139,13 @@ pub async fn feed(server: &Arc<Server>, request: Request) -> Result<Response, Re
     if name.is_some() && !request.who.may(Right::Write) {
         return Err(Refusal::no_right(Right::Write));
     }
-    let (place, opened) = server.door.run(|core| open(server, core, &given, name.as_ref()))?;
+    let (place, opened, snapshot) = server.door.run(|core| open(server, core, &given, name.as_ref()))?;
     let form = Form::asked(&request.list("accept"), &opened.identity);
     let (response, sender) = Response::stream(form.content_type());
     let opening = form.opening(&opened.text());
     let before = is_before.then(|| Before { initial: (!given.has("from")).then_some(opened.from) });
-    let stream = Stream::new(place, opened.feed, form, sender, request.connection.clone()).with(before);
+    let stream = Stream::new(place, opened.feed, form, sender, request.connection.clone());
+    let stream = stream.with(before).behind(snapshot);
     request.connection.exempt();
     server.spawn(stream.run(opening));
     let response = response
@@ -154,17 +184,18 @@ fn open(
     core: &mut Core,
     given: &Arguments,
     name: Option<&Name>,
-) -> Result<(Place, Opened), Refusal> {
+) -> Result<(Place, Opened, Option<Snapshot>), Refusal> {
     name.map_or(Ok(()), |name| core.names.check_room(name))?;
     core.check_identity(given, given.has("from"))?;
     if given.number("from") > Some(core.ledger.closed) {
         return Err(not_closed(core.ledger.closed));
     }
     let place = Place::take(server)?;
-    let feed = open_feed(core, given)?;
+    let snapshot = if given.has("from") { None } else { Snapshot::in_pages(core, span_of(given)) };
+    let feed = open_feed(core, given, snapshot.is_some())?;
     let generation = name.map(|name| core.follow(name, feed)).transpose().inspect_err(|_| core.end_stream(feed))?;
     let from = core.ledger.feeds.get(&feed).map_or(core.ledger.closed, |feed| feed.floor);
-    Ok((place, Opened { identity: core.identity.clone(), from, feed, generation }))
+    Ok((place, Opened { identity: core.identity.clone(), from, feed, generation }, snapshot))
 }
 
 /// The span that is asked for. No bound and one of no bytes are the same.
@@ -172,11 +203,12 @@ fn span_of(given: &Arguments) -> Span<'_> {
     Span { lo: given.bytes("lo").unwrap_or_default(), hi: given.bytes("hi").filter(|hi| !hi.is_empty()) }
 }
 
-/// The number of a new feed of the server's own.
-fn open_feed(core: &mut Core, given: &Arguments) -> Result<u64, Refusal> {
+/// The number of a new feed of the server's own. What it would begin with may be told by others.
+fn open_feed(core: &mut Core, given: &Arguments, is_begun: bool) -> Result<u64, Refusal> {
     let span = span_of(given);
     let closed = core.ledger.closed;
-    let command = match (given.number("from"), given.number("gap")) {
+    let from = given.number("from").or(is_begun.then_some(closed));
+    let command = match (from, given.number("gap")) {
         (Some(cursor), None) => Command::Open { span, cursor },
         (Some(cursor), Some(gap)) => Command::OpenEvery { span, cursor, gap },
         (None, None) => Command::OpenInitial { span, cursor: closed },
@@ -227,7 +259,7 @@ mod tests {
         let server = crate::testing::server(&[]);
         let connection = server.connections.come(([127, 0, 0, 1], 1).into()).expect("a place");
         let place = Place::take(&server).expect("a place");
-        let feed = server.door.run(|core| open_feed(core, &Arguments::default())).expect("a feed");
+        let feed = server.door.run(|core| open_feed(core, &Arguments::default(), false)).expect("a feed");
         let (_response, sender) = Response::stream("application/x-ndjson");
         let stream = Stream::new(place, feed, Form::JsonLines, sender, connection.clone());
         connection.exempt();
@@ -238,6 +270,16 @@ mod tests {
         running.await.expect("it ends");
         assert!(connection.is_cut());
         assert_eq!((server.streams.open(), server.connections.open()), (0, 0));
+    }
+
+    #[test]
+    fn they_rest_for_the_longest_of_what_was_asked() {
+        let streams = Streams::default();
+        streams.rest(SHORTEST_REST / 2);
+        assert_eq!(streams.rests(), Duration::ZERO);
+        streams.rest(Duration::from_secs(60));
+        streams.rest(SHORTEST_REST);
+        assert!((50..=60).contains(&streams.rests().as_secs()));
     }
 
     #[test]

@@ -43,15 +43,16 @@ pub enum Unread {
 impl Core {
     /// The first rows of a span at a closed timestamp, `most` at most.
     pub fn page(&mut self, span: Span<'_>, at: u64, most: usize) -> Result<Page, Unread> {
-        self.page_until(span, at, most, Instant::now() + TURN)
+        self.page_until(span, at, Room { rows: most as u64, bytes: MOST_BYTES }, Instant::now() + TURN)
     }
 
-    fn page_until(&mut self, span: Span<'_>, at: u64, most: usize, until: Instant) -> Result<Page, Unread> {
+    /// The same of those that find room, as far as it comes until then.
+    pub fn page_until(&mut self, span: Span<'_>, at: u64, mut room: Room, until: Instant) -> Result<Page, Unread> {
         let mut page = Page::default();
         if at == 0 || span.hi.is_some_and(|hi| span.lo >= hi) {
             return Ok(page);
         }
-        let (mut lo, mut room) = (span.lo.to_vec(), Room { rows: most as u64, bytes: MOST_BYTES });
+        let mut lo = span.lo.to_vec();
         for parts in 1.. {
             let cut = self.cuts.first(&lo, span.hi).map(<[u8]>::to_vec);
             let found = self.part(Span { lo: &lo, hi: cut.as_deref().or(span.hi) }, at, room)?;
@@ -172,8 +173,9 @@ mod tests {
     /// The rows of all pages of a span, each ending as early as it may, and how many pages there were.
     fn walked(core: &mut Core, (lo, hi): (&[u8], Option<&[u8]>), at: u64, most: usize) -> (Rows, usize) {
         let (mut lo, mut rows) = (lo.to_vec(), Vec::new());
+        let room = Room { rows: most as u64, bytes: MOST_BYTES };
         for pages in 1.. {
-            let page = core.page_until(Span { lo: &lo, hi }, at, most, Instant::now()).expect("a page");
+            let page = core.page_until(Span { lo: &lo, hi }, at, room, Instant::now()).expect("a page");
             assert!(page.rows.len() <= most && page.next.as_ref().is_none_or(|next| *next > lo));
             rows.extend(page.rows);
             match page.next {

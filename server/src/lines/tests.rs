@@ -190,6 +190,10 @@ fn a_scan_that_would_pass_over_many_keys_makes_no_call() {
             let wanted = if is_made { "rows 0" } else { " 25 answertoolong" };
             assert!(told[1].ends_with(wanted), "{scan} {span}: {told:?}");
         }
+        let wanted = if is_made { "opened" } else { "fault" };
+        for open in [format!("openinitial {span} 2"), format!("openinitialevery {span} 2 3")] {
+            assert!(answers(&mut core, &mut one, &format!("{open}\n"))[0].starts_with(wanted), "{open}");
+        }
     }
     assert!(answers(&mut core, &mut one, "scanat 2 %2\n")[0].ends_with(" 1 wordcount"));
     tidy(&mut core);
