@@ -134,7 +134,14 @@ impl Socket {
         loop {
             let patience = if is_asked { heartbeat / 2 } else { heartbeat };
             match self.woken(patience).await {
-                Woken::Read => return self.decode(),
+                Woken::Read => {
+                    self.decode()?;
+                    // Whose bytes become no message for long lets others in behind each piece.
+                    if self.waiting.is_empty() {
+                        tokio::task::yield_now().await;
+                    }
+                    return Ok(());
+                }
                 Woken::End(end) => return Err(end),
                 Woken::Silence if is_asked => return Err(End::HEARTBEAT),
                 Woken::Silence => {
