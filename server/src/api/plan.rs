@@ -115,6 +115,9 @@ impl<'a> Plan<'a> {
         if steps().any(Step::writes) && !who.may(Right::Write) {
             return Err(Refusal::no_right(Right::Write));
         }
+        if (!self.conditions.is_empty() || !steps().all(Step::writes)) && !who.may(Right::Read) {
+            return Err(Refusal::no_right(Right::Read));
+        }
         let keys = who.keys();
         let is_allowed = keys.is_all()
             || self.conditions.iter().all(|one| one.is_within(keys)) && steps().all(|one| one.is_within(keys));
@@ -417,6 +420,15 @@ mod tests {
         ] {
             let plan = of(body);
             assert_eq!((plan.check(&reader).is_ok(), plan.check(&few).is_ok()), (by_reader, by_few), "{body}");
+        }
+        let sensor = Who::of("sensor", &[Right::Write]);
+        for (body, may) in [
+            (r#"{"then":[{"put":"c","value":""},{"del":"d"}]}"#, true),
+            (r#"{"then":[{"put":"c","value":""},{"get":"d"}]}"#, false),
+            (r#"{"then":[{"scan":["b","c"]}]}"#, false),
+            (r#"{"if":[{"key":"c","absent":true}],"then":[{"put":"c","value":""}]}"#, false),
+        ] {
+            assert_eq!(of(body).check(&sensor).is_ok(), may, "{body}");
         }
         assert_eq!(of(r#"{"then":[{"del":"c"}]}"#).check(&reader).unwrap_err().error, "right");
         assert_eq!(of(r#"{"then":[{"get":"a"}]}"#).check(&few).unwrap_err().error, "keys");
