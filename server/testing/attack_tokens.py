@@ -122,7 +122,7 @@ def test_bounds_that_a_token_is_not_for(room: Room, scale: Scale) -> str:
 
 
 def test_a_token_that_only_writes(room: Room, scale: Scale) -> str:
-    """It puts and deletes within its span, by a call and by a session, and is told nothing that stands there."""
+    """It puts and deletes within its span, and is told nothing that stands there, nor whether a condition holds."""
     with with_tokens(room) as (server, _):
         server.ask("POST", "/call", b"begin\nput . b/1 secret\ncommit .\n")
         told = server.ask("POST", "/call", b"begin\nput . b/2 x\ndel . b/3\ncommit .\n", shown(SENSOR))[1]
@@ -134,11 +134,23 @@ def test_a_token_that_only_writes(room: Room, scale: Scale) -> str:
                      "protect 0", "stats", "closehard 9", "collect 0", "put . a x", "put . c x"):
             told = session.call(line + "\n")
             assert re.fullmatch(r"fault \d+ 69 noright [^\n]+\n", told), (line, told)
-        for path in ("/feed?lo=b&hi=c", "/holders", "/state", "/metrics", "/transcript", "/consumer", "/"):
+        for path in ("/feed?lo=b&hi=c", "/holders", "/state", "/metrics", "/transcript", "/consumer", "/",
+                     "/key/b%2F1", "/rows?lo=b&hi=c"):
             assert status_of(server, path, SENSOR) == 403, path
+        put = {"put": "b/4", "value": "x"}
+        for plan, status in (({"then": [put]}, 200), ({"then": [put, {"get": "b/1"}]}, 403),
+                             ({"then": [{"scan": ["b", "c"]}]}, 403),
+                             ({"if": [{"key": "b/1", "value": "y"}], "then": [put]}, 403),
+                             ({"if": [{"key": "b/1", "absent": True}], "then": [put]}, 403)):
+            told = server.ask("POST", "/transact", json.dumps(plan).encode(), shown(SENSOR))
+            assert told[0] == status and "secret" not in told[1], (plan, told)
+        assert server.ask("PUT", "/key/b%2F4", b"x", shown(SENSOR))[0] == 200
+        for method, headers in (("PUT", {"If-Match": '"1"'}), ("PUT", {"If-None-Match": "*"}), ("DELETE", {})):
+            told = server.ask(method, "/key/b%2F1", b"x", {**shown(SENSOR), **headers})
+            assert told[0] == 403, (method, headers, told)
         rows = server.ask("POST", "/call", b"begin\nscan . - -\n")[1]
         assert re.findall(r"row (\S+)", rows) == ["b/1", "b/2", "b/4"], rows
-    return "by a call and by a session"
+    return "by calls, a session, transactions and keys"
 
 
 def test_tokens_read_anew(room: Room, scale: Scale) -> str:

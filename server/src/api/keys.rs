@@ -11,7 +11,8 @@
 //! ```
 //!
 //! 1. The path is taken as it was sent: `/` and `%2F` are one byte of the key.
-//! 2. A write is a plan with its conditions, as `POST /transact` takes it.
+//! 2. A write is a plan with its conditions, as `POST /transact` takes it. Its answer tells whether they hold, so who has
+//!    any wants the right to read. A DELETE has the condition that the key is there.
 
 use super::bytes::{MOST_KEY, MOST_VALUE};
 use super::plan::{Condition, Plan, Step, Test};
@@ -177,6 +178,7 @@ async fn write(server: &Arc<Server>, mut request: Request, kind: Kind) -> Result
     }
     let conditions = conditions.into_iter().map(|test| Condition::Key { key: borrowed(), test }).collect();
     let plan = Plan { conditions, then: vec![step], otherwise: None };
+    plan.check(&request.who)?;
     let form_of = |_: &Committed<'_>| match kind {
         Kind::Put => Form::Put,
         Kind::Delete => Form::Deleted,
