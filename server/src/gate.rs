@@ -21,6 +21,7 @@ use crate::tokens::{Fault, Tokens};
 use ripsawbean::unspell;
 use std::net::IpAddr;
 
+use std::sync::Arc;
 const LOOPBACK_NAMES: [&str; 3] = ["127.0.0.1", "localhost", "[::1]"];
 // Where the port is this one, browsers leave it out.
 const HTTP_PORT: u16 = 80;
@@ -88,7 +89,7 @@ impl Keys {
 /// Who asks, by the token that was shown.
 #[derive(Clone, Debug)]
 pub struct Who {
-    name: String,
+    name: Arc<str>,
     rights: Vec<Right>,
     keys: Keys,
 }
@@ -112,6 +113,11 @@ impl Who {
     }
 
     pub fn may(&self, right: Right) -> bool {
+    /// The name, for whoever keeps it.
+    pub fn shared_name(&self) -> Arc<str> {
+        self.name.clone()
+    }
+
         match right {
             Right::Any => !self.rights.is_empty(),
             _ => self.rights.contains(&right),

@@ -9,11 +9,13 @@
 //!
 //! 1. The text is one line, whatever stands in a member: JSON escapes each newline.
 //! 2. Numbers of the database are strings of digits, because JavaScript can't hold all of them as numbers.
-//! 3. A status that owes a header has it: 401 names the ways to show a token, 405 the methods, 426 the version.
+//! 3. A status that owes a header has it: 401 names the ways to show a token, 405 the methods, 426 the version. 503 says
+//!    when to ask again, where that is known.
 
 use crate::gate::Right;
 use serde_json::Value;
 use std::fmt::{self, Display, Write};
+use std::time::Duration;
 
 const CHALLENGE: &str = "Basic realm=\"ripsawbean\", charset=\"UTF-8\"";
 
@@ -68,7 +70,13 @@ impl Refusal {
 impl Refusal {
     /// It may be asked for again in a second.
     pub fn busy(error: &'static str, why: impl Into<String>) -> Refusal {
-        Refusal::new(503, error, why).with_header("Retry-After", "1")
+        Refusal::busy_for(error, why, Duration::from_secs(1))
+    }
+
+    /// It may be asked for again once this has passed, told in whole seconds, and a second at least.
+    pub fn busy_for(error: &'static str, why: impl Into<String>, time: Duration) -> Refusal {
+        let seconds = time.as_secs() + u64::from(time.subsec_nanos() > 0);
+        Refusal::new(503, error, why).with_header("Retry-After", seconds.max(1).to_string())
     }
 
     pub fn unauthorized() -> Refusal {

@@ -216,4 +216,33 @@ def test_a_seat_is_kept_for_the_operator(room: Room, scale: Scale) -> str:
     return "63 and one"
 
 
+def first_page(server: Server, token: str, hold: str) -> tuple[int, dict[str, str], dict[str, str]]:
+    """Writes, and asks for a page behind which more follow: its status, headers and body."""
+    assert server.ask("PUT", "/key/b%2F3", b"x", shown(token))[0] == 200
+    with contextlib.closing(Wire(server.port)) as wire:
+        wire.ask("GET", "/rows?lo=b&hi=c&limit=1" + hold, bearer(token))
+        status, headers = wire.head()
+        return status, headers, json.loads(wire.exactly(int(headers["content-length"])))
+
+
+def test_a_client_that_holds_many_snapshots(room: Room, scale: Scale) -> str:
+    """Who writes and asks for first pages in turn holds half of them: to others they are told meanwhile."""
+    with with_tokens(room) as (server, _):
+        server.ask("POST", "/call", b"begin\nput . b/1 x\nput . b/2 x\ncommit .\n")
+        statuses = [first_page(server, WRITE, "&hold=300")[0] for _ in range(140)]
+        assert statuses == [200] * 128 + [503] * 12, statuses
+        assert [first_page(server, WRITE, "&hold=0")[0] for _ in range(20)] == [200] * 20
+        statuses = [first_page(server, PART, "&hold=300")[0] for _ in range(127)]
+        assert statuses == [200] * 127, statuses
+        assert first_page(server, PART, "&hold=5")[0] == 200
+        for token, of, least, most in ((WRITE, "client", 200, 300), (PART, "client", 1, 5), (OPERATE, "all", 1, 5)):
+            status, headers, told = first_page(server, token, "")
+            assert (status, told["error"], told["of"]) == (503, "holds", of), (token, told)
+            assert least <= int(headers["retry-after"]) <= most, (token, headers)
+        time.sleep(int(headers["retry-after"]))
+        assert [first_page(server, token, "")[0] for token in (OPERATE, PART)] == [200, 503]
+        assert len(server.holders("protection")) == 256
+    return "128 and 128"
+
+
 TESTS: list[Callable[[Room, Scale], str]] = [one for name, one in list(globals().items()) if name.startswith("test_")]

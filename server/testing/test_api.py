@@ -11,6 +11,8 @@ import sys
 import unittest
 
 sys.path[:0] = [os.path.dirname(os.path.abspath(__file__))]
+import aiohttp  # noqa: E402
+
 from test_served import refusal, served, told  # noqa: E402
 
 
@@ -33,6 +35,12 @@ async def undecided(client, lines):
         await socket.send_str(lines)
         await socket.receive()
         yield socket
+
+
+def at_address(client, address):
+    """Another client of the same server."""
+    base, connector = "http://127.0.0.1:%d" % client.port, aiohttp.TCPConnector(local_addr=(address, 0))
+    return aiohttp.ClientSession(base, connector=connector)
 
 
 class Transactions(unittest.IsolatedAsyncioTestCase):
@@ -274,12 +282,49 @@ class Rows(unittest.IsolatedAsyncioTestCase):
             self.fail("it is held for ever")
 
     async def test_snapshots_that_are_held_are_bounded(self):
-        async with served() as client:
+        """One address holds half of them, and all together the whole. Who holds nothing is told all the same."""
+        async with served("--history", "600") as client, at_address(client, "127.0.0.2") as second, \
+                at_address(client, "127.0.0.3") as third:
+            await client.put("/key/b", data="1")
             for at in range(257):
                 await client.put("/key/a", data="%d" % at)
-            statuses = [(await client.get("/key/a?hold=300&at=%d" % at)).status for at in range(1, 257)]
-            self.assertEqual(statuses, [200] * 256)
-            self.assertEqual(await refusal(await client.get("/key/a?hold=300&at=257")), (503, "holds"))
+
+            async def hold(who, first, last):
+                return {(await who.get("/key/a?hold=300&at=%d" % at)).status for at in range(first, last + 1)}
+
+            async def refused_to(who, path):
+                reply = await who.get(path)
+                self.assertEqual(await refusal(reply), (503, "holds"))
+                self.assertTrue(100 < int(reply.headers["Retry-After"]) <= 300, reply.headers)
+                return json.loads(await reply.text())["of"]
+
+            self.assertEqual(await hold(client, 2, 129), {200})
+            for path in ("/key/a?hold=300&at=130", "/rows?limit=1", "/rows?hold=1"):
+                self.assertEqual(await refused_to(client, path), "client", path)
+            self.assertEqual(await hold(client, 2, 3), {200})
+            self.assertEqual((await client.get("/rows")).status, 200)
+            self.assertEqual(await hold(second, 2, 2) | await hold(second, 130, 256), {200})
+            self.assertEqual(await refused_to(second, "/key/a?hold=1&at=257"), "client")
+            self.assertEqual(await hold(third, 257, 257), {200})
+            self.assertEqual(await refused_to(third, "/key/a?hold=300&at=258"), "all")
+            self.assertEqual(await hold(third, 2, 129), {200, 503})
+
+    async def test_a_page_that_holds_nothing(self):
+        """It is told, and so is the next one, as long as the snapshot is there."""
+        async with served("--history", "0") as client:
+            await transact(client, put(("a", "1"), ("b", "1"), ("c", "1")))
+            page = json.loads(await (await client.get("/rows?limit=1&hold=0")).text())
+            self.assertEqual(page["next"], "/rows?lo=b&at=1&limit=1&hold=0")
+            self.assertEqual((await client.get("/key/a?hold=0")).status, 200)
+            self.assertNotIn('"protection"', await (await client.get("/holders")).text())
+            self.assertEqual((await client.get(page["next"])).status, 200)
+            await client.put("/key/a", data="2")
+            for _ in range(100):
+                reply = await client.get(page["next"])
+                if reply.status != 200:
+                    break
+                await asyncio.sleep(0.1)
+            self.assertEqual(await refusal(reply), (410, "belowhorizon"))
 
     async def test_a_hold_without_a_timestamp_is_of_what_was_read(self):
         async with served("--history", "0") as client, undecided(client, "begin\nput . other 1\n") as socket:

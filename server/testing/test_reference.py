@@ -15,7 +15,7 @@ from test_served import served  # noqa: E402
 
 PAGE = os.path.join(TOP, "server", "API.md")
 BLOCK = re.compile(r"^```\n(.*?)^```$", re.M | re.S)
-REFUSAL = re.compile(r"Refusal::(?:new\(\s*(\d+)|(busy)\()\s*,?\s*\"(\w+)\"")
+REFUSAL = re.compile(r"Refusal::(?:new\(\s*(\d+)|(busy(?:_for)?)\()\s*,?\s*\"(\w+)\"")
 
 
 def listed():

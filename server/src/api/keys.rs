@@ -15,8 +15,9 @@
 //!    any wants the right to read. A DELETE has the condition that the key is there.
 
 use super::bytes::{MOST_KEY, MOST_VALUE};
+use super::holds::Wanted;
 use super::plan::{Condition, Plan, Step, Test};
-use super::rows::{at_snapshot, hold_in};
+use super::rows::at_snapshot;
 use super::run::{Committed, End, Failed, Row, Stop, Told};
 use super::transact::{answer_once, run_until, tell_members};
 use super::{body_of, spelling_in, wait_in};
@@ -31,7 +32,7 @@ use crate::seats::Owner;
 use ripsawbean::{Command, Refusal as Refused};
 use std::borrow::Cow;
 use std::sync::Arc;
-use std::time::{Duration, Instant};
+use std::time::Instant;
 
 /// What was read, and as of when.
 struct Read {
@@ -45,9 +46,9 @@ pub async fn get(server: &Arc<Server>, request: Request) -> Result<Response, Ref
     let given = arguments(&request.path, &request.query, &["at", "hold", "wait", "bytes"])?;
     let (key, spelling) = (key_in(&request)?, spelling_in(&given)?);
     let tags = Tags::of(&request, "if-none-match")?;
-    let (start, hold) = (Instant::now(), hold_in(&given)?);
+    let (start, hold) = (Instant::now(), Wanted::of(&request, &given)?);
     let Read { timestamp, value, version } =
-        read(server, &key, given.number("at"), hold, start + wait_in(&given)?).await?;
+        read(server, &key, given.number("at"), &hold, start + wait_in(&given)?).await?;
     server.metrics.transactions.note(start.elapsed());
     let Some(value) = value else { return Err(no_value(timestamp)) };
     let tag = version.map_or_else(String::new, |version| format!("\"{version}\""));
@@ -96,16 +97,10 @@ fn key_in(request: &Request) -> Result<Vec<u8>, Refusal> {
 
 // ---- reading
 
-async fn read(
-    server: &Server,
-    key: &[u8],
-    at: Option<u64>,
-    hold: Option<Duration>,
-    until: Instant,
-) -> Result<Read, Refusal> {
+async fn read(server: &Server, key: &[u8], at: Option<u64>, hold: &Wanted, until: Instant) -> Result<Read, Refusal> {
     let held = |core: &mut Core, at| {
         let read = read_at(core, key, at)?;
-        hold.map_or(Ok(()), |time| core.hold_snapshot(at, time))?;
+        core.hold_wanted(at, hold, None)?;
         Ok(read)
     };
     if at.is_some() {
@@ -117,7 +112,7 @@ async fn read(
         Some(read) => Ok(read),
         None => {
             let read = read_by_transaction(server, key, until).await?;
-            if hold.is_some() {
+            if hold.time(None).is_some() {
                 // A snapshot can be held once it is closed.
                 at_snapshot(server, Some(read.timestamp), until, held).await?;
             }

@@ -6,13 +6,14 @@
 //! ```
 //!
 //! 1. All pages of a walk show one snapshot, or are refused. While there are more, it is held for `hold` seconds, and
-//!    each page holds it anew.
+//!    each page holds it anew. Where `hold` is 0, nothing is held.
 //! 2. A page that isn't the last one has a row at least.
 
+use super::holds::Wanted;
 use super::plan::{Bounds, MOST_ROWS, ROWS};
 use super::run::{Row, Stop};
 use super::transact::tell_rows;
-use super::{bytes::MOST_BOUND, seconds_in, spelling_in, wait_in};
+use super::{bytes::MOST_BOUND, spelling_in, wait_in};
 use crate::budget::Held;
 use crate::core::Core;
 use crate::http::{Request, Response};
@@ -23,9 +24,8 @@ use std::borrow::Cow;
 use std::sync::Arc;
 use std::time::{Duration, Instant};
 
-/// Seconds for which a snapshot is held where nothing is said, and at most.
+/// For how long a page holds its snapshot where more follow and nothing is said.
 const HOLD: Duration = Duration::from_secs(30);
-const MOST_HOLD: f64 = 300.0;
 
 /// A page as it is told.
 struct Shown {
@@ -36,7 +36,7 @@ struct Shown {
 
 pub async fn rows(server: &Arc<Server>, request: Request) -> Result<Response, Refusal> {
     let given = arguments(&request.path, &request.query, &["lo", "hi", "at", "limit", "hold", "wait", "bytes"])?;
-    let (wait, hold, spelling) = (wait_in(&given)?, hold_in(&given)?, spelling_in(&given)?);
+    let (wait, hold, spelling) = (wait_in(&given)?, Wanted::of(&request, &given)?, spelling_in(&given)?);
     let (limit, span) = (limit_in(&given)?, span_in(&given)?);
     if !span.is_within(request.who.keys()) {
         return Err(Refusal::other_keys());
@@ -45,7 +45,7 @@ pub async fn rows(server: &Arc<Server>, request: Request) -> Result<Response, Re
     let start = Instant::now();
     let until = start + wait;
     let Shown { timestamp, rows, next } =
-        in_turns(server, span, given.number("at"), until, limit, hold, &place.unread).await?;
+        in_turns(server, span, given.number("at"), until, limit, &hold, &place.unread).await?;
     let next = next.map(|lo| path_of(&given, &lo, timestamp));
     let mut out = format!("{{\"timestamp\":\"{timestamp}\",\"rows\":").into_bytes();
     tell_rows(&mut out, &rows, spelling);
@@ -73,7 +73,7 @@ async fn in_turns(
     mut at: Option<u64>,
     until: Instant,
     limit: usize,
-    hold: Option<Duration>,
+    hold: &Wanted,
     unread: &Held,
 ) -> Result<Shown, Refusal> {
     loop {
@@ -119,24 +119,11 @@ pub async fn at_snapshot<R>(
     }
 }
 
-/// For how long a snapshot is to be held, where that is asked.
-pub fn hold_in(given: &Arguments) -> Result<Option<Duration>, Refusal> {
-    seconds_in(given, "hold", MOST_HOLD)
-}
-
-fn page(
-    core: &mut Core,
-    span: &Bounds<'_>,
-    timestamp: u64,
-    limit: usize,
-    hold: Option<Duration>,
-) -> Result<Shown, Refusal> {
+fn page(core: &mut Core, span: &Bounds<'_>, timestamp: u64, limit: usize, hold: &Wanted) -> Result<Shown, Refusal> {
     let page = core.page(span.span(), timestamp, limit).map_err(|unread| Stop::from(unread).refusal())?;
     let keys: Vec<&[u8]> = page.rows.iter().map(|(key, _)| key.as_slice()).collect();
     let versions = core.versions_at(timestamp, &keys).map_err(|_| Stop::NoMemory.refusal())?;
-    if page.next.is_some() || hold.is_some() {
-        core.hold_snapshot(timestamp, hold.unwrap_or(HOLD))?;
-    }
+    core.hold_wanted(timestamp, hold, page.next.is_some().then_some(HOLD))?;
     let rows = page.rows.into_iter().zip(versions);
     let rows = rows.map(|((key, value), version)| Row { key: Cow::Owned(key), value: Some(value), version });
     Ok(Shown { timestamp, rows: rows.collect(), next: page.next })
