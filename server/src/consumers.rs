@@ -63,7 +63,7 @@ pub async fn delete(server: &Arc<Server>, request: Request) -> Result<Response, 
 
 fn name_of_path(request: &Request) -> Result<Name, Refusal> {
     let (_, word) = request.path.rsplit_once('/').unwrap_or_default();
-    name_in(&percent_decoded(word.as_bytes()))
+    name_in(&percent_decoded(word.as_bytes())?)
 }
 
 fn needed(given: &Arguments, word: &'static str) -> Result<u64, Refusal> {

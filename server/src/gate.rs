@@ -7,6 +7,7 @@
 //! ```text
 //! Host: localhost:7077                              its own name
 //! Host: evil.example                                403 host
+//! GET http://evil.example/state                     403 host, whatever Host says
 //! Host: localhost:7077, Origin: http://evil.example 403 origin
 //! Host: localhost:7077, no token                    401 token
 //! Host: localhost:7077, a token that only reads     403 right, at what writes
@@ -20,8 +21,8 @@ use crate::refusal::Refusal;
 use crate::tokens::{Fault, Tokens};
 use ripsawbean::unspell;
 use std::net::IpAddr;
-
 use std::sync::Arc;
+
 const LOOPBACK_NAMES: [&str; 3] = ["127.0.0.1", "localhost", "[::1]"];
 // Where the port is this one, browsers leave it out.
 const HTTP_PORT: u16 = 80;
@@ -112,12 +113,12 @@ impl Who {
         &self.name
     }
 
-    pub fn may(&self, right: Right) -> bool {
     /// The name, for whoever keeps it.
     pub fn shared_name(&self) -> Arc<str> {
         self.name.clone()
     }
 
+    pub fn may(&self, right: Right) -> bool {
         match right {
             Right::Any => !self.rights.is_empty(),
             _ => self.rights.contains(&right),
@@ -132,6 +133,8 @@ impl Who {
 /// What the gate looks at of a request: each header's values, as they came.
 #[derive(Clone, Debug, Default)]
 pub struct Head<'a> {
+    /// The host that the target names, where it is a whole URL.
+    pub target: Option<&'a [u8]>,
     pub host: Vec<&'a [u8]>,
     pub origin: Vec<&'a [u8]>,
     pub fetch_site: Vec<&'a [u8]>,
@@ -158,7 +161,7 @@ impl Gate {
         if right == Right::Nobody {
             return Ok(Who::of("", &[]));
         }
-        self.check_host(&head.host)?;
+        self.check_host(head)?;
         self.check_origin(head)?;
         let Some(tokens) = &self.tokens else { return Ok(Who::anyone()) };
         let who =
@@ -169,17 +172,14 @@ impl Gate {
         Ok(who)
     }
 
-    fn check_host(&self, host: &[&[u8]]) -> Result<(), Refusal> {
-        let [host] = host else {
-            return match host.len() {
-                0 => Err(other_host()),
-                _ => Err(Refusal::new(400, "host", "a request names one host")),
-            };
-        };
-        if self.is_own(host) {
-            Ok(())
-        } else {
-            Err(other_host())
+    /// The host of a target counts in place of Host, as RFC 9112 has it.
+    fn check_host(&self, head: &Head<'_>) -> Result<(), Refusal> {
+        if head.host.len() > 1 {
+            return Err(Refusal::new(400, "host", "a request names one host"));
+        }
+        match head.target.or(head.host.first().copied()) {
+            Some(host) if self.is_own(host) => Ok(()),
+            _ => Err(other_host()),
         }
     }
 
@@ -251,7 +251,13 @@ mod tests {
 
     fn head<'a>(host: &'a str, origin: Option<&'a str>, site: Option<&'a str>, shown: Option<&'a str>) -> Head<'a> {
         let all = |value: Option<&'a str>| value.map(str::as_bytes).into_iter().collect();
-        Head { host: vec![host.as_bytes()], origin: all(origin), fetch_site: all(site), authorization: all(shown) }
+        Head {
+            target: None,
+            host: vec![host.as_bytes()],
+            origin: all(origin),
+            fetch_site: all(site),
+            authorization: all(shown),
+        }
     }
 
     fn error(gate: &Gate, head: &Head<'_>) -> Option<(u16, &'static str)> {
@@ -272,6 +278,21 @@ mod tests {
         assert_eq!(error(&gate, &Head::default()), Some((403, "host")));
         let two = Head { host: vec![b"localhost:7077", b"localhost:7077"], ..Head::default() };
         assert_eq!(error(&gate, &two), Some((400, "host")));
+    }
+
+    #[test]
+    fn a_target_counts_in_place_of_host() {
+        let gate = gate(&[]);
+        let asks = |target: &'static str, host: &[&'static str]| {
+            let host = host.iter().map(|host| host.as_bytes()).collect();
+            error(&gate, &Head { target: Some(target.as_bytes()), host, ..Head::default() })
+        };
+        let own = "localhost:7077";
+        assert_eq!([asks(own, &[own]), asks(own, &["evil.example"]), asks(own, &[])], [None; 3]);
+        for other in ["evil.example", "", "localhost", "user@localhost:7077", "localhost:7077@evil.example"] {
+            assert_eq!(asks(other, &[own]), Some((403, "host")), "{other}");
+        }
+        assert_eq!(asks(own, &[own, own]), Some((400, "host")));
     }
 
     #[test]
@@ -355,9 +376,16 @@ mod tests {
             [b"Bearer ", b"Basic ", b"YTpi", b"=", TOKEN.as_bytes(), b"\xff", b":", b"localhost:7077"];
         dice.each(|dice| {
             let [host, origin, shown] = [(); 3].map(|()| dice.some(&words, 5));
-            let head =
-                Head { host: vec![&host], origin: vec![&origin], fetch_site: vec![], authorization: vec![&shown] };
+            let target = Some(dice.some(&words, 3)).filter(|_| dice.one_in(2));
+            let head = Head {
+                target: target.as_deref(),
+                host: vec![&host],
+                origin: vec![&origin],
+                fetch_site: vec![],
+                authorization: vec![&shown],
+            };
             let passes = gate.check(&head, Right::Read).is_ok();
+            let host = target.as_ref().unwrap_or(&host);
             assert!(!passes || (host == b"localhost:7077" && shown.ends_with(TOKEN.as_bytes())));
         });
     }

@@ -25,7 +25,7 @@ use hyper::body::HttpBody;
 use hyper::header::{HeaderName, HeaderValue};
 use hyper::server::conn::Http;
 use hyper::service::service_fn;
-use hyper::{HeaderMap, StatusCode};
+use hyper::{HeaderMap, StatusCode, Version};
 use std::convert::Infallible;
 use std::fmt;
 use std::future::Future;
@@ -134,6 +134,16 @@ impl Request {
         let _waits = self.connection.waits();
         let _ = tokio::time::timeout_at(end.into(), drain(self.inner.body_mut())).await;
         Err(refusal)
+    }
+
+    /// Whether a body follows it, also one of no bytes whose length isn't told.
+    pub fn has_body(&self) -> bool {
+        !self.inner.body().is_end_stream()
+    }
+
+    /// Whether it is of HTTP/1.1, and not of an older version.
+    pub fn is_of_1_1(&self) -> bool {
+        self.inner.version() == Version::HTTP_11
     }
 
     /// The connection, once the answer 101 was written. It is asked for before that answer is given.
@@ -416,7 +426,9 @@ async fn answer(
     connection: Arc<Connection>,
     mut inner: hyper::Request<hyper::Body>,
 ) -> Result<hyper::Response<Body>, Infallible> {
-    let who = match server.gate.check(&head_of(&inner), routes::right_of(method_of(&inner), inner.uri().path())) {
+    let right = routes::right_of(method_of(&inner), inner.uri().path());
+    let judged = server.gate.check(&head_of(&inner), right);
+    let who = match judged.and_then(|who| check_coding(inner.headers()).map(|()| who)) {
         Ok(who) => who,
         Err(refusal) => {
             let fields = [("peer", connection.peer.to_string().into()), ("error", refusal.error.into())];
@@ -450,9 +462,22 @@ async fn other_database(server: &Server, mut request: Request) -> Refusal {
     Refusal::other_identity(&server.identity)
 }
 
+/// hyper takes each body whose last coding is chunked, as if it were the only one.
+fn check_coding(headers: &HeaderMap) -> Result<(), Refusal> {
+    let given =
+        headers.get_all("transfer-encoding").iter().flat_map(|value| value.as_bytes().split(|&byte| byte == b','));
+    let codings: Vec<&[u8]> = given.map(<[u8]>::trim_ascii).filter(|coding| !coding.is_empty()).collect();
+    match codings.as_slice() {
+        [] => Ok(()),
+        [coding] if coding.eq_ignore_ascii_case(b"chunked") => Ok(()),
+        _ => Err(Refusal::other_coding()),
+    }
+}
+
 fn head_of(inner: &hyper::Request<hyper::Body>) -> Head<'_> {
     let all = |name: &str| inner.headers().get_all(name).iter().map(HeaderValue::as_bytes).collect();
     Head {
+        target: inner.uri().authority().map(|it| it.as_str().as_bytes()),
         host: all("host"),
         origin: all("origin"),
         fetch_site: all("sec-fetch-site"),

@@ -7,6 +7,7 @@
 //! arguments("/feed", "lo=a%20b&from=17", &["lo", "hi", "from"])    lo = b"a b", from = 17
 //! arguments("/feed", "lo=a+b", &["lo"])                            lo = b"a+b": a plus is a plus
 //! arguments("/feed", "from=017", &["from"])                        400 number
+//! arguments("/feed", "lo=%zz", &["lo"])                            400 argument: nothing is guessed
 //! ```
 //!
 //! 1. Each name is one of those that are taken, and is given once.
@@ -86,7 +87,7 @@ pub fn arguments(path: &str, query: &str, names: &[&'static str]) -> Result<Argu
         if found.has(name) {
             return Err(Refusal::new(400, "argument", format!("{name} is given twice")));
         }
-        let bytes = percent_decoded(value.as_bytes());
+        let bytes = percent_decoded(value.as_bytes())?;
         let value = if NUMBERS.contains(&name) { Value::Number(number(name, &bytes)?) } else { Value::Bytes(bytes) };
         found.given.push((name, value));
     }
@@ -139,23 +140,27 @@ pub fn percent_encoded(bytes: &[u8]) -> String {
 }
 
 /// The bytes for which a word stands: `%` and two hexadecimal digits are one byte, and all else is itself.
-pub fn percent_decoded(word: &[u8]) -> Vec<u8> {
+pub fn percent_decoded(word: &[u8]) -> Result<Vec<u8>, Refusal> {
     let mut bytes = Vec::with_capacity(word.len());
     let mut rest = word;
     while let [first, behind @ ..] = rest {
-        let (byte, left) = escaped(rest).unwrap_or((*first, behind));
+        let (byte, left) = if *first == b'%' { escaped(behind).ok_or_else(half_escape)? } else { (*first, behind) };
         bytes.push(byte);
         rest = left;
     }
-    bytes
+    Ok(bytes)
 }
 
-/// The byte of an escape with which `word` begins, and what follows.
+/// The byte of two hexadecimal digits with which `word` begins, and what follows.
 fn escaped(word: &[u8]) -> Option<(u8, &[u8])> {
-    let [b'%', high, low, behind @ ..] = word else { return None };
+    let [high, low, behind @ ..] = word else { return None };
     let digit = |byte: u8| char::from(byte).to_digit(16);
     // Two hexadecimal digits are below 256.
     Some(((digit(*high)? * 16 + digit(*low)?) as u8, behind))
+}
+
+fn half_escape() -> Refusal {
+    Refusal::new(400, "argument", "two hexadecimal digits have to follow each %, and %25 stands for one")
 }
 
 #[cfg(test)]
@@ -188,13 +193,18 @@ mod tests {
             ("lo=%00%fF%Ff", &b"\0\xff\xff"[..]),
             ("lo=a+b", b"a+b"),
             ("lo=a=b", b"a=b"),
-            ("lo=%", b"%"),
-            ("lo=%4", b"%4"),
-            ("lo=%4g%zz%%41", b"%4g%zz%A"),
-            ("lo=%+1%-1", b"%+1%-1"),
+            ("lo=%25%32%355", b"%255"),
             ("lo=\u{e9}", b"\xc3\xa9"),
         ] {
             assert_eq!(arguments("/feed", query, &NAMES).unwrap().bytes("lo"), Some(bytes), "{query}");
+        }
+    }
+
+    #[test]
+    fn half_an_escape_is_refused() {
+        for query in ["lo=%", "lo=%4", "lo=%4g", "lo=%zz", "lo=a%%41", "lo=%+1", "lo=%-1", "lo=%u00e9", "from=%3"] {
+            let (status, error, why) = refused(query);
+            assert!((status, error) == (400, "argument") && why.contains("%25"), "{query}: {why}");
         }
     }
 
@@ -258,7 +268,7 @@ mod tests {
             let Ok(given) = arguments("/feed", &query, &NAMES) else { return };
             for part in query.split('&').filter(|part| !part.is_empty()) {
                 let (name, word) = part.split_once('=').unwrap_or((part, ""));
-                let decoded = percent_decoded(word.as_bytes());
+                let decoded = percent_decoded(word.as_bytes()).expect("it is taken");
                 assert!(decoded.len() <= word.len());
                 match name {
                     "from" => assert_eq!(given.number(name).unwrap().to_string().as_bytes(), decoded, "{query}"),
@@ -275,9 +285,9 @@ mod tests {
             let bytes: Vec<u8> = (0..dice.below(20)).map(|_| dice.below(256) as u8).collect();
             let upper: String = bytes.iter().map(|byte| format!("%{byte:02X}")).collect();
             let lower: String = bytes.iter().map(|byte| format!("%{byte:02x}")).collect();
-            assert_eq!(percent_decoded(upper.as_bytes()), bytes);
-            assert_eq!(percent_decoded(percent_encoded(&bytes).as_bytes()), bytes);
-            assert_eq!(percent_decoded(lower.as_bytes()), bytes);
+            for word in [upper, lower, percent_encoded(&bytes)] {
+                assert_eq!(percent_decoded(word.as_bytes()).unwrap(), bytes);
+            }
         });
     }
 }

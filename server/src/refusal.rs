@@ -116,6 +116,12 @@ impl Refusal {
         Refusal::new(413, "toolong", "the body is longer than --max-message")
     }
 
+    /// What follows such a body isn't known to be a request, so the connection ends.
+    pub fn other_coding() -> Refusal {
+        Refusal::new(501, "encoding", "chunked is the one Transfer-Encoding that is taken, and once")
+            .with_header("Connection", "close")
+    }
+
     /// A WebSocket of another version than the one that is spoken here.
     pub fn other_version() -> Refusal {
         Refusal::new(426, "websocket", "the server speaks version 13 of WebSocket")
@@ -190,6 +196,17 @@ mod tests {
         assert_eq!(headers(&Refusal::unauthorized()), [token]);
         assert_eq!(headers(&Refusal::no_method("GET, POST")), ["Allow: GET, POST"]);
         assert_eq!(headers(&Refusal::other_version()), ["Upgrade: websocket", "Sec-WebSocket-Version: 13"]);
+        assert_eq!(headers(&Refusal::other_coding()), ["Connection: close"]);
+    }
+
+    #[test]
+    fn whoever_asks_again_in_so_many_seconds_is_not_too_early() {
+        let after = |time| Refusal::busy_for("holds", "", time).headers.pop();
+        for (milliseconds, seconds) in [(0, "1"), (1, "1"), (1000, "1"), (1001, "2"), (29_500, "30"), (30_000, "30")] {
+            let told = after(Duration::from_millis(milliseconds));
+            assert_eq!(told, Some(("Retry-After", seconds.to_string())), "{milliseconds} ms");
+        }
+        assert_eq!(Refusal::busy("feeds", "").headers, [("Retry-After", "1".to_string())]);
     }
 
     #[test]

@@ -178,7 +178,8 @@ pub async fn session(server: &Arc<Server>, mut request: Request) -> Result<Respo
     let idle = idle_in(&arguments)?;
     let lists = ["upgrade", "connection", "sec-websocket-version", "sec-websocket-key"].map(|name| request.list(name));
     let [upgrade, connection, version, key] = &lists;
-    let accept = ws::accept(&Asked { upgrade, connection, version, key })?;
+    let (has_body, is_of_1_1) = (request.has_body(), request.is_of_1_1());
+    let accept = ws::accept(&Asked { upgrade, connection, version, key, has_body, is_of_1_1 })?;
     let connection = request.connection.clone();
     let seated = Seated::take(server, request.who.clone(), &connection)?;
     seated.aborts_after(idle);

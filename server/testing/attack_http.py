@@ -55,6 +55,9 @@ LENIENT = (
     b"GET /healthz HTTP/1.1\r\nHost: a\r\nTransfer-Encoding: chunked\r\nContent-Length: 99\r\n\r\n4\r\nXXXX\r\n0\r\n\r\n",
     b"\r\nGET /healthz HTTP/1.1\r\nHost: a\r\nContent-Length: 4\r\nContent-Length: 4\r\n\r\nXXXX",
 )
+# Codings of which the last one is chunked, and not the only one.
+CODED = (b"Transfer-Encoding: gzip, chunked\r\n", b"Transfer-Encoding: gzip\r\nTransfer-Encoding: chunked\r\n",
+         b"Transfer-Encoding: chunked, chunked\r\n", b"Transfer-Encoding: x;a=\"b\", chunked\r\n")
 # What stands in place of the first line.
 ODD_LINES = (b"POST /call HTTP/1.0\r\n\r\n", b"POST /call HTTP/3.0\r\n", b"PRI * HTTP/2.0\r\n\r\nSM\r\n\r\n", b"POST  /call HTTP/1.1\r\n",
              b"POST /call\r\n", b"POST /c\0all HTTP/1.1\r\n", b"\x16\x03\x01\x02\0\x01\0\x01\xfc\x03\x03", b"CONNECT evil:1 HTTP/1.1\r\n")
@@ -88,6 +91,20 @@ def test_requests_that_are_odd(room: Room, scale: Scale) -> str:
     return "%d, and %d that are taken" % (len(asked), len(LENIENT))
 
 
+def test_bodies_in_other_codings(room: Room, scale: Scale) -> str:
+    """Each is refused by name, no line of it is taken, and what follows it is no request."""
+    server = started(room)
+    for lines in CODED:
+        with contextlib.closing(Wire(server.port)) as wire:
+            wire.send(head(server, "POST", "/call", lines.decode() + "\r\n") + SIZE + WRITE + b"\r\n0\r\n\r\n" + head(server, "GET", "/healthz", "\r\n"))
+            status, headers = wire.head()
+            told = json.loads(wire.exactly(int(headers["content-length"])))
+            assert (status, told["error"], headers["connection"]) == (501, "encoding", "close"), (lines, status, told, headers)
+            assert statuses(wire) == [] and wire.ends_within(10), (lines, bytes(wire.held))
+        assert "=> none\n" in server.call("begin\nget . smuggled\n"), lines
+    return "%d of them" % len(CODED)
+
+
 def test_hosts_that_are_not_its_own(room: Room, scale: Scale) -> str:
     """A name that leads here by another one's will is refused, however near it comes to its own."""
     server = started(room)
@@ -100,8 +117,13 @@ def test_hosts_that_are_not_its_own(room: Room, scale: Scale) -> str:
         with contextlib.closing(Wire(server.port)) as wire:
             wire.send(lines + b"\r\n")
             assert statuses(wire)[0] in (400, 403), lines
+    for host in wrong[:-1]:
+        with contextlib.closing(Wire(server.port)) as wire:
+            wire.send(b"GET http://%s/holders HTTP/1.1\r\nHost: %s\r\nConnection: close\r\n\r\n" % (host.encode(), own.encode()))
+            assert statuses(wire)[0] in (400, 403), (host, bytes(wire.held))
     assert server.ask("GET", "/holders")[0] == 200
-    return "%d, and none, and two" % len(wrong)
+    assert server.ask("GET", "http://%s/holders" % own, None, {"Host": "evil.example"})[0] == 200, "a target counts in place of Host"
+    return "%d, each also in a target, and none, and two" % len(wrong)
 
 
 def test_addresses_that_others_reach(room: Room, scale: Scale) -> str:
@@ -131,7 +153,10 @@ def test_methods_and_paths_that_are_not_there(room: Room, scale: Scale) -> str:
         with contextlib.closing(Wire(server.port)) as wire:
             wire.ask("GET", path)
             assert wire.head()[0] in (400, 404), path
-    return "five methods, fifteen paths"
+    for path in ("/rows?lo=%zz", "/rows?hi=%", "/feed?lo=%4", "/key/%zz", "/key/a%", "/consumer/%4g", "/feed?consumer=a%2"):
+        status, told = server.ask("GET", path)
+        assert (status, json.loads(told)["error"]) == (400, "argument"), (path, status, told)
+    return "five methods, fifteen paths, seven that are half escaped"
 
 
 def endless(server: Server, begin: bytes, more: bytes) -> int:

@@ -107,6 +107,27 @@ def test_requests_behind_a_feed(room: Room, scale: Scale) -> str:
     return "of four paths"
 
 
+def test_a_session_that_is_asked_for_with_a_body(room: Room, scale: Scale) -> str:
+    """Or in HTTP/1.0: it is refused, takes no seat, and no byte of the body is taken for a frame."""
+    server, frame = started(room), framed(b"begin\nput . smuggled x\ncommit .\n")
+    for version, lines, body, wanted in (
+        ("1.1", "Content-Length: %d\r\n" % len(frame), frame, 400), ("1.1", "Content-Length: 1\r\n", b"x" + frame, 400),
+        ("1.1", "Transfer-Encoding: chunked\r\n", b"%x\r\n%s\r\n0\r\n\r\n" % (len(frame), frame), 400),
+        ("1.1", "Transfer-Encoding: chunked\r\n", b"0\r\n\r\n" + frame, 400), ("1.0", "", frame, 400),
+        ("1.1", "Content-Length: 0\r\n", b"", 101),
+    ):
+        with contextlib.closing(Wire(server.port)) as wire:
+            asked = head(server, "GET", "/session", HANDSHAKE + lines + "\r\n").replace(b"HTTP/1.1", b"HTTP/" + version.encode(), 1)
+            wire.send(asked + body)
+            status, headers = wire.head()
+            assert status == wanted, (version, lines, status)
+            if status == 400:
+                assert b'"error":"websocket"' in wire.exactly(int(headers["content-length"])), (version, lines)
+                assert not server.holders("session"), (version, lines)
+    assert "=> none\n" in server.call("begin\nget . smuggled\n")
+    return "five ways"
+
+
 def test_a_client_that_takes_all_seats(room: Room, scale: Scale) -> str:
     """An operator ends a session by its seat, and so makes room."""
     server = started(room)

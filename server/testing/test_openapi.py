@@ -42,11 +42,11 @@ class Documented:
         self.compare(method, path, reply.status, reply.headers, data)
         return reply.status, data
 
-    async def ask_slowly(self, method, path):
-        """Sends less of a body than it says, and waits for the answer."""
+    async def ask_by_hand(self, method, path, rest):
+        """Sends a body, with lines before it, that no client sends, and waits for the answer."""
         reader, writer = await asyncio.open_connection("127.0.0.1", self.client.port)
-        head = "%s %s HTTP/1.1\r\nHost: 127.0.0.1:%d\r\nAuthorization: Bearer %s\r\nContent-Length: 9\r\n\r\nx"
-        writer.write((head % (method, path, self.client.port, TOKEN)).encode())
+        head = "%s %s HTTP/1.1\r\nHost: 127.0.0.1:%d\r\nAuthorization: Bearer %s\r\n%s"
+        writer.write((head % (method, path, self.client.port, TOKEN, rest)).encode())
         first, *lines = (await asyncio.wait_for(reader.readuntil(b"\r\n\r\n"), SLOW)).decode().split("\r\n")[:-2]
         headers = CIMultiDict(tuple(line.split(": ", 1)) for line in lines)
         data = await reader.readexactly(int(headers["Content-Length"]))
@@ -140,8 +140,11 @@ async def see_identity(ask):
     assert (await ask("GET", "/key/other"))[0] == 404
 
 
-async def see_slow(ask_slowly):
-    await asyncio.gather(ask_slowly("POST", "/transact"), ask_slowly("PUT", "/key/a"))
+async def see_odd_bodies(ask_by_hand):
+    """Less than what is said, and more codings than one."""
+    odd = ("Content-Length: 9\r\n\r\nx", "Transfer-Encoding: gzip, chunked\r\n\r\n0\r\n\r\n")
+    writes = (("POST", "/transact"), ("PUT", "/key/a"))
+    await asyncio.gather(*(ask_by_hand(*write, rest) for write in writes for rest in odd))
 
 
 async def see_blocked(client, ask):
@@ -218,7 +221,7 @@ class OpenApi(unittest.IsolatedAsyncioTestCase):
                 await see_rows(asking.ask)
                 await see_identity(asking.ask)
                 await see_blocked(client, asking.ask)
-                await see_slow(asking.ask_slowly)
+                await see_odd_bodies(asking.ask_by_hand)
                 self.assertEqual(asking.documented() - asking.seen, set())
                 await self.compare_bodies(asking)
 

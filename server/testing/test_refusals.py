@@ -125,6 +125,16 @@ async def see_slow_bodies(client, seen):
     seen |= found
 
 
+async def see_other_codings(client, seen):
+    """A body that isn't in chunks alone ends its connection."""
+    wire = Wire(client.port)
+    wire.ask("POST", "/transact", "Transfer-Encoding: gzip, chunked\r\n")
+    wire.send(b"0\r\n\r\n")
+    status, headers = await asyncio.to_thread(wire.head)
+    seen.add((status, json.loads(wire.exactly(int(headers["content-length"])))["error"]))
+    assert await asyncio.to_thread(wire.ends_within, 20)
+
+
 async def see_tokens(ask):
     for who, method, path, wanted in (
         ("nobody", "GET", "/rows", (401, "token")), ("reader", "PUT", "/key/c", (403, "right")),
@@ -180,6 +190,7 @@ class Refusals(unittest.IsolatedAsyncioTestCase):
             await see_what_fails(ask)
             await see_undecided(client, ask)
             await see_slow_bodies(client, seen)
+            await see_other_codings(client, seen)
         with tempfile.NamedTemporaryFile("w") as file:
             file.write(TOKENS)
             file.flush()

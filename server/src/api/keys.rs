@@ -85,7 +85,7 @@ fn no_value(timestamp: u64) -> Refusal {
 
 /// The key of the path, which someone may read or write.
 fn key_in(request: &Request) -> Result<Vec<u8>, Refusal> {
-    let key = percent_decoded(&request.path.as_bytes()["/key/".len()..]);
+    let key = percent_decoded(&request.path.as_bytes()["/key/".len()..])?;
     if !(1..=MOST_KEY).contains(&key.len()) {
         return Err(Refusal::new(400, "keylength", format!("a key has 1 to {MOST_KEY} bytes")));
     }

@@ -151,9 +151,13 @@ fn any_handshake_is_judged() {
     dice.each(|dice| {
         let drawn: Vec<String> =
             (0..4).map(|_| String::from_utf8(dice.some(&pieces, 4)).expect("pieces are UTF-8")).collect();
-        let asked = Asked { upgrade: &drawn[0], connection: &drawn[1], version: &drawn[2], key: &drawn[3] };
-        match accept(&asked) {
-            Ok(accepted) => assert!(accepted.len() == 28 && drawn[2].trim() == "13" && drawn[3].trim().len() == 24),
+        let [upgrade, connection, version, key] = [0, 1, 2, 3].map(|at| drawn[at].as_str());
+        let [has_body, is_of_1_1] = [10, 2].map(|bound| dice.one_in(bound));
+        match accept(&Asked { upgrade, connection, version, key, has_body, is_of_1_1 }) {
+            Ok(accepted) => {
+                assert!(accepted.len() == 28 && version.trim() == "13" && key.trim().len() == 24);
+                assert!(is_of_1_1 && !has_body);
+            }
             Err(refusal) => assert!([400, 426].contains(&refusal.status)),
         }
     });

@@ -21,6 +21,10 @@ pub struct Asked<'a> {
     pub connection: &'a str,
     pub version: &'a str,
     pub key: &'a str,
+    /// Its bytes would be taken for frames by one reader, and for a body by another.
+    pub has_body: bool,
+    /// HTTP/1.0 has no upgrades.
+    pub is_of_1_1: bool,
 }
 
 /// The value of `Sec-WebSocket-Accept`. The answer is 101, with `Upgrade: websocket` and `Connection: Upgrade`.
@@ -28,6 +32,9 @@ pub fn accept(asked: &Asked) -> Result<String, Refusal> {
     if !has_token(asked.connection, "upgrade") || !has_token(asked.upgrade, "websocket") {
         let why = "a session is a WebSocket; POST /call takes lines without one";
         return Err(Refusal::new(400, "websocket", why));
+    }
+    if asked.has_body || !asked.is_of_1_1 {
+        return Err(Refusal::new(400, "websocket", "a WebSocket is asked for in HTTP/1.1, and without a body"));
     }
     if asked.version.trim() != VERSION {
         return Err(Refusal::other_version());
@@ -53,8 +60,14 @@ fn has_token(list: &str, token: &str) -> bool {
 mod tests {
     use super::*;
 
-    const ASKED: Asked =
-        Asked { upgrade: "websocket", connection: "Upgrade", version: "13", key: "dGhlIHNhbXBsZSBub25jZQ==" };
+    const ASKED: Asked = Asked {
+        upgrade: "websocket",
+        connection: "Upgrade",
+        version: "13",
+        key: "dGhlIHNhbXBsZSBub25jZQ==",
+        has_body: false,
+        is_of_1_1: true,
+    };
 
     #[test]
     fn the_example_of_the_rfc_is_accepted() {
@@ -71,6 +84,8 @@ mod tests {
             (Asked { upgrade: "websockets", ..ASKED }, 400),
             (Asked { connection: "keep-alive", ..ASKED }, 400),
             (Asked { connection: "Upgraded", ..ASKED }, 400),
+            (Asked { has_body: true, ..ASKED }, 400),
+            (Asked { is_of_1_1: false, ..ASKED }, 400),
             (Asked { version: "", ..ASKED }, 426),
             (Asked { version: "8", ..ASKED }, 426),
             (Asked { version: "13, 8", ..ASKED }, 426),
