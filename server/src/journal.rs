@@ -86,6 +86,8 @@ pub fn open(asked: &Asked, identity: &str) -> Result<Recovered, Error> {
 #[derive(Debug)]
 pub enum Failure {
     File(PathBuf, io::Error),
+    /// A folder that would have to be made in one that isn't there.
+    NoParent(PathBuf),
     Taken(PathBuf),
     /// No crash leaves such bytes.
     Damaged {
@@ -140,6 +142,10 @@ impl fmt::Display for Failure {
     fn fmt(&self, f: &mut fmt::Formatter<'_>) -> fmt::Result {
         match self {
             Failure::File(path, error) => write!(f, "{}: {error}", path.display()),
+            Failure::NoParent(path) => {
+                let parent = path.parent().unwrap_or(path).display();
+                write!(f, "{} can't be made, because {parent} isn't there: make that folder first", path.display())
+            }
             Failure::Taken(path) => write!(f, "{} is another server's, which runs", path.display()),
             Failure::Damaged { name, damage } => write_damage(f, name, damage),
             Failure::Torn { name, at } => {

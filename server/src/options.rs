@@ -43,6 +43,7 @@ enum Kind {
     File,
     /// It may be given several times.
     Names,
+    /// `yes` or `no`, for which `true` and `false`, and `1` and `0`, are taken too.
     Switch,
 }
 
@@ -196,6 +197,7 @@ pub enum Fault {
     /// A word that is no text.
     NoText(String),
     NoValue(&'static str),
+    Twice(&'static str),
     NoRoom {
         place: Place,
         name: &'static str,
@@ -231,6 +233,7 @@ impl Display for Fault {
             Fault::Unknown(word) => write!(out, "unrecognized arguments: {word}"),
             Fault::NoText(word) => write!(out, "{word} is no UTF-8"),
             Fault::NoValue(name) => write!(out, "argument --{name}: expected one argument"),
+            Fault::Twice(name) => write!(out, "argument --{name}: it is given twice"),
             Fault::NoRoom { place, name, word, least, most } => {
                 write!(out, "{}: {word} is not {least} to {most}", place.named(name))
             }
@@ -378,7 +381,8 @@ fn help() -> String {
         let _ = writeln!(text, "  {:<24}{}{default}", format!("--{}{value}", row.name), row.meaning);
     }
     text.push_str("\nN is a whole number, S seconds. An option that the command line leaves out is taken from the\n");
-    text.push_str("environment (RIPSAWBEAN_MAX_LAG for --max-lag), then from the file of --config.\n");
+    text.push_str("environment (RIPSAWBEAN_MAX_LAG for --max-lag), then from the file of --config. There a\n");
+    text.push_str("switch is yes or no. Each option but --host is given once in a place.\n");
     text
 }
 

@@ -193,7 +193,28 @@ def test_settings(room: Room, scale: Scale) -> str:
         except subprocess.TimeoutExpired:
             raise AssertionError("it starts with %r" % text) from None
         assert path in told or "max-message" in told or "no-such-setting" in told, told
-    return "six ways, four wrong files"
+    for options in (("--port", "0"), ("--max-lag", "1", "--max-lag=1"), ("--log-json", "--log-json")):
+        assert "twice" in refused_start(room, *options), options
+    for word, is_json in (("1", True), ("true", True), ("yes", True), ("0", False), ("false", False), ("no", False)):
+        flag = {**os.environ, "RIPSAWBEAN_LOG_JSON": word, "RIPSAWBEAN_LOG_LEVEL": "info"}
+        server = started(room, env=flag)
+        Session(server.port).reset()
+        wait_for(lambda: "session_over" in server.words(), "the log")
+        assert ('"session_over"' in server.words().splitlines()[-1]) == is_json, (word, server.words())
+        server.kill()
+    return "six ways, four wrong files, three options twice, six words of a flag"
+
+
+def test_a_folder_in_none(room: Room, scale: Scale) -> str:
+    """--data makes one folder, and says what isn't there above it: a path with a slip begins no database elsewhere."""
+    slip = room.file("slip")
+    done = subprocess.run([SERVER, "--port", "0", "--data", os.path.join(slip, "kept")], capture_output=True, text=True,
+                          timeout=LONGEST, stdin=subprocess.DEVNULL)
+    assert done.returncode == 1 and slip + " isn't there" in done.stderr and done.stderr.count("\n") == 1, done
+    assert not os.path.exists(slip)
+    started(room, "--data", slip)
+    assert os.path.isdir(slip)
+    return done.stderr.strip()
 
 
 def test_log_lines(room: Room, scale: Scale) -> str:

@@ -35,11 +35,15 @@ pub struct Folder {
 }
 
 impl Folder {
-    /// Takes a folder, which is made where it isn't there.
+    /// Takes a folder, which is made where it isn't there. The one in which it stands has to be there: a path with a slip
+    /// would begin a new database elsewhere.
     pub fn take(path: &Path) -> Result<Folder, Failure> {
-        let of_path = |error| Failure::file(path, error);
-        fs::DirBuilder::new().recursive(true).mode(0o700).create(path).map_err(of_path)?;
-        let path = path.canonicalize().map_err(of_path)?;
+        match fs::DirBuilder::new().mode(0o700).create(path) {
+            Err(error) if error.kind() == io::ErrorKind::NotFound => return Err(Failure::NoParent(path.to_path_buf())),
+            Err(error) if !path.is_dir() => return Err(Failure::file(path, error)),
+            _ => {}
+        }
+        let path = path.canonicalize().map_err(|error| Failure::file(path, error))?;
         let name = path.join("lock");
         let mut options = OpenOptions::new();
         let lock = options.read(true).write(true).create(true).truncate(false).mode(0o600).open(&name);
@@ -241,6 +245,25 @@ mod tests {
         drop(one);
         Folder::take(&path).expect("it is free").drop_below(2).expect("they are dropped");
         assert_eq!(fs::read_dir(&path).expect("it is there").count(), 3);
+    }
+
+    #[test]
+    fn one_folder_is_made_and_none_above_it() {
+        let above = folder();
+        let one = above.join("one");
+        assert!(Folder::take(&one).is_ok() && Folder::take(&one.join("../other/")).is_ok());
+        let fault = Folder::take(&one.join("slip/kept")).err().expect("its parent isn't there").to_string();
+        let (path, parent) = (one.join("slip/kept"), one.join("slip"));
+        let sentence = format!(
+            "{} can't be made, because {} isn't there: make that folder first",
+            path.display(),
+            parent.display()
+        );
+        assert_eq!((fault, one.join("slip").exists()), (sentence, false));
+        fs::write(above.join("file"), "").expect("it is written");
+        for wrong in ["file", "file/kept"] {
+            assert!(matches!(Folder::take(&above.join(wrong)), Err(Failure::File(..))), "{wrong}");
+        }
     }
 
     #[test]

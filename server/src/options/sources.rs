@@ -4,9 +4,9 @@
 //! them. A word becomes a value here too, because its range belongs to its name.
 //!
 //! 1. Each name in a `Given` is one of the table.
-//! 2. Only `host` has more than one word.
+//! 2. Only `host` has more than one word: each other option is given once in a place, so that none is overlooked.
 
-use super::{row_of, Fault, Kind, LONGEST, TABLE};
+use super::{row_of, Fault, Kind, Row, LONGEST, TABLE};
 use std::collections::HashMap;
 use std::ffi::OsString;
 use std::io::Read;
@@ -56,6 +56,9 @@ impl Given {
                 (None, Kind::Switch) => "yes".to_string(),
                 (None, _) => rest.next().cloned().ok_or(Fault::NoValue(row.name))?,
             };
+            if given.has_once(row) {
+                return Err(Fault::Twice(row.name));
+            }
             given.say(row.name, Place::CommandLine, value);
         }
         Ok(given)
@@ -90,7 +93,7 @@ impl Given {
             let (name, value) = (name.trim(), value.trim());
             let row = row_of(name).filter(|row| !is_only_a_word(row.name) && row.name != "config");
             let row = row.ok_or_else(|| fault(format!("there is no option {name:?} of a file")))?;
-            if given.found.contains_key(row.name) && !matches!(row.kind, Kind::Names) {
+            if given.has_once(row) {
                 return Err(fault(format!("{name} is given twice")));
             }
             given.say(row.name, Place::File { file: file.to_path_buf(), line }, value.to_string());
@@ -105,13 +108,13 @@ impl Given {
         }
     }
 
-    /// A name that was given before keeps its last word; `host` keeps all.
+    /// Whether an option is given that may be given once.
+    fn has_once(&self, row: &Row) -> bool {
+        self.found.contains_key(row.name) && !matches!(row.kind, Kind::Names)
+    }
+
     fn say(&mut self, name: &'static str, place: Place, word: String) {
-        let (_, words) = self.found.entry(name).or_insert((place, Vec::new()));
-        if name != "host" {
-            words.clear();
-        }
-        words.push(word);
+        self.found.entry(name).or_insert((place, Vec::new())).1.push(word);
     }
 
     pub fn one(&self, name: &str) -> Option<(&Place, &str)> {
@@ -155,8 +158,8 @@ impl Given {
 
     pub fn switch(&self, name: &'static str) -> Result<bool, Fault> {
         match self.one(name) {
-            None | Some((_, "no")) => Ok(false),
-            Some((_, "yes")) => Ok(true),
+            None | Some((_, "no" | "false" | "0")) => Ok(false),
+            Some((_, "yes" | "true" | "1")) => Ok(true),
             Some((place, word)) => Err(no_word(place, name, word, "yes or no")),
         }
     }

@@ -69,8 +69,8 @@ fn the_command_line_says_more_than_the_environment_and_that_more_than_the_file()
 #[test]
 fn values_take_each_form() {
     let words = "--port=0 --patience 0.1 --seat-age 2.5 --log-level debug --log-json --max-memory 1000000";
-    let options = options_of(&format!("{words} --max-lag 9 --max-lag 8"), &[], "");
-    assert_eq!((options.port, options.max_memory, options.max_lag), (0, Some(1_000_000), 8));
+    let options = options_of(words, &[], "");
+    assert_eq!((options.port, options.max_memory), (0, Some(1_000_000)));
     assert_eq!(
         ["0", "auto"].map(|word| options_of(&format!("--max-memory {word}"), &[], "").max_memory),
         [Some(0), None]
@@ -81,6 +81,10 @@ fn values_take_each_form() {
     let file = "log-json = yes\nlog-level = warn\n";
     assert!(options_of("--config server.conf", &[], file).log_json);
     assert!(!options_of("--config server.conf --log-json=no", &[], file).log_json);
+    for (word, is_json) in [("1", true), ("true", true), ("yes", true), ("0", false), ("false", false), ("no", false)] {
+        assert_eq!(options_of("", &[("RIPSAWBEAN_LOG_JSON", word)], "").log_json, is_json, "{word}");
+        assert_eq!(options_of(&format!("--log-json={word}"), &[], "").log_json, is_json, "{word}");
+    }
     assert_eq!(options_of("--tls-cert a --tls-key b", &[], "").tls.unwrap().key, Path::new("b"));
 }
 
@@ -100,18 +104,23 @@ fn values_out_of_their_range_are_refused_with_it() {
         ("--history inf", "argument --history: inf is not 0 to 1000000000"),
         ("--max-age 1e10", "argument --max-age: 1e10 is not 0.01 to 1000000000"),
         ("--port", "argument --port: expected one argument"),
+        ("--port 1 --port 1", "argument --port: it is given twice"),
+        ("--port 1 --host a --port=2", "argument --port: it is given twice"),
+        ("--log-json --log-json", "argument --log-json: it is given twice"),
         ("--prot 1", "unrecognized arguments: --prot"),
         ("7077", "unrecognized arguments: 7077"),
         ("--", "unrecognized arguments: --"),
         ("--max-memory 1G", "argument --max-memory: \"1G\" is not auto or a number of bytes"),
         ("--log-level loud", "argument --log-level: \"loud\" is not error, warn, info or debug"),
-        ("--log-json=1", "argument --log-json: \"1\" is not yes or no"),
+        ("--log-json=on", "argument --log-json: \"on\" is not yes or no"),
         ("--host http://a", "argument --host: \"http://a\" is not a name as a browser's Host says it"),
         ("--token=", "argument --token: \"\" is not a file"),
     ] {
         assert_eq!(fault_of(words, &[], ""), sentence, "{words}");
     }
     assert_eq!(fault_of("", &[("RIPSAWBEAN_PORT", "x")], ""), "RIPSAWBEAN_PORT: x is not 0 to 65535");
+    let sentence = "RIPSAWBEAN_LOG_JSON: \"True\" is not yes or no";
+    assert_eq!(fault_of("", &[("RIPSAWBEAN_LOG_JSON", "True")], ""), sentence);
     let sentence = "--config server.conf line 2: keep: x is not 0 to 4611686018427387904";
     assert_eq!(fault_of("--config server.conf", &[], "\nkeep = x\n"), sentence);
 }
