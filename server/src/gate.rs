@@ -301,6 +301,13 @@ mod tests {
         assert!(hosts.contains(&"10.0.0.7".to_string()) && hosts.contains(&"localhost".to_string()));
         let hosts = hosts_of("::1".parse().expect("an address"), 80, &[], HTTPS_PORT);
         assert!(hosts.contains(&"[::1]:80".to_string()) && !hosts.contains(&"[::1]".to_string()));
+        let tls = ["--tls-cert", "a", "--tls-key", "b"];
+        for (words, port, is_usual) in
+            [(&[][..], HTTP_PORT, true), (&[], HTTPS_PORT, false), (&tls, HTTPS_PORT, true), (&tls, HTTP_PORT, false)]
+        {
+            let gate = Gate::new(&options(words), port).expect("a gate");
+            assert_eq!(error(&gate, &head("localhost", None, None, None)).is_none(), is_usual, "{words:?} {port}");
+        }
     }
 
     #[test]
@@ -329,6 +336,9 @@ mod tests {
             assert_eq!(asks(Some(shown)), Some((401, "token")), "{shown}");
         }
         assert_eq!(asks(None), Some((401, "token")));
+        let shown = format!("Bearer {TOKEN}");
+        let twice = Head { authorization: vec![shown.as_bytes(); 2], ..head("localhost:7077", None, None, None) };
+        assert_eq!(error(&gate, &twice), Some((401, "token")));
     }
 
     #[test]

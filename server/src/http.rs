@@ -97,6 +97,12 @@ pub struct Request {
 }
 
 impl Request {
+    fn new(inner: hyper::Request<hyper::Body>, who: Who, connection: Arc<Connection>, server: &Server) -> Request {
+        let (path, query) = (inner.uri().path().to_string(), inner.uri().query().unwrap_or("").to_string());
+        let (method, bodies) = (method_of(&inner), server.bodies.clone());
+        Request { method, path, query, who, connection, bodies, held: None, inner }
+    }
+
     /// A header's value, where it is given once or more: the first one.
     pub fn header(&self, name: &str) -> Option<&[u8]> {
         self.inner.headers().get(name).map(HeaderValue::as_bytes)
@@ -438,9 +444,7 @@ async fn answer(
         }
     };
     let busy = connection.asks();
-    let (path, query) = (inner.uri().path().to_string(), inner.uri().query().unwrap_or("").to_string());
-    let method = method_of(&inner);
-    let request = Request { method, path, query, who, connection, bodies: server.bodies.clone(), held: None, inner };
+    let request = Request::new(inner, who, connection, &server);
     let answered = match request.header(IDENTITY).is_none_or(|named| named == server.identity.as_bytes()) {
         true => routes::handle(&server, request).await,
         false => Err(other_database(&server, request).await),

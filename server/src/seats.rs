@@ -217,6 +217,23 @@ mod tests {
     }
 
     #[test]
+    fn a_session_that_says_how_long_it_may_be_silent_is_idle_after_that() {
+        let mut seats = Seats::default();
+        let [one, other] = [0, 0].map(|kept| seats.take("peer".into(), Who::anyone(), kept).expect("a seat").seat);
+        for (seat, begun) in [(one, 7), (other, 3)] {
+            seats.taken_mut(seat).expect("it is taken").begun.insert(begun);
+        }
+        std::thread::sleep(Duration::from_millis(2));
+        assert_eq!(seats.idle(), None);
+        seats.taken_mut(one).expect("it is taken").idle = Some(Duration::from_millis(1));
+        seats.taken_mut(other).expect("it is taken").idle = Some(Duration::from_secs(3600));
+        assert_eq!(seats.idle(), Some((one, 7)));
+        let before = seats.taken(one).expect("it is taken").heard;
+        seats.hears(one);
+        assert!(seats.taken(one).expect("it is taken").heard > before);
+    }
+
+    #[test]
     fn the_seat_that_was_free_for_longest_comes_first() {
         let mut seats = Seats::default();
         let first = seats.take("peer".into(), Who::anyone(), 0).expect("a seat");

@@ -7,6 +7,7 @@ use crate::connections::Connections;
 use crate::core::Core;
 use crate::door::{Door, Turn};
 use crate::gate::{Gate, Who};
+use crate::http::{Request, Response};
 use crate::journal::Ticket;
 use crate::lines::Lines;
 use crate::log::{Level, Log};
@@ -14,7 +15,7 @@ use crate::metrics::Metrics;
 use crate::options::{self, Asked, Options};
 use crate::refusal::Refusal;
 use crate::reports;
-use crate::routes::Server;
+use crate::routes::{self, Server};
 use crate::seats::{Session, SEATS};
 use crate::session;
 use crate::streams::Streams;
@@ -89,6 +90,22 @@ pub fn server(words: &[&str]) -> Arc<Server> {
         is_ending: watch::channel(false).0,
         options,
     })
+}
+
+/// What a request is told that has passed the gate. Its method and target are a line.
+pub async fn ask(
+    server: &Arc<Server>,
+    who: &Who,
+    line: &str,
+    headers: &[(&str, &str)],
+    body: &str,
+) -> Result<Response, Refusal> {
+    routes::handle(server, Request::of(server, who, line, headers, body)).await
+}
+
+/// The status of an answer, and the name of a refusal.
+pub fn status(answered: Result<Response, Refusal>) -> (u16, &'static str) {
+    answered.map_or_else(|refusal| (refusal.status, refusal.error), |response| (response.status, ""))
 }
 
 /// A session of someone who may do everything.

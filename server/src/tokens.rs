@@ -247,6 +247,7 @@ mod tests {
     fn tokens_that_no_header_could_show_are_refused() {
         for (text, fault) in [
             (&b"short\n"[..], LineFault::Short),
+            (b"0123456789abcde\n", LineFault::Short),
             (b"", LineFault::Short),
             (b"0123456789abcde\xc3\xa9", LineFault::Byte),
             (b"0123456789abc\0def", LineFault::Byte),

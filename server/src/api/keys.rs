@@ -273,6 +273,90 @@ impl Tags {
 #[cfg(test)]
 mod tests {
     use super::*;
+    use crate::gate::{Keys, Right, Who};
+    use crate::testing::{ask, server, status};
+
+    #[tokio::test]
+    async fn a_key_outside_of_a_span_is_neither_told_nor_written() {
+        let server = server(&[]);
+        let few = Who::of("few", &[Right::Read, Right::Write]);
+        let few = few.with_keys(Keys { lo: b"b".to_vec(), hi: Some(b"d".to_vec()) });
+        for line in ["PUT /key/a", "PUT /key/c"] {
+            assert_eq!(status(ask(&server, &Who::anyone(), line, &[], "1").await), (200, ""), "{line}");
+        }
+        for method in ["GET", "HEAD", "PUT", "DELETE"] {
+            for key in ["a", "d", "%61", "none"] {
+                let told = ask(&server, &few, &format!("{method} /key/{key}"), &[], "").await;
+                assert_eq!(status(told), (403, "keys"), "{method} {key}");
+            }
+            assert_eq!(status(ask(&server, &few, &format!("{method} /key/c"), &[], "").await), (200, ""), "{method}");
+        }
+    }
+
+    #[tokio::test]
+    async fn whoever_only_writes_is_not_told_whether_a_condition_holds() {
+        let (server, sensor) = (server(&[]), Who::of("sensor", &[Right::Write]));
+        for (line, header, told) in [
+            ("PUT /key/a", None, (200, "")),
+            ("PUT /key/a", Some(("if-match", "\"1\"")), (403, "right")),
+            ("PUT /key/b", Some(("if-none-match", "*")), (403, "right")),
+            ("DELETE /key/a", None, (403, "right")),
+            ("DELETE /key/none", None, (403, "right")),
+        ] {
+            let headers: Vec<_> = header.into_iter().collect();
+            assert_eq!(status(ask(&server, &sensor, line, &headers, "1").await), told, "{line} {header:?}");
+        }
+    }
+
+    #[tokio::test]
+    async fn conditions_are_those_of_etags() {
+        let server = server(&[]);
+        for (line, header, told) in [
+            ("PUT /key/a", Some(("if-match", "*")), (412, "condition")),
+            ("PUT /key/a", Some(("if-none-match", "*")), (200, "")),
+            ("PUT /key/a", Some(("if-none-match", "*")), (412, "condition")),
+            ("GET /key/a", Some(("if-none-match", "\"1\"")), (200, "")),
+            ("GET /key/a", Some(("if-none-match", "W/\"2\"")), (304, "")),
+            ("GET /key/a", Some(("if-none-match", "*")), (304, "")),
+            ("PUT /key/a", Some(("if-match", "W/\"2\"")), (412, "condition")),
+            ("PUT /key/a", Some(("if-none-match", "W/\"2\"")), (412, "condition")),
+            ("DELETE /key/a", Some(("if-match", "\"1\"")), (412, "condition")),
+            ("DELETE /key/a", Some(("if-match", "\"1\", \"2\"")), (200, "")),
+            ("DELETE /key/a", Some(("if-match", "*")), (412, "condition")),
+            ("DELETE /key/a", None, (404, "none")),
+        ] {
+            let headers: Vec<_> = header.into_iter().collect();
+            assert_eq!(status(ask(&server, &Who::anyone(), line, &headers, "1").await), told, "{line} {header:?}");
+        }
+    }
+
+    #[tokio::test]
+    async fn a_value_has_a_length_and_no_coding() {
+        let server = server(&[]);
+        for (length, coding, told) in [
+            (MOST_VALUE, "identity", (200, "")),
+            (MOST_VALUE + 1, "identity", (413, "valuelength")),
+            (1, "gzip", (415, "encoding")),
+        ] {
+            let (headers, value) = ([("content-encoding", coding)], "x".repeat(length));
+            let answered = ask(&server, &Who::anyone(), "PUT /key/a", &headers, &value).await;
+            assert_eq!(status(answered), told, "{length} {coding}");
+        }
+        let answered = ask(&server, &Who::anyone(), "POST /transact", &[("content-encoding", "br")], "{}").await;
+        assert_eq!(status(answered), (415, "encoding"));
+    }
+
+    #[tokio::test]
+    async fn a_read_holds_its_snapshot_where_that_is_asked() {
+        let server = server(&[]);
+        assert_eq!(status(ask(&server, &Who::anyone(), "PUT /key/a", &[], "1").await), (200, ""));
+        for (query, held) in [("", 0), ("?hold=0", 0), ("?hold=0.0&at=1", 0), ("?at=1&hold=9", 1), ("?hold=9", 1)] {
+            let told = ask(&server, &Who::anyone(), &format!("GET /key/a{query}"), &[], "").await;
+            assert_eq!(status(told), (200, ""), "{query}");
+            assert_eq!(server.door.run(|core| core.ledger.protections.len()), held, "{query}");
+        }
+        assert_eq!(status(ask(&server, &Who::anyone(), "GET /key/a?hold=300.1", &[], "").await), (400, "number"));
+    }
 
     #[test]
     fn lists_of_etags() {

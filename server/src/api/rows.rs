@@ -166,6 +166,8 @@ fn path_of(given: &Arguments, lo: &[u8], at: u64) -> String {
 #[cfg(test)]
 mod tests {
     use super::*;
+    use crate::gate::{Keys, Right, Who};
+    use crate::testing::{ask, say, server, session, status};
 
     const NAMES: [&str; 7] = ["lo", "hi", "at", "limit", "hold", "wait", "bytes"];
 
@@ -185,6 +187,82 @@ mod tests {
             assert_eq!(path, next);
             assert!(arguments("/rows", path.strip_prefix("/rows?").expect("a query"), &NAMES).is_ok());
         }
+    }
+
+    #[tokio::test]
+    async fn rows_outside_of_a_span_are_not_told() {
+        let server = server(&[]);
+        let few = Who::of("few", &[Right::Read]).with_keys(Keys { lo: b"b".to_vec(), hi: Some(b"d".to_vec()) });
+        for (query, told) in [
+            ("", (403, "keys")),
+            ("?lo=b", (403, "keys")),
+            ("?lo=a&hi=c", (403, "keys")),
+            ("?lo=b&hi=d%00", (403, "keys")),
+            ("?lo=b&hi=d", (200, "")),
+        ] {
+            assert_eq!(status(ask(&server, &few, &format!("GET /rows{query}"), &[], "").await), told, "{query}");
+        }
+    }
+
+    #[tokio::test]
+    async fn a_snapshot_that_has_begun_is_waited_for() {
+        let server = server(&[]);
+        let mut one = server.door.run(session);
+        assert_eq!(server.door.run(|core| say(core, &mut one, "begin\n")), ["started"]);
+        assert_eq!(status(ask(&server, &Who::anyone(), "PUT /key/a", &[], "1").await), (200, ""));
+        for (query, told) in
+            [("?at=2&wait=0", (503, "notclosed")), ("?at=3&wait=0", (409, "notclosed")), ("?at=0&wait=0", (200, ""))]
+        {
+            let answered = ask(&server, &Who::anyone(), &format!("GET /rows{query}"), &[], "").await;
+            assert_eq!(status(answered), told, "{query}");
+        }
+        let ends = async {
+            tokio::task::yield_now().await;
+            server.door.run(|core| say(core, &mut one, "commit .\n"))
+        };
+        let who = Who::anyone();
+        let (told, _) = tokio::join!(ask(&server, &who, "GET /rows?at=2&wait=30", &[], ""), ends);
+        assert_eq!(status(told), (200, ""));
+    }
+
+    #[tokio::test]
+    async fn a_page_counts_until_it_is_taken_and_waits_for_no_room() {
+        let server = server(&[]);
+        for key in ["a", "b"] {
+            let value = "x".repeat(50_000);
+            assert_eq!(status(ask(&server, &Who::anyone(), &format!("PUT /key/{key}"), &[], &value).await), (200, ""));
+        }
+        let who = Who::anyone();
+        let page = || ask(&server, &who, "GET /rows", &[], "");
+        let told = page().await.expect("a page");
+        assert!(told.length() > 100_000 && !server.unread.is_empty());
+        drop(told);
+        assert!(server.unread.is_empty());
+        let mut unread = server.unread.begin([192, 0, 2, 1].into());
+        unread.set(2 * crate::session::UNREAD);
+        assert_eq!(status(page().await), (503, "answers"));
+        drop(unread);
+        assert_eq!(status(page().await), (200, ""));
+    }
+
+    #[tokio::test]
+    async fn a_page_holds_its_snapshot_where_more_follow_unless_it_is_to_hold_none() {
+        let server = server(&[]);
+        let body = r#"{"then":[{"put":"a","value":""},{"put":"b","value":""}]}"#;
+        assert_eq!(status(ask(&server, &Who::anyone(), "POST /transact", &[], body).await), (200, ""));
+        for (query, next, held) in [
+            ("", None, 0),
+            ("?limit=1&hold=0", Some("</rows?lo=b&at=1&limit=1&hold=0>; rel=\"next\""), 0),
+            ("?limit=1", Some("</rows?lo=b&at=1&limit=1>; rel=\"next\""), 1),
+        ] {
+            let told = ask(&server, &Who::anyone(), &format!("GET /rows{query}"), &[], "").await.expect("a page");
+            let link = told.headers.iter().find(|(name, _)| *name == "link").map(|(_, link)| link.as_str());
+            assert_eq!(link, next, "{query}");
+            assert_eq!(server.door.run(|core| core.ledger.protections.len()), held, "{query}");
+        }
+        server.door.run(|core| core.release(1));
+        assert_eq!(status(ask(&server, &Who::anyone(), "GET /rows?hold=9", &[], "").await), (200, ""));
+        assert_eq!(server.door.run(|core| core.ledger.protections.len()), 1, "the last page, as it is asked");
     }
 
     #[test]

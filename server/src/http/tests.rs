@@ -10,6 +10,17 @@ const OWN: &str = "Host: localhost:7077\r\n";
 const LINES: [(&str, &str); 4] =
     [("nothing", "2 unknowncommand"), ("", "1 wordcount"), ("put 1 a", "1 wordcount"), ("\u{e9}", "9 badbyte")];
 
+impl Request {
+    /// One that has passed the gate. Its method and target are a line.
+    pub fn of(server: &Server, who: &Who, line: &str, headers: &[(&str, &str)], body: &str) -> Request {
+        let (method, target) = line.split_once(' ').expect("a method and a target");
+        let asked = hyper::Request::builder().method(method).uri(target);
+        let asked = headers.iter().fold(asked, |asked, (name, value)| asked.header(*name, *value));
+        let connection = server.connections.come(([127, 0, 0, 1], 1).into()).expect("a place");
+        Request::new(asked.body(body.to_string().into()).expect("a request"), who.clone(), connection, server)
+    }
+}
+
 /// What a connection is told that sends these pieces, and then nothing more.
 async fn told(server: &Arc<Server>, pieces: &[&[u8]]) -> Vec<u8> {
     let connection = server.connections.come(([127, 0, 0, 1], 1).into()).expect("a place");

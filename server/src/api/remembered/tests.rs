@@ -1,6 +1,8 @@
 //! Requests with keys, without a database: each is answered with what its body is.
 
 use super::*;
+use crate::gate::{Right, Who};
+use crate::testing::server;
 use std::future::ready;
 use std::sync::Arc;
 
@@ -45,6 +47,36 @@ async fn the_same_request_is_run_once() {
     // Another token's key is another key.
     assert_eq!(ask(&remembered, "other", "k", "2").await, (Ok("2".into()), true));
     assert_eq!(remembered.table.lock().bytes, 3 * 301);
+}
+
+#[tokio::test]
+async fn a_key_is_of_a_token_and_stands_for_all_of_a_request() {
+    let server = server(&[]);
+    let asked = |name: &str, line: &str, headers: &[(&str, &str)], body: &str| {
+        let request = Request::of(&server, &Who::of(name, &[Right::Write]), line, headers, body);
+        let asked = server.remembered.asked(&request, body.as_bytes()).expect("a key").expect("it is given");
+        (asked.named, asked.asked)
+    };
+    let (key, line) = (("idempotency-key", "k"), "PUT /key/a?wait=1");
+    let (named, same) = asked("one", line, &[key], "1");
+    assert_eq!(asked("one", line, &[("idempotency-key", "\"k\"")], "1"), (named, same));
+    for (name, key) in [("other", "k"), ("", "k"), ("one", "l")] {
+        let (other, asked) = asked(name, line, &[("idempotency-key", key)], "1");
+        assert!(other != named && asked == same, "{name} {key}");
+    }
+    for (line, header, body) in [
+        ("POST /key/a?wait=1", None, "1"),
+        ("PUT /key/b?wait=1", None, "1"),
+        ("PUT /key/a?wait=2", None, "1"),
+        (line, Some(("if-match", "\"1\"")), "1"),
+        (line, Some(("if-none-match", "\"1\"")), "1"),
+        (line, None, "2"),
+        (line, None, ""),
+    ] {
+        let headers: Vec<_> = [key].into_iter().chain(header).collect();
+        let (same_key, other) = asked("one", line, &headers, body);
+        assert!(same_key == named && other != same, "{line} {header:?} {body}");
+    }
 }
 
 #[tokio::test]
