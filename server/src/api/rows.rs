@@ -167,7 +167,7 @@ fn path_of(given: &Arguments, lo: &[u8], at: u64) -> String {
 mod tests {
     use super::*;
     use crate::gate::{Keys, Right, Who};
-    use crate::testing::{ask, say, server, session, status};
+    use crate::testing::{answers, ask, server, session, status};
 
     const NAMES: [&str; 7] = ["lo", "hi", "at", "limit", "hold", "wait", "bytes"];
 
@@ -208,7 +208,7 @@ mod tests {
     async fn a_snapshot_that_has_begun_is_waited_for() {
         let server = server(&[]);
         let mut one = server.door.run(session);
-        assert_eq!(server.door.run(|core| say(core, &mut one, "begin\n")), ["started"]);
+        assert_eq!(server.door.run(|core| answers(core, &mut one, "begin\n")), ["started"]);
         assert_eq!(status(ask(&server, &Who::anyone(), "PUT /key/a", &[], "1").await), (200, ""));
         for (query, told) in
             [("?at=2&wait=0", (503, "notclosed")), ("?at=3&wait=0", (409, "notclosed")), ("?at=0&wait=0", (200, ""))]
@@ -218,7 +218,7 @@ mod tests {
         }
         let ends = async {
             tokio::task::yield_now().await;
-            server.door.run(|core| say(core, &mut one, "commit .\n"))
+            server.door.run(|core| answers(core, &mut one, "commit .\n"))
         };
         let who = Who::anyone();
         let (told, _) = tokio::join!(ask(&server, &who, "GET /rows?at=2&wait=30", &[], ""), ends);

@@ -34,7 +34,11 @@ pub fn accept(asked: &Asked) -> Result<String, Refusal> {
         return Err(Refusal::new(400, "websocket", why));
     }
     if asked.has_body || !asked.is_of_1_1 {
-        return Err(Refusal::new(400, "websocket", "a WebSocket is asked for in HTTP/1.1, and without a body"));
+        return Err(Refusal::new(
+            400,
+            "websocket",
+            "a WebSocket is asked for by version 1.1 of HTTP, and without a body",
+        ));
     }
     if asked.version.trim() != VERSION {
         return Err(Refusal::other_version());
