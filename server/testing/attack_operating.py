@@ -24,7 +24,7 @@ from attack_memory import started
 from attack_slow import ended_within
 from attack_wire import refused_start, rest_of
 from handmade import Ended, Session, Wire
-from machine import LONGEST, TOP, Program, Room, Server, free_port, wait_for
+from machine import LONGEST, SERVER, TOP, Program, Room, Server, free_port, wait_for
 
 TOKEN = "0123456789abcdef-mine"
 PUSH_SECONDS = 0.020
@@ -195,14 +195,20 @@ def test_settings(room: Room, scale: Scale) -> str:
         assert path in told or "max-message" in told or "no-such-setting" in told, told
     for options in (("--port", "0"), ("--max-lag", "1", "--max-lag=1"), ("--log-json", "--log-json")):
         assert "twice" in refused_start(room, *options), options
-    for word, is_json in (("1", True), ("true", True), ("yes", True), ("0", False), ("false", False), ("no", False)):
-        flag = {**os.environ, "RIPSAWBEAN_LOG_JSON": word, "RIPSAWBEAN_LOG_LEVEL": "info"}
-        server = started(room, env=flag)
+    return "six ways, four wrong files, three options twice"
+
+
+def test_flags_of_the_environment(room: Room, scale: Scale) -> str:
+    """A flag may be yes or no, true or false, 1 or 0."""
+    def logged(word: str) -> str:
+        server = started(room, env={**os.environ, "RIPSAWBEAN_LOG_JSON": word, "RIPSAWBEAN_LOG_LEVEL": "info"})
+        before = len(server.words())
         Session(server.port).reset()
-        wait_for(lambda: "session_over" in server.words(), "the log")
-        assert ('"session_over"' in server.words().splitlines()[-1]) == is_json, (word, server.words())
-        server.kill()
-    return "six ways, four wrong files, three options twice, six words of a flag"
+        wait_for(lambda: "session_opened" in server.words()[before:], "the log")
+        return server.words()[before:]
+    for word, is_json in (("1", True), ("true", True), ("yes", True), ("0", False), ("false", False), ("no", False)):
+        assert logged(word).startswith("{") == is_json, (word, logged(word))
+    return "six words"
 
 
 def test_a_folder_in_none(room: Room, scale: Scale) -> str:

@@ -133,6 +133,7 @@ async def see_other_codings(client, seen):
     status, headers = await asyncio.to_thread(wire.head)
     seen.add((status, json.loads(wire.exactly(int(headers["content-length"])))["error"]))
     assert await asyncio.to_thread(wire.ends_within, 20)
+    wire.close()
 
 
 async def see_tokens(ask):
