@@ -34,8 +34,8 @@ use std::time::{Duration, Instant};
 const LONGEST_WAIT: Duration = Duration::from_millis(20);
 /// An undecided transaction may be so old while memory is full and others grow above it.
 const SHORT_AGE: Duration = Duration::from_secs(1);
-/// Rows that one collection lets go, as far as closings allow.
-const ROWS_A_COLLECTION: u64 = 20_000;
+/// Rows that one collection lets go within a turn, as far as closings allow.
+const ROWS_A_COLLECTION: u64 = 5000;
 
 /// When to close and collect, and what to let go.
 #[derive(Debug)]

@@ -113,18 +113,23 @@ impl Core {
         }
     }
 
-    /// Makes the call of a session's line, which has its newline and no seat, and puts the event's text behind `out`,
-    /// where all answers to a message have `--max-answer` bytes. After an error no call was made, but for `Unwritten`:
-    /// the call was made, and its text is lost.
-    pub fn call(&mut self, session: &mut Session, line: &[u8], out: &mut Vec<u8>) -> Result<Outcome, CallError> {
-        let most = self.limits.max_answer.saturating_sub(out.len()) as u64;
+    /// Makes the call of a session's line, which has its newline and no seat, and puts the event's text behind `out`. What
+    /// has no bound of its own has this many bytes at most. After an error no call was made, but for `Unwritten`: the call
+    /// was made, and its text is lost.
+    pub fn call(
+        &mut self,
+        session: &mut Session,
+        line: &[u8],
+        most: usize,
+        out: &mut Vec<u8>,
+    ) -> Result<Outcome, CallError> {
         let mut wanted = Wanted::Text(out);
         self.line.clear();
         // Writing to a vector can't fail.
         let _ = write!(self.line, "{} ", session.seat);
         self.line.extend_from_slice(line);
         let called = match may_be_long(line) {
-            true => self.database.calls_within(&self.line, most).next().expect("a line has a result"),
+            true => self.database.calls_within(&self.line, most as u64).next().expect("a line has a result"),
             false => self.database.call(&self.line),
         };
         let is_told = match called {

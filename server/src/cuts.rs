@@ -23,6 +23,8 @@ use std::ops::Bound;
 pub const SHARE: u64 = 1024;
 /// Those that one call may pass over, which takes some 15 milliseconds.
 pub const MOST: usize = 32;
+/// Those that a short one may.
+pub const FEW: usize = 4;
 
 /// The last write of a key.
 #[derive(Clone, Copy, Debug, PartialEq, Eq)]

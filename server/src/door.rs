@@ -7,12 +7,19 @@
 //! 2. When the lock is given back, closing was done where it is due, or its time is known to `due`.
 //! 3. How full memory is was looked at soon after the last rows were written.
 //! 4. `moved` changes after the lock was given back, so who is woken finds it free.
-//! 5. One call may take far longer than a turn, and several of them one after another would let in one of the others' each.
-//!    So who took too long while others waited rests before its next turn.
+//! 5. Work that may hold the lock for longer than a turn goes one at a time, in the order in which it came: who has such
+//!    work takes the lane for it before it waits for the lock. So who comes with short work waits for one such at most.
+//! 6. Behind work that took too long while others waited, the lane rests. So long work leaves a third of the time to
+//!    others, however much of it there is.
+//! 7. No one has the lane who waits for anything but the lane's rest and the lock. Who goes away gives it back.
+//!
+//! What is long is known before, by its size, or shows itself within the time of a short one, and then begins anew in the
+//! lane. What isn't found out so is known behind it: who overran its turn takes the lane for the next one.
 //!
 //! ```text
 //! door.run(|core| core.ledger.closed)                       a short look
-//! door.turns(|core, until| core.end(seat, until)).await     work that may be long: 5 ms, and again
+//! door.turns(|core, until| core.end(seat, until)).await     work that can be cut: 5 ms, and again
+//! door.turn_of(plan.length(), |core, _| ..).await           work that can't: in the lane, where it may be long
 //! ```
 
 use crate::core::Core;
@@ -21,15 +28,26 @@ use crate::process;
 use parking_lot::{Mutex, MutexGuard};
 use std::sync::atomic::{AtomicUsize, Ordering::Relaxed};
 use std::time::{Duration, Instant};
-use tokio::sync::{watch, Notify};
+use tokio::sync::{watch, Notify, Semaphore, SemaphorePermit};
 use tokio::time::sleep;
 
 /// After so long others get a turn.
 pub const TURN: Duration = Duration::from_millis(5);
-/// Who took longer rests for this part of what it took too much.
+/// Who took so much more has overrun its turn.
+const MUCH: Duration = Duration::from_micros(2500);
+/// The lane rests for this part of what a turn took too much.
 const REST: u32 = 2;
 /// Shorter rests aren't worth a timer.
-pub const SHORTEST_REST: Duration = Duration::from_millis(1);
+const SHORTEST_REST: Duration = Duration::from_millis(1);
+
+/// How long work may hold the lock, or has held it.
+#[derive(Clone, Copy, Debug, PartialEq, Eq)]
+pub enum Length {
+    /// For a turn.
+    Short,
+    /// For far longer.
+    Long,
+}
 
 /// Whether work has come to its end in its turn.
 #[derive(Clone, Copy, Debug, PartialEq, Eq)]
@@ -40,12 +58,28 @@ pub enum Turn {
     Until(Ticket),
     /// It goes on once there is room for a long answer.
     Crowded,
+    /// It goes on in the lane, as its next call may be long.
+    Long,
+}
+
+impl Turn {
+    /// How long the next one may be.
+    pub fn next(self) -> Length {
+        match self {
+            Turn::Long => Length::Long,
+            _ => Length::Short,
+        }
+    }
 }
 
 pub struct Door {
     core: Mutex<Core>,
     /// How many wait for the lock.
     waiting: AtomicUsize,
+    /// Who has its permit has the lane. It is fair.
+    lane: Semaphore,
+    /// Until when the lane rests.
+    rests: Mutex<Instant>,
     durable: Durable,
     moved: watch::Sender<u64>,
     due: Notify,
@@ -55,7 +89,8 @@ impl Door {
     pub fn new(core: Core) -> Door {
         let durable = core.journal.durable();
         let (waiting, moved) = (AtomicUsize::new(0), watch::channel(0).0);
-        Door { core: Mutex::new(core), waiting, durable, moved, due: Notify::new() }
+        let (lane, rests) = (Semaphore::new(1), Mutex::new(Instant::now()));
+        Door { core: Mutex::new(core), waiting, lane, rests, durable, moved, due: Notify::new() }
     }
 
     fn lock(&self) -> MutexGuard<'_, Core> {
@@ -91,26 +126,58 @@ impl Door {
 
     /// One turn of work, which looks at the time that it gets.
     pub fn turn<R>(&self, work: impl FnOnce(&mut Core, Instant) -> R) -> R {
-        self.turn_and_rest(work).0
+        self.measured(work).0
     }
 
-    /// The same, and how long to rest before the next one: see `rest`.
-    pub fn turn_and_rest<R>(&self, work: impl FnOnce(&mut Core, Instant) -> R) -> (R, Duration) {
+    /// The same of work that may be so long: in the lane, where it may be long. And how long it was.
+    pub async fn turn_of<R>(&self, length: Length, work: impl FnOnce(&mut Core, Instant) -> R) -> (R, Length) {
+        let _lane = match length {
+            Length::Short => None,
+            Length::Long => Some(self.lane().await),
+        };
+        self.measured(work)
+    }
+
+    /// Keeps the lane, as long work does.
+    #[cfg(test)]
+    pub async fn keep_lane(&self) -> SemaphorePermit<'_> {
+        self.lane().await
+    }
+
+    /// Waits for the lane, and until it has rested.
+    async fn lane(&self) -> SemaphorePermit<'_> {
+        let lane = self.lane.acquire().await.expect("it is never closed");
+        let left = self.rests.lock().saturating_duration_since(Instant::now());
+        if !left.is_zero() {
+            sleep(left).await;
+        }
+        lane
+    }
+
+    fn measured<R>(&self, work: impl FnOnce(&mut Core, Instant) -> R) -> (R, Length) {
         self.run(|core| {
             let until = Instant::now() + TURN;
             let result = work(core, until);
-            let over = Instant::now().saturating_duration_since(until);
+            let now = Instant::now();
+            let over = now.saturating_duration_since(until);
             let is_alone = self.waiting.load(Relaxed) == 0;
-            (result, if is_alone { Duration::ZERO } else { over / REST })
+            if !is_alone && over / REST >= SHORTEST_REST {
+                let mut rests = self.rests.lock();
+                *rests = (now + over / REST).max(*rests);
+            }
+            (result, if over > MUCH { Length::Long } else { Length::Short })
         })
     }
 
     /// Work in turns, to its end.
     pub async fn turns(&self, mut work: impl FnMut(&mut Core, Instant) -> Turn) {
+        let mut length = Length::Short;
         loop {
-            match self.turn(&mut work) {
+            let (turn, was) = self.turn_of(length, &mut work).await;
+            length = was;
+            match turn {
                 Turn::Done => return,
-                Turn::More | Turn::Crowded => tokio::task::yield_now().await,
+                Turn::More | Turn::Crowded | Turn::Long => tokio::task::yield_now().await,
                 Turn::Until(ticket) => self.until(ticket).await,
             }
         }
@@ -143,39 +210,119 @@ impl Door {
     }
 }
 
-/// Lets others in between two turns.
-pub async fn rest(time: Duration) {
-    match time < SHORTEST_REST {
-        true => tokio::task::yield_now().await,
-        false => sleep(time).await,
-    }
-}
-
 #[cfg(test)]
 mod tests {
-    use crate::testing::server;
-    use std::sync::atomic::Ordering::Relaxed;
-    use std::time::Duration;
+    use super::*;
+    use crate::testing::{server, waits};
+    use std::future::Future;
+    use std::sync::atomic::{AtomicBool, Ordering::SeqCst};
+    use std::thread::{self, sleep, yield_now};
 
     const LONG: Duration = Duration::from_millis(45);
 
+    /// Waits as a thread, however busy the machine is.
+    fn wait_until(is_so: impl Fn() -> bool) {
+        while !is_so() {
+            yield_now();
+        }
+    }
+
+    fn run<T>(work: impl Future<Output = T>) -> T {
+        tokio::runtime::Builder::new_current_thread().enable_all().build().expect("a runtime").block_on(work)
+    }
+
+    /// Keeps the lock for long, until another one waits for it. Gives when it had it.
+    fn while_one_waits(door: &Door) -> Instant {
+        sleep(LONG);
+        wait_until(|| door.waiting.load(Relaxed) > 0);
+        Instant::now()
+    }
+
     #[test]
-    fn who_takes_too_long_rests_where_others_wait() {
+    fn where_much_long_work_waits_one_of_it_is_in_the_way_of_short_work() {
+        let server = server(&[]);
+        let (door, has_begun, all_wait) = (&server.door, AtomicBool::new(false), AtomicBool::new(false));
+        let others = || async {
+            wait_until(|| has_begun.load(SeqCst));
+            let long = || door.turn_of(Length::Long, |_, _| {});
+            // Each has asked for the lane when the last one is asked.
+            let last = async { all_wait.store(true, SeqCst) };
+            tokio::join!(long(), long(), long(), long(), long(), long(), long(), last);
+        };
+        let waiting = thread::scope(|scope| {
+            let first = scope.spawn(|| {
+                let first = door.turn_of(Length::Long, |_, _| {
+                    has_begun.store(true, SeqCst);
+                    wait_until(|| all_wait.load(SeqCst) && door.waiting.load(Relaxed) > 0);
+                    door.waiting.load(Relaxed)
+                });
+                run(first).0
+            });
+            scope.spawn(|| run(others()));
+            wait_until(|| all_wait.load(SeqCst));
+            door.run(|_| {});
+            first.join().expect("it doesn't panic")
+        });
+        // No one but the short work waited for the lock.
+        assert_eq!((waiting, door.waiting.load(Relaxed), door.lane.available_permits()), (1, 0, 1));
+    }
+
+    #[test]
+    fn the_lane_rests_behind_work_that_was_too_long_while_others_waited() {
         let server = server(&[]);
         let door = &server.door;
-        let (_, alone) = door.turn_and_rest(|_, _| std::thread::sleep(LONG));
-        assert_eq!(alone, Duration::ZERO);
-        std::thread::scope(|scope| {
-            let (_, rest) = door.turn_and_rest(|_, _| {
-                scope.spawn(|| door.run(|_| {}));
-                std::thread::sleep(LONG);
-                while door.waiting.load(Relaxed) == 0 {
-                    std::thread::yield_now();
-                }
+        let next = || run(door.turn_of(Length::Long, |_, _| Instant::now())).0;
+        let rests = || *door.rests.lock();
+        let (before, (_, was)) = (rests(), run(door.turn_of(Length::Long, |_, _| sleep(LONG))));
+        assert_eq!((rests(), was), (before, Length::Long));
+        // Also where it didn't have the lane.
+        for length in [Length::Long, Length::Short] {
+            thread::scope(|scope| {
+                let (end, was) = run(door.turn_of(length, |_, _| {
+                    scope.spawn(|| door.run(|_| {}));
+                    while_one_waits(door)
+                }));
+                assert!(was == Length::Long && next() >= end + (LONG - TURN) / REST);
             });
-            assert!(rest >= Duration::from_millis(20), "{rest:?}");
-        });
-        let (_, short) = door.turn_and_rest(|_, _| {});
-        assert_eq!((short, door.waiting.load(Relaxed)), (Duration::ZERO, 0));
+        }
+    }
+
+    #[tokio::test(start_paused = true)]
+    async fn the_lane_goes_to_who_came_first_and_is_given_back_by_who_goes_away() {
+        let server = server(&[]);
+        let (door, order) = (&server.door, Mutex::new(Vec::new()));
+        let long = |name: u8| {
+            let order = &order;
+            async move { door.turn_of(Length::Long, |_, _| order.lock().push(name)).await }
+        };
+        let (first, mut goes) = (door.lane().await, Box::pin(door.lane()));
+        assert!(waits(goes.as_mut()).await);
+        let behind = async { tokio::join!(long(1), long(2), long(3)) };
+        let given_back = async {
+            drop(goes);
+            drop(first);
+        };
+        let all = async { tokio::join!(behind, given_back) };
+        tokio::time::timeout(Duration::from_secs(60), all).await.expect("who went away isn't waited for");
+        assert_eq!(*order.lock(), [1, 2, 3]);
+    }
+
+    #[tokio::test]
+    async fn work_in_turns_takes_the_lane_behind_a_turn_that_was_long() {
+        let server = server(&[]);
+        let (door, mut had) = (&server.door, Vec::new());
+        door.turns(|_, _| {
+            had.push(door.lane.available_permits() == 0);
+            if had.len() == 1 {
+                sleep(LONG);
+            }
+            // On a busy machine some more may be long.
+            match had[..] {
+                [_, .., false] => Turn::Done,
+                _ => Turn::More,
+            }
+        })
+        .await;
+        assert!(had.len() > 2 && had[..2] == [false, true], "{had:?}");
     }
 }

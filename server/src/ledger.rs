@@ -100,6 +100,8 @@ pub struct Closings {
     pub at: u64,
 }
 
+/// Rows above its floor that a feed passes over within a turn.
+const NEAR: u64 = 5000;
 /// Closings within this time are one entry of `Ledger::closings`.
 const ONE_ENTRY: Duration = Duration::from_millis(10);
 
@@ -247,6 +249,11 @@ impl Ledger {
     /// How a feed of the server's own has ended, once.
     pub fn take_end(&mut self, feed: u64) -> Option<Ended> {
         self.ended.remove(&feed)
+    }
+
+    /// Whether a feed may have to pass over more rows than it does within a turn.
+    pub fn is_far_behind(&self, feed: u64) -> bool {
+        self.feeds.get(&feed).is_some_and(|feed| self.rows.above(feed.floor).rows > NEAR)
     }
 
     /// Whether a feed's reader has no room. Closing doesn't wait for such a feed.

@@ -28,11 +28,13 @@
 //! 2. A faulty line makes no call, and the session goes on.
 //! 3. Codes below 64 are the database's own, which docs/GUIDE.md lists. Those from 64 on are the server's.
 //! 4. A line whose answer may be long waits until unread answers have room: `Lines::has_room`.
+//! 5. A line whose call holds the lock for longer than a turn waits for the lane: `Lines::length`. A scan or a poll is
+//!    tried with a short answer before.
 
 use crate::budget::FREE;
 use crate::core::{may_be_long, Core};
 use crate::cuts;
-use crate::door::Turn;
+use crate::door::{Length, Turn};
 use crate::faults::why;
 use crate::gate::Right;
 use crate::journal::Ticket;
@@ -45,6 +47,8 @@ use std::time::Instant;
 
 const GREATEST_LENGTH: usize = 19; // digits of the greatest timestamp
 const MOST_POLLED: u64 = 63; // messages: at their longest they have 4 MB, which --max-answer lets through
+const SHORT: usize = 1 << 18; // bytes of rows or messages that take some 2 milliseconds
+const MOST_WRITTEN: u64 = 5000; // rows of a transaction that take as long to decide
 
 /// What a session may do.
 #[derive(Clone, Copy, Debug)]
@@ -121,6 +125,8 @@ pub struct Lines {
     pub answers: Vec<u8>,
     /// Whether an answer that may be long has room, beside those that others haven't read. Who has the lock sets it.
     pub has_room: bool,
+    /// How long a call may be. Who has the lock sets it.
+    pub length: Length,
     pub told: Told,
     /// What the answers rest on.
     pub rests: Ticket,
@@ -140,7 +146,7 @@ pub struct Told {
 impl Lines {
     pub fn new(data: Vec<u8>) -> Lines {
         let (told, rests) = (Told::default(), Ticket::NONE);
-        Lines { data, taken: 0, answers: Vec::new(), has_room: true, told, rests }
+        Lines { data, taken: 0, answers: Vec::new(), has_room: true, length: Length::Long, told, rests }
     }
 
     /// Whether a line was taken.
@@ -149,7 +155,7 @@ impl Lines {
     }
 
     /// Takes lines until this time, one at least. Once the answers are too long, no further call is made. Where it gives
-    /// `Turn::Until` or `Turn::Crowded`, the next line waits for that.
+    /// `Turn::Until`, `Turn::Crowded` or `Turn::Long`, the next line waits for that.
     pub fn turn(&mut self, core: &mut Core, session: &mut Session, until: Instant) -> Result<Turn, Lost> {
         core.journal.begin();
         let turn = self.take(core, session, until);
@@ -169,10 +175,11 @@ impl Lines {
             }
             session.lines += 1;
             let (line, out) = (&rest[..end], &mut self.answers);
-            if out.len() < core.limits.max_reply {
-                take(core, session, line, &mut self.told, out)?;
-            } else {
+            if out.len() >= core.limits.max_reply {
                 self.told.tell(core, session, Fault::ReplyTooLong, line, out)?;
+            } else if take(core, session, line, self.length, &mut self.told, out)? == Turn::Long {
+                session.lines -= 1;
+                return Ok(Turn::Long);
             }
             self.taken += end;
             if Instant::now() >= until {
@@ -183,14 +190,25 @@ impl Lines {
     }
 }
 
-fn take(core: &mut Core, session: &mut Session, line: &[u8], told: &mut Told, out: &mut Vec<u8>) -> Result<(), Lost> {
+/// Takes a line: `Turn::Long` where nothing was done, as its call would be longer than it may.
+fn take(
+    core: &mut Core,
+    session: &mut Session,
+    line: &[u8],
+    length: Length,
+    told: &mut Told,
+    out: &mut Vec<u8>,
+) -> Result<Turn, Lost> {
     let begins = matches!(line.strip_prefix(b"begin"), Some([] | [b' ' | b'\n', ..]));
     told.is_spoiled &= !begins;
     let has_dot = has_dot(session, line);
+    let most = core.limits.max_answer.saturating_sub(out.len());
+    let bound = if length == Length::Short { most.min(SHORT) } else { most };
     let made = match prepared(core, session, line, told.is_spoiled && has_dot) {
         Err(fault) => return told.tell(core, session, fault, line, out),
-        Ok(None) => core.call(session, line, out),
-        Ok(Some(other)) => core.call(session, &other, out),
+        Ok(_) if length == Length::Short && takes_long(core, session, line) => return Ok(Turn::Long),
+        Ok(None) => core.call(session, line, bound, out),
+        Ok(Some(other)) => core.call(session, &other, bound, out),
     };
     match made {
         Ok(outcome) => {
@@ -201,13 +219,35 @@ fn take(core: &mut Core, session: &mut Session, line: &[u8], told: &mut Told, ou
                 told.has_refusal = true;
                 told.is_spoiled |= has_dot;
             }
-            Ok(())
+            Ok(Turn::Done)
         }
+        Err(CallError::AnswerTooLong) if bound < most => Ok(Turn::Long),
         Err(CallError::Line(fault)) => told.fault(core, session, fault.code(), fault.name(), line, out),
         Err(CallError::NoMemory) => told.fault(core, session, 12, "nomemory", line, out),
         Err(CallError::Spent) => told.fault(core, session, 13, "spent", line, out),
         Err(CallError::AnswerTooLong) => told.tell(core, session, Fault::AnswerTooLong, line, out),
         Err(CallError::Unwritten) => Err(Lost),
+    }
+}
+
+/// Whether a line's call holds the lock for longer than a turn, whatever it tells.
+fn takes_long(core: &Core, session: &Session, line: &[u8]) -> bool {
+    let whole = line.strip_suffix(b"\n").unwrap_or(line);
+    let (command, rest) = match whole.iter().position(|&byte| byte == b' ') {
+        Some(at) => (&whole[..at], &whole[at + 1..]),
+        None => return false,
+    };
+    let number = || number_in(rest.split(|&byte| byte == b' ').next()?);
+    match command {
+        b"scan" | b"scanat" => passes_over(core, session, rest, cuts::FEW),
+        b"poll" => number().is_some_and(|feed| core.ledger.is_far_behind(feed)),
+        b"commit" | b"abort" => {
+            let timestamp = if rest == b"." { session.last } else { number() };
+            let transaction = timestamp.and_then(|timestamp| core.ledger.undecided.get(&timestamp));
+            transaction.is_some_and(|transaction| transaction.wrote.rows > MOST_WRITTEN)
+        }
+        b"collect" | b"closehard" => true,
+        _ => false,
     }
 }
 
@@ -232,7 +272,7 @@ impl Told {
         fault: Fault,
         line: &[u8],
         out: &mut Vec<u8>,
-    ) -> Result<(), Lost> {
+    ) -> Result<Turn, Lost> {
         self.fault(core, session, fault.code(), fault.name(), line, out)
     }
 
@@ -244,7 +284,7 @@ impl Told {
         name: &'static str,
         line: &[u8],
         out: &mut Vec<u8>,
-    ) -> Result<(), Lost> {
+    ) -> Result<Turn, Lost> {
         core.ledger.refused(name);
         // What was left out follows from another fault, or from a refusal.
         self.has_fault |= name != Fault::Skipped.name();
@@ -253,7 +293,7 @@ impl Told {
         // Answers may be long already, and have to move where they grow.
         out.try_reserve(told.len()).map_err(|_| Lost)?;
         out.extend_from_slice(told.as_bytes());
-        Ok(())
+        Ok(Turn::Done)
     }
 }
 
@@ -283,7 +323,7 @@ fn prepared(core: &Core, session: &mut Session, line: &[u8], is_spoiled: bool) -
         (b"closehard", Some(to)) => bound(core, to).map(|()| None),
         (b"put", Some(_)) if !core.is_full() => Ok(dot(session, command, line)),
         (b"put", Some(_)) => Err(Fault::Full),
-        (b"scan" | b"scanat", Some(rest)) if passes_over_many(core, session, rest) => Err(Fault::AnswerTooLong),
+        (b"scan" | b"scanat", Some(rest)) if passes_over(core, session, rest, cuts::MOST) => Err(Fault::AnswerTooLong),
         (b"openinitial" | b"openinitialevery", Some(rest)) if begins_with_many(core, rest) => Err(Fault::AnswerTooLong),
         (b"get" | b"scan" | b"del" | b"commit" | b"abort", Some(_)) => Ok(dot(session, command, line)),
         (b"open" | b"openinitial" | b"openevery" | b"openinitialevery" | b"protect", Some(_)) if !core.may_hold() => {
@@ -408,24 +448,24 @@ fn has_room(core: &Core, session: &Session, kind: Kind) -> Prepared {
     }
 }
 
-/// Whether a scan would pass over too many keys of which it tells nothing, whatever it tells: that can't be cut into turns.
-fn passes_over_many(core: &Core, session: &Session, rest: &[u8]) -> bool {
+/// Whether a scan would pass over more cuts than these, whatever it tells: that can't be cut into turns.
+fn passes_over(core: &Core, session: &Session, rest: &[u8], most: usize) -> bool {
     let words: Vec<&[u8]> = rest.split(|&byte| byte == b' ').collect();
-    is_far(core, number_in(words[0]).or(session.last), &words[1..])
+    is_far(core, number_in(words[0]).or(session.last), &words[1..], most)
 }
 
 /// The same of the snapshot that a feed begins with.
 fn begins_with_many(core: &Core, rest: &[u8]) -> bool {
     let words: Vec<&[u8]> = rest.split(|&byte| byte == b' ').collect();
-    is_far(core, words.get(2).and_then(|word| number_in(word)), &words)
+    is_far(core, words.get(2).and_then(|word| number_in(word)), &words, cuts::MOST)
 }
 
-fn is_far(core: &Core, at: Option<u64>, bounds: &[&[u8]]) -> bool {
+fn is_far(core: &Core, at: Option<u64>, bounds: &[&[u8]], most: usize) -> bool {
     let key = |at: usize| unspell(std::str::from_utf8(bounds.get(at)?).ok()?);
     // What isn't right is the database's to refuse.
     let (Some(at), Some(lo), Some(hi)) = (at, key(0), key(1)) else { return false };
     let hi = Some(hi.as_slice()).filter(|hi| !hi.is_empty());
-    let is_far = core.cuts.passed(&lo, hi, at).nth(cuts::MOST).is_some();
+    let is_far = core.cuts.passed(&lo, hi, at).nth(most).is_some();
     is_far
 }
 

@@ -8,7 +8,8 @@
 //!
 //! `GET /transcript` has the events that are kept. `GET /healthz` says whether the server is well, to everyone.
 //!
-//! 1. The lock is held for a few milliseconds at a time, however much there is to tell, but for a state of many holders.
+//! 1. The lock is held for a few milliseconds at a time, however much there is to tell, but for a state of many holders,
+//!    which takes the lane.
 //! 2. Reports that their readers don't take have a bound of bytes together: `UNREAD`. Beyond it they are refused.
 //! 3. A transcript is whole from its first event to below `Ripsawbean-Next`, or its connection is cut.
 //! 4. Who may see some keys alone is told of no others: no transcript, no state, and no bounds of a wider feed.
@@ -16,6 +17,7 @@
 use crate::budget::Held;
 use crate::consumers::lines_of_all;
 use crate::core::Core;
+use crate::door::Length;
 use crate::gate::Keys;
 use crate::http::{Request, Response, Sender};
 use crate::journal::Ticket;
@@ -33,6 +35,8 @@ use std::time::Instant;
 pub const UNREAD: usize = 32 << 20;
 /// Lines of each kind: those that stand lowest.
 const MOST_LINES: usize = 1000;
+/// Bytes of a state that is told within a turn.
+const SHORT: usize = 1 << 19;
 /// Bytes of a transcript that are taken at a time: two pieces wait for a slow reader.
 const PIECE: usize = 1 << 16;
 /// A transcript's first line.
@@ -42,11 +46,16 @@ pub async fn state(server: &Arc<Server>, request: Request) -> Result<Response, R
     check_keys(&request)?;
     arguments(&request.path, &request.query, &[])?;
     let mut report = Report::begin(server, &request);
-    let text = server.door.run(|core| {
+    let length = match server.door.run(|core| most_of_state(core)) {
+        ..=SHORT => Length::Short,
+        _ => Length::Long,
+    };
+    let told = server.door.turn_of(length, |core, _| {
         report.will_have(most_of_state(core))?;
         core.state().ok_or_else(Refusal::no_memory)
-    })?;
-    report.add(text)?;
+    });
+    let (text, _) = told.await;
+    report.add(text?)?;
     Ok(report.told())
 }
 

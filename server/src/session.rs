@@ -8,10 +8,11 @@
 //! 3. No more calls' answers wait for their readers than there are seats, and all unread answers together have a bound
 //!    of bytes: `UNREAD`, and one message's answers more. A line whose answer may be long waits for the others' readers.
 //! 4. Where an answer's text was lost for want of memory, the session ends: nobody is told that a call wasn't made.
+//! 5. A line whose call is long waits for the lane, and with it the lines behind it.
 
 use crate::budget::Held;
 use crate::connections::Connection;
-use crate::door::{self, Turn};
+use crate::door::{Length, Turn};
 use crate::gate::{Right, Who};
 use crate::http::{Request, Response};
 use crate::journal::Ticket;
@@ -138,23 +139,26 @@ pub fn place_of_answer(server: &Server, who: &Who, connection: &Connection) -> R
 async fn answer(seated: &mut Seated, lines: &mut Lines, unread: &mut Held) -> Result<(), Refusal> {
     let Seated { server, session } = seated;
     let refused = |error, why| Err(Refusal::new(500, error, why));
-    let mut crowded: Option<tokio::time::Instant> = None;
+    let (mut length, mut crowded) = (Length::Short, None);
     loop {
-        let (turn, rest) = server.door.turn_and_rest(|core, until| {
+        let turned = server.door.turn_of(length, |core, until| {
             core.seats.hears(session.seat);
-            lines.has_room = unread.has_room();
+            (lines.has_room, lines.length) = (unread.has_room(), length);
             let turn = lines.turn(core, session, until);
             unread.set(lines.answers.len());
             turn
         });
+        let (turn, _) = turned.await;
+        length = turn.map_or(Length::Short, Turn::next);
         match turn {
             Ok(Turn::Done) => return Ok(()),
-            Ok(Turn::More | Turn::Crowded) if session.ended_by().is_some() => {
+            Ok(Turn::More | Turn::Crowded | Turn::Long) if session.ended_by().is_some() => {
                 return refused("ended", "an operator has ended the session: lines were taken, and others weren't")
             }
+            Ok(Turn::Long) => {}
             Ok(Turn::More) => {
                 crowded = None;
-                door::rest(rest).await;
+                tokio::task::yield_now().await;
             }
             Ok(Turn::Until(ticket)) => server.door.until(ticket).await,
             Ok(Turn::Crowded)
@@ -258,22 +262,42 @@ mod tests {
         assert!(place(&writer).is_ok());
     }
 
+    /// What a call of lines is refused with, and bytes of their answers.
+    async fn told(server: &Arc<Server>, text: &str) -> (Option<(u16, &'static str)>, usize) {
+        let (connection, who) = (connection(server, 1), Who::anyone());
+        let mut place = place_of_answer(server, &who, &connection).expect("a place");
+        let mut seated = Seated::take(server, who, &connection).expect("a seat");
+        let mut lines = Lines::new(text.as_bytes().to_vec());
+        let told = answer(&mut seated, &mut lines, &mut place.unread).await;
+        (told.err().map(|refusal| (refusal.status, refusal.error)), lines.answers.len())
+    }
+
+    #[tokio::test(start_paused = true)]
+    async fn a_long_scan_waits_for_the_lane_and_a_short_one_does_not() {
+        let server = server(&[]);
+        for from in [0, 5000, 10_000] {
+            let puts: String = (from..from + 5000).map(|at| format!("put . k{at:05} v\n")).collect();
+            assert_eq!(told(&server, &format!("begin\n{puts}commit .\n")).await.0, None);
+        }
+        let asked = |text| tokio::time::timeout(Duration::from_secs(60), told(&server, text));
+        let (long, short) = ("begin\nscan . k l\nabort .\n", "begin\nscan . k k01000\nput . a 1\ncommit .\n");
+        let lane = server.door.keep_lane().await;
+        assert!(asked(long).await.is_err() && asked(short).await.is_ok());
+        let given_back = async {
+            tokio::task::yield_now().await;
+            drop(lane);
+        };
+        let (told, ()) = tokio::join!(asked(long), given_back);
+        let (refused, length) = told.expect("the lane is free");
+        assert!(refused.is_none() && length > 15_000 * "row k00000 v\n".len(), "{length} bytes");
+    }
+
     #[tokio::test(start_paused = true)]
     async fn a_long_answer_waits_for_other_readers_and_a_short_one_does_not() {
         let server = server(&["--patience", "5"]);
-        let (connection, who) = (connection(&server, 1), Who::anyone());
-        let mut unread = server.unread.begin(connection.peer.ip());
+        let mut unread = server.unread.begin([192, 0, 2, 1].into());
         unread.set(UNREAD);
-        let ask = |text: &'static str| {
-            let (server, connection, who) = (server.clone(), connection.clone(), who.clone());
-            async move {
-                let mut place = place_of_answer(&server, &who, &connection).expect("a place");
-                let mut seated = Seated::take(&server, who, &connection).expect("a seat");
-                let mut lines = Lines::new(text.as_bytes().to_vec());
-                let told = answer(&mut seated, &mut lines, &mut place.unread).await;
-                (told.err().map(|refusal| (refusal.status, refusal.error)), lines.answers.len())
-            }
-        };
+        let ask = |text: &'static str| told(&server, text);
         assert_eq!(ask("begin\nput . a 1\nget . a\ncommit .\n").await.0, None);
         assert_eq!(ask("scanat 0 - -\n").await, (Some((503, "answers")), 0));
         let (refused, told) = ask("stats\nscanat 0 - -\n").await;

@@ -18,7 +18,8 @@ mod end;
 
 use crate::budget::Held;
 use crate::connections::Connection;
-use crate::door::{self, Turn};
+use crate::core::Core;
+use crate::door::{Length, Turn};
 use crate::http::Stream;
 use crate::journal::Ticket;
 use crate::lines::{Lines, Lost};
@@ -57,6 +58,8 @@ pub struct Socket {
     out: Vec<u8>,
     /// What its client hasn't read counts here.
     unread: Held,
+    /// How long its next turn may be.
+    length: Length,
     /// Since when its next line waits for others' readers.
     crowded: Option<tokio::time::Instant>,
     /// What the answers among it rest on.
@@ -84,6 +87,7 @@ impl Socket {
             stream,
             decoder: Decoder::new(seated.server.options.max_message),
             unread: seated.server.unread.begin(connection.peer.ip()),
+            length: Length::Short,
             crowded: None,
             connection,
             seated,
@@ -225,8 +229,7 @@ impl Socket {
     /// Answers all messages that wait, in turns.
     async fn answer_all(&mut self) -> Result<(), End> {
         while !self.waiting.is_empty() {
-            let (turn, rest) = self.turn();
-            let turn = turn.map_err(|Lost| End::UNWRITTEN)?;
+            let turn = self.turn().await?;
             if self.out.len() >= WRITE || matches!(turn, Turn::Done | Turn::Crowded) {
                 self.write().await?;
             }
@@ -238,9 +241,10 @@ impl Socket {
                 Turn::Until(ticket) => self.until(ticket).await?,
                 Turn::Crowded => self.room().await?,
                 Turn::Done => self.crowded = None,
+                Turn::Long => {}
                 Turn::More => {
                     self.crowded = None;
-                    door::rest(rest).await;
+                    tokio::task::yield_now().await;
                 }
             }
         }
@@ -271,14 +275,15 @@ impl Socket {
         }
     }
 
-    /// Answers messages until the turn is over, or there is enough to write, and says how long to rest then.
-    fn turn(&mut self) -> (Result<Turn, Lost>, Duration) {
-        let Socket { seated, waiting, ahead, out, unread, rests, .. } = self;
+    /// Answers messages until the turn is over, or there is enough to write.
+    async fn turn(&mut self) -> Result<Turn, End> {
+        let Socket { seated, connection, waiting, ahead, out, unread, rests, length, .. } = self;
         let Seated { server, session } = seated;
-        server.door.turn_and_rest(|core, until| {
+        let may_be = *length;
+        let work = |core: &mut Core, until| {
             core.seats.hears(session.seat);
             while let Some(first) = waiting.front_mut() {
-                first.lines.has_room = unread.has_room();
+                (first.lines.has_room, first.lines.length) = (unread.has_room(), may_be);
                 let turn = first.lines.turn(core, session, until);
                 unread.set(out.len() + first.lines.answers.len());
                 if turn? != Turn::Done {
@@ -295,7 +300,14 @@ impl Socket {
                 }
             }
             Ok(Turn::Done)
-        })
+        };
+        let (turn, _) = tokio::select! {
+            biased; // without the lane it is done at once
+            turned = server.door.turn_of(may_be, work) => turned,
+            () = connection.cut_off() => return Err(End::Stuck),
+        };
+        *length = turn.map_or(Length::Short, Turn::next);
+        turn.map_err(|Lost| End::UNWRITTEN)
     }
 
     async fn write(&mut self) -> Result<(), End> {

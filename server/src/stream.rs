@@ -17,12 +17,14 @@
 //!    message, once.
 //! 2. The feed lives as long as the stream, and no longer.
 //! 3. One piece waits for a reader, of at most `ENOUGH` bytes and one poll more.
-//! 4. Behind a poll of far more than a turn, while others waited, no stream polls for a part of that time.
+//! 4. A poll passes over what was written outside of its span, which may be much. So a stream takes the lane for its first
+//!    poll, behind one that was long, and where it stands far behind because of its reader.
 
 use crate::api::pages::Unread;
 use crate::before::with_before;
 use crate::connections::Connection;
 use crate::core::Core;
+use crate::door::Length;
 use crate::form::Form;
 use crate::http::{Gone, Sender};
 use crate::journal::Ticket;
@@ -63,6 +65,8 @@ pub struct Stream {
     seen: Option<u64>,
     /// Whether the ledger says that its reader has no room.
     waits: bool,
+    /// How long its next poll may be.
+    length: Length,
     written: Instant,
 }
 
@@ -116,6 +120,7 @@ impl Stream {
             connection,
             seen: None,
             waits: false,
+            length: Length::Long,
             written: Instant::now(),
         }
     }
@@ -157,10 +162,7 @@ impl Stream {
 
     async fn step(&mut self) -> Result<(), Stop> {
         self.room().await?;
-        while self.place.server().streams.rests() > Duration::ZERO {
-            sleep(self.place.server().streams.rests()).await;
-        }
-        let told = self.look()?;
+        let told = self.look().await?;
         if !told.text.is_empty() {
             let piece = self.form.messages(told.text.into());
             self.place.server().streams.tell(told.count, piece.len());
@@ -191,10 +193,13 @@ impl Stream {
             }
             look = LOOK;
             self.waits = true;
-            let ended = self.place.server().door.run(|core| {
+            let (ended, is_far) = self.place.server().door.run(|core| {
                 core.ledger.set_waits(self.feed, true);
-                core.ledger.take_end(self.feed)
+                (core.ledger.take_end(self.feed), core.ledger.is_far_behind(self.feed))
             });
+            if is_far {
+                self.length = Length::Long;
+            }
             if let Some(ended) = ended {
                 return Err(Stop::Ended(ended));
             }
@@ -202,9 +207,9 @@ impl Stream {
     }
 
     /// The next messages.
-    fn look(&mut self) -> Result<Told, Stop> {
+    async fn look(&mut self) -> Result<Told, Stop> {
         self.moved.borrow_and_update();
-        let (looked, rest) = self.place.server().door.turn_and_rest(|core, _| {
+        let turned = self.place.server().door.turn_of(self.length, |core, _| {
             if let Some(ended) = core.ledger.take_end(self.feed) {
                 return Err(Stop::Ended(ended));
             }
@@ -225,8 +230,9 @@ impl Stream {
             };
             Ok((told, closed))
         });
-        self.place.server().streams.rest(rest);
+        let (looked, length) = turned.await;
         let (told, closed) = looked?;
+        self.length = length;
         self.waits = false;
         self.snapshot.take_if(|_| matches!(told.next, Next::Feed));
         self.seen = matches!(told.next, Next::Wait).then_some(closed);

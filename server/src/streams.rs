@@ -12,7 +12,6 @@
 //! 2. `open` counts the streams from their feed's opening to their end.
 
 use crate::core::Core;
-use crate::door::SHORTEST_REST;
 use crate::form::Form;
 use crate::gate::Right;
 use crate::http::{Request, Response};
@@ -29,16 +28,13 @@ use crate::stream::{Before, Stream};
 use ripsawbean::{CallError, Command, Refusal as Refused, Span};
 use std::sync::atomic::{AtomicU64, AtomicUsize, Ordering::Relaxed};
 use std::sync::Arc;
-use std::time::{Duration, Instant};
 
 /// What all streams have in common, as `metrics` tells it.
+#[derive(Default)]
 pub struct Streams {
     open: AtomicUsize,
     messages: AtomicU64,
     bytes: AtomicU64,
-    began: Instant,
-    /// Microseconds from the beginning to when they may look again.
-    rest: AtomicU64,
 }
 
 /// A stream's place among --max-feeds.
@@ -52,31 +48,7 @@ struct Opened {
     generation: Option<u64>,
 }
 
-impl Default for Streams {
-    fn default() -> Streams {
-        let [messages, bytes, rest] = Default::default();
-        Streams { open: AtomicUsize::new(0), messages, bytes, began: Instant::now(), rest }
-    }
-}
-
 impl Streams {
-    /// One of them has held others up for too long, so none looks for a while: whoever follows one such feed after another
-    /// would let in one call between two.
-    pub fn rest(&self, time: Duration) {
-        if time >= SHORTEST_REST {
-            let until = self.began.elapsed() + time;
-            self.rest.fetch_max(until.as_micros() as u64, Relaxed);
-        }
-    }
-
-    /// How long they rest yet.
-    pub fn rests(&self) -> Duration {
-        match self.rest.load(Relaxed) {
-            0 => Duration::ZERO,
-            rest => Duration::from_micros(rest).saturating_sub(self.began.elapsed()),
-        }
-    }
-
     /// Streams that are open.
     pub fn open(&self) -> u64 {
         self.open.load(Relaxed) as u64
@@ -270,16 +242,6 @@ mod tests {
         running.await.expect("it ends");
         assert!(connection.is_cut());
         assert_eq!((server.streams.open(), server.connections.open()), (0, 0));
-    }
-
-    #[test]
-    fn they_rest_for_the_longest_of_what_was_asked() {
-        let streams = Streams::default();
-        streams.rest(SHORTEST_REST / 2);
-        assert_eq!(streams.rests(), Duration::ZERO);
-        streams.rest(Duration::from_secs(60));
-        streams.rest(SHORTEST_REST);
-        assert!((50..=60).contains(&streams.rests().as_secs()));
     }
 
     #[test]

@@ -21,8 +21,10 @@ use crate::session;
 use crate::streams::Streams;
 use crate::tasks::Tasks;
 use std::collections::VecDeque;
+use std::future::{ready, Future};
 use std::io::Write;
 use std::path::PathBuf;
+use std::pin::Pin;
 use std::sync::atomic::{AtomicU64, Ordering};
 use std::sync::{Arc, Mutex};
 use std::time::{Duration, Instant};
@@ -172,6 +174,15 @@ pub fn tidy(core: &mut Core) {
     let far = Instant::now() + Duration::from_secs(60);
     for step in closing::STEPS {
         assert_eq!(step(core, far), Turn::Done);
+    }
+}
+
+/// Whether work still waits, once it was begun or went on.
+pub async fn waits<T>(work: Pin<&mut impl Future<Output = T>>) -> bool {
+    tokio::select! {
+        biased;
+        _ = work => false,
+        () = ready(()) => true,
     }
 }
 

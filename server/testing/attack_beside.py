@@ -52,6 +52,30 @@ def test_scans_of_as_many_rows_as_are_let_through_without_a_pause(room: Room, sc
     return beside(room, "scans_on_and_on", "100000")
 
 
+def test_eight_clients_that_scan_as_many_rows(room: Room, scale: Scale) -> str:
+    return beside(room, "scan_calls", "8", ask="put")
+
+
+def test_eight_clients_that_scan_as_many_rows_over_new_connections(room: Room, scale: Scale) -> str:
+    return beside(room, "new_scan_calls", "8", ask="put")
+
+
+def test_eight_clients_that_read_pages_of_4_megabytes(room: Room, scale: Scale) -> str:
+    return beside(room, "large_pages", "8", ask="put")
+
+
+def test_eight_clients_with_transactions_that_scan_4_megabytes(room: Room, scale: Scale) -> str:
+    return beside(room, "large_plans", "8", ask="put")
+
+
+def test_four_clients_with_transactions_of_10000_conditions(room: Room, scale: Scale) -> str:
+    return beside(room, "long_plans", "4", ask="put")
+
+
+def test_eight_clients_with_transactions_of_10000_conditions(room: Room, scale: Scale) -> str:
+    return beside(room, "long_plans", "8", ask="put")
+
+
 def test_scans_of_more_rows_are_refused(room: Room, scale: Scale) -> str:
     return beside(room, "refused_scans", scale.of(100_000, 1_000_000))
 

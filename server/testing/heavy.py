@@ -8,9 +8,12 @@ names. Each KIND is a function here. What a server may refuse of it, it may refu
 import contextlib
 import itertools
 import json
+import os
 import selectors
 import sys
+import threading
 import time
+import traceback
 from collections.abc import Callable
 
 from handmade import HANDSHAKE, Cut, Session, Wire, bearer, fill, framed
@@ -21,7 +24,7 @@ MOST_ROWS = 32768  # of a scan that the library lets through
 
 
 def say(word: str) -> None:
-    print(word, flush=True)
+    print(word + "\n", end="", flush=True)  # as one, as several threads may say something
 
 
 def again_and_again(work: Callable[[], object]) -> None:
@@ -274,6 +277,69 @@ def told_commits(port: int, count: int = 100) -> None:
                 with contextlib.suppress(BlockingIOError):
                     key.fileobj.recv_into(room)  # type: ignore[union-attr]
         say("done")
+
+
+# ---- several at once
+
+def all_ask(port: int, count: int, status: int, method: str, path: str, body: str = "", anew: bool = False) -> None:
+    """So many clients, each of which asks the same again and again, over one connection or each time over a new one."""
+    def client() -> None:
+        wire = Wire(port)
+        while True:
+            wire.ask(method, path, bearer(TOKEN), body.encode())
+            told, answer = wire.answer()
+            if told != status:
+                raise ValueError("%d %r" % (told, answer[:200]))
+            say("done")
+            if anew:
+                wire.close()
+                wire = Wire(port)
+
+    def to_its_end() -> None:
+        try:
+            client()
+        except Exception:
+            traceback.print_exc()
+            os._exit(1)
+    clients = [threading.Thread(target=to_its_end) for _ in range(count)]
+    say("ready")
+    for one in clients:
+        one.start()
+
+
+def fill_pages(port: int) -> None:
+    """More rows than a page of 4 MB has."""
+    fill(session(port), "paged/", 10_000, "y" * 900)
+
+
+def large_pages(port: int, count: int = 8) -> None:
+    """So many clients that read pages of 4 MB."""
+    fill_pages(port)
+    all_ask(port, count, 200, "GET", "/rows?lo=paged/&hi=paged0&limit=10000")
+
+
+def large_plans(port: int, count: int = 8) -> None:
+    """So many clients that scan 4 MB in a transaction."""
+    fill_pages(port)
+    all_ask(port, count, 200, "POST", "/transact", '{"then":[{"scan":["paged/","paged0"],"limit":10000}]}')
+
+
+def long_plans(port: int, count: int = 8) -> None:
+    """So many clients with transactions of 10,000 conditions, none of which holds."""
+    fill(session(port), "asked/", 10_000)
+    conditions = [{"key": "asked/%07d" % at, "absent": True} for at in range(10_000)]
+    all_ask(port, count, 409, "POST", "/transact", json.dumps({"if": conditions, "then": []}))
+
+
+def scan_calls(port: int, count: int = 8, anew: bool = False) -> None:
+    """So many clients that scan 30,000 rows."""
+    fill(session(port), "scanned/", 30_000)
+    all_ask(port, count, 200, "POST", "/call", "begin\nscan . scanned/ scanned0\ncommit .\n", anew)
+
+
+def new_scan_calls(port: int, count: int = 8) -> None:
+    """The same, each over a new connection."""
+    scan_calls(port, count, True)
 
 
 # ---- bytes

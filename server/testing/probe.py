@@ -1,9 +1,9 @@
 #!/usr/bin/python3
 """Asks small things at a steady pace: probe.py PORT KIND SECONDS [TOKEN] writes a line of JSON with its latencies.
 
-KIND `session` sends a transaction of one row over a WebSocket, `get` asks GET /consumer/nobody, `call` POST /call. A
-latency is counted from when the question was due, not from when it was sent: so a server that stands still for a second
-is seen in all that was due in that second.
+KIND `session` sends a transaction of one row over a WebSocket, `get` asks GET /consumer/nobody, `call` POST /call and
+`put` PUT of a key. A latency is counted from when the question was due, not from when it was sent: so a server that
+stands still for a second is seen in all that was due in that second.
 """
 
 import json
@@ -30,6 +30,8 @@ def asker(port: int, kind: str, token: str) -> Callable[[], None]:
     def ask_plain() -> None:
         if kind == "call":
             wire.ask("POST", "/call", bearer(token), SMALL.encode())
+        elif kind == "put":
+            wire.ask("PUT", "/key/probe", bearer(token), b"x")
         else:
             wire.ask("GET", "/consumer/nobody", bearer(token))
         status, body = wire.answer()

@@ -64,6 +64,12 @@ impl Wanted {
         Ok(Wanted { by, time: seconds_in(given, "hold", LONGEST)? })
     }
 
+    /// What a request of a client of loopback asks that says nothing.
+    #[cfg(test)]
+    pub fn unsaid() -> Wanted {
+        Wanted { by: Client::new([127, 0, 0, 1].into(), &Who::anyone()), time: None }
+    }
+
     /// For how long, where `unsaid` is what nothing said stands for. `None`: not at all.
     pub fn time(&self, unsaid: Option<Duration>) -> Option<Duration> {
         self.time.or(unsaid).filter(|time| !time.is_zero())

@@ -57,7 +57,7 @@ impl Core {
             let cut = self.cuts.first(&lo, span.hi).map(<[u8]>::to_vec);
             let found = self.part(Span { lo: &lo, hi: cut.as_deref().or(span.hi) }, at, room)?;
             room.rows -= found.rows.len() as u64;
-            room.bytes -= bytes_of(&found.rows);
+            room.bytes -= found.bytes();
             page.rows.extend(found.rows);
             page.next = found.next;
             let Some(cut) = cut.filter(|_| page.next.is_none()) else { break };
@@ -78,12 +78,12 @@ impl Core {
     }
 }
 
-/// Bytes of rows, as a page counts them.
-fn bytes_of(rows: &[(Vec<u8>, Vec<u8>)]) -> u64 {
-    rows.iter().map(|(key, value)| 17 + key.len() as u64 + value.len() as u64).sum()
-}
-
 impl Page {
+    /// Bytes of its rows, as its room counts them.
+    pub fn bytes(&self) -> u64 {
+        self.rows.iter().map(|(key, value)| 17 + key.len() as u64 + value.len() as u64).sum()
+    }
+
     /// Rows of a span, and where they end before it.
     pub fn of(rows: ripsawbean::Rows<'_>, span: Span<'_>) -> Page {
         let next = rows.end().filter(|end| span.hi != Some(end)).map(<[u8]>::to_vec);

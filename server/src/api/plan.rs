@@ -13,13 +13,20 @@
 
 use super::bytes::{bound_in, key_in, timestamp_in, value_in, Wrong};
 use super::strict::Json;
+use crate::door::Length;
 use crate::gate::{Keys, Right, Who};
 use crate::refusal::Refusal;
 use ripsawbean::Span;
 use std::borrow::Cow;
 
-/// Conditions and steps of one transaction: some 10 milliseconds in which no one else is served.
+/// Conditions and steps of one transaction.
 const MOST_STEPS: usize = 10_000;
+/// What a condition or a step weighs, and a row that is scanned, beside the bytes of keys and values that it reads or
+/// writes: it takes as long as so many of them.
+pub const STEP: usize = 300;
+pub const SCANNED: usize = 150;
+/// What a plan weighs that takes some 2 milliseconds.
+pub const SHORT: usize = 1 << 18;
 /// Rows that a scan or a page tells, where nothing is said, and at most.
 pub const ROWS: u64 = 1000;
 pub const MOST_ROWS: u64 = 10_000;
@@ -127,6 +134,16 @@ impl<'a> Plan<'a> {
         }
     }
 
+    /// How long it holds the lock, as far as that is known before it has read anything.
+    pub fn length(&self) -> Length {
+        let steps = |steps: &[Step<'_>]| steps.iter().map(Step::weight).sum::<usize>();
+        let branch = steps(&self.then).max(self.otherwise.as_deref().map_or(0, steps));
+        match self.conditions.iter().map(Condition::weight).sum::<usize>() + branch {
+            ..=SHORT => Length::Short,
+            _ => Length::Long,
+        }
+    }
+
     /// Whether its answer may be longer than what a socket takes at once.
     pub fn answers_at_length(&self) -> bool {
         let mut gets = self.conditions.len();
@@ -148,10 +165,18 @@ impl Condition<'_> {
             Condition::Unchanged { span, .. } => span.is_within(keys),
         }
     }
+
+    fn weight(&self) -> usize {
+        match self {
+            Condition::Key { .. } => STEP,
+            // It reads all rows of the span.
+            Condition::Unchanged { .. } => STEP + MOST_ROWS as usize * SCANNED,
+        }
+    }
 }
 
 impl Step<'_> {
-    fn writes(&self) -> bool {
+    pub fn writes(&self) -> bool {
         matches!(self, Step::Put { .. } | Step::Del { .. })
     }
 
@@ -159,6 +184,14 @@ impl Step<'_> {
         match self {
             Step::Put { key, .. } | Step::Del { key } | Step::Get { key } => keys.holds(key),
             Step::Scan { span, .. } => span.is_within(keys),
+        }
+    }
+
+    pub fn weight(&self) -> usize {
+        match self {
+            Step::Put { key, value } => STEP + key.len() + value.len(),
+            Step::Del { .. } | Step::Get { .. } => STEP,
+            Step::Scan { limit, .. } => STEP + limit * SCANNED,
         }
     }
 }
@@ -432,6 +465,42 @@ mod tests {
         }
         assert_eq!(of(r#"{"then":[{"del":"c"}]}"#).check(&reader).unwrap_err().error, "right");
         assert_eq!(of(r#"{"then":[{"get":"a"}]}"#).check(&few).unwrap_err().error, "keys");
+    }
+
+    #[test]
+    fn a_plan_is_long_by_what_it_weighs() {
+        let many = |piece: &str, count: usize| vec![piece; count].join(",");
+        let then = |steps: &str, count: usize| format!(r#"{{"then":[{}]}}"#, many(steps, count));
+        let [put, get, key] = [r#"{"put":"a","value":"1"}"#, r#"{"get":"a"}"#, r#"{"key":"a","absent":true}"#];
+        let put_of = |length: usize| format!(r#"{{"put":"a","value":"{}"}}"#, "v".repeat(length));
+        let scan = |limit: usize| format!(r#"{{"scan":["a","b"],"limit":{limit}}}"#);
+        let branches = |conditions, then, otherwise| {
+            let [conditions, then, otherwise] = [many(key, conditions), many(put, then), many(get, otherwise)];
+            format!(r#"{{"if":[{conditions}],"then":[{then}],"else":[{otherwise}]}}"#)
+        };
+        for (body, length) in [
+            ("{}".to_string(), Length::Short),
+            (then(get, 873), Length::Short),
+            (then(get, 874), Length::Long),
+            (then(put, 868), Length::Short),
+            (then(put, 869), Length::Long),
+            (then(&put_of(65_536), 3), Length::Short),
+            (then(&put_of(65_536), 4), Length::Long),
+            (then(r#"{"scan":["a","b"]}"#, 1), Length::Short),
+            (then(&scan(1745), 1), Length::Short),
+            (then(&scan(1746), 1), Length::Long),
+            (then(&scan(870), 2), Length::Short),
+            (then(&scan(875), 2), Length::Long),
+            (then(&scan(1), 582), Length::Short),
+            (then(&scan(1), 583), Length::Long),
+            // One of the branches is run.
+            (branches(400, 470, 473), Length::Short),
+            (branches(400, 471, 0), Length::Long),
+            (branches(400, 0, 474), Length::Long),
+            (r#"{"if":[{"span":["a","b"],"unchanged":"1"}]}"#.into(), Length::Long),
+        ] {
+            assert_eq!(Plan::of(body.as_bytes()).unwrap().length(), length, "{body:.100}");
+        }
     }
 
     #[test]

@@ -5,6 +5,7 @@ use super::plan::Plan;
 use super::run::{run, End, Stop};
 use crate::before::with_before;
 use crate::core::Core;
+use crate::door::Length;
 use crate::outcome::Outcome;
 use crate::seats::Owner;
 use crate::testing::{core, say, session, tidy};
@@ -54,7 +55,7 @@ fn each(work: impl Fn(&mut Core) -> bool) -> usize {
 }
 
 fn a_transaction(core: &mut Core) -> bool {
-    match run(core, &Plan::of(BODY.as_bytes()).expect("a plan"), None) {
+    match run(core, &Plan::of(BODY.as_bytes()).expect("a plan"), Length::Long, None) {
         Ok(End::Committed(done)) => {
             assert_eq!((done.results.len(), done.written), (5, 2));
             true

@@ -8,24 +8,32 @@
 //! 1. All pages of a walk show one snapshot, or are refused. While there are more, it is held for `hold` seconds, and
 //!    each page holds it anew. Where `hold` is 0, nothing is held.
 //! 2. A page that isn't the last one has a row at least.
+//! 3. A page is read in parts, none of which takes longer than a turn. Its snapshot isn't collected meanwhile.
 
 use super::holds::Wanted;
+use super::pages::MOST_BYTES;
 use super::plan::{Bounds, MOST_ROWS, ROWS};
 use super::run::{Row, Stop};
 use super::transact::tell_rows;
 use super::{bytes::MOST_BOUND, spelling_in, wait_in};
 use crate::budget::Held;
 use crate::core::Core;
+use crate::door::TURN;
 use crate::http::{Request, Response};
+use crate::outcome::Outcome;
 use crate::query::{arguments, percent_encoded, Arguments};
 use crate::refusal::Refusal;
 use crate::routes::Server;
+use crate::seats::Owner;
+use ripsawbean::{Command, Room};
 use std::borrow::Cow;
 use std::sync::Arc;
 use std::time::{Duration, Instant};
 
 /// For how long a page holds its snapshot where more follow and nothing is said.
 const HOLD: Duration = Duration::from_secs(30);
+/// Rows of a page that are read in one turn, and bytes of them.
+const PART: Room = Room { rows: 1000, bytes: 1 << 18 };
 
 /// A page as it is told.
 struct Shown {
@@ -66,7 +74,7 @@ pub async fn rows(server: &Arc<Server>, request: Request) -> Result<Response, Re
     })
 }
 
-/// A page, in turns as long as it passes over keys that have no value.
+/// A page, in turns of a part each.
 async fn in_turns(
     server: &Server,
     mut span: Bounds<'_>,
@@ -76,15 +84,15 @@ async fn in_turns(
     hold: &Wanted,
     unread: &Held,
 ) -> Result<Shown, Refusal> {
+    let mut reading = Reading::new(server, limit);
     loop {
-        let shown = at_snapshot(server, at, until, |core, at| match unread.has_room() {
-            true => page(core, &span, at, limit, hold),
+        let part = at_snapshot(server, at, until, |core, at| match unread.has_room() {
+            true => Ok((at, reading.part(core, &span, at, hold)?)),
             false => Err(Refusal::crowded()),
         });
-        let shown = shown.await?;
-        match shown.next {
-            Some(next) if shown.rows.is_empty() => (at, span.lo) = (Some(shown.timestamp), Cow::Owned(next)),
-            _ => return Ok(shown),
+        match part.await? {
+            (timestamp, Read::Part(next)) => (at, span.lo) = (Some(timestamp), Cow::Owned(next)),
+            (timestamp, Read::All(next)) => return Ok(Shown { timestamp, rows: reading.take(), next }),
         }
         tokio::task::yield_now().await;
     }
@@ -95,7 +103,7 @@ pub async fn at_snapshot<R>(
     server: &Server,
     at: Option<u64>,
     until: Instant,
-    work: impl Fn(&mut Core, u64) -> Result<R, Refusal>,
+    mut work: impl FnMut(&mut Core, u64) -> Result<R, Refusal>,
 ) -> Result<R, Refusal> {
     let mut moved = server.door.moved();
     loop {
@@ -119,14 +127,82 @@ pub async fn at_snapshot<R>(
     }
 }
 
-fn page(core: &mut Core, span: &Bounds<'_>, timestamp: u64, limit: usize, hold: &Wanted) -> Result<Shown, Refusal> {
-    let page = core.page(span.span(), timestamp, limit).map_err(|unread| Stop::from(unread).refusal())?;
-    let keys: Vec<&[u8]> = page.rows.iter().map(|(key, _)| key.as_slice()).collect();
-    let versions = core.versions_at(timestamp, &keys).map_err(|_| Stop::NoMemory.refusal())?;
-    core.hold_wanted(timestamp, hold, page.next.is_some().then_some(HOLD))?;
-    let rows = page.rows.into_iter().zip(versions);
-    let rows = rows.map(|((key, value), version)| Row { key: Cow::Owned(key), value: Some(value), version });
-    Ok(Shown { timestamp, rows: rows.collect(), next: page.next })
+/// A page of which some is read. Its snapshot is held by a protection of its own until it is whole, or nobody wants it.
+struct Reading<'s> {
+    server: &'s Server,
+    rows: Vec<Row<'static>>,
+    left: Room,
+    protection: Option<u64>,
+}
+
+/// Where what is behind a part begins.
+enum Read {
+    /// The next part of the page.
+    Part(Vec<u8>),
+    /// The next page, where there is one: the page is whole.
+    All(Option<Vec<u8>>),
+}
+
+impl Reading<'_> {
+    fn new(server: &Server, limit: usize) -> Reading<'_> {
+        let left = Room { rows: limit as u64, bytes: MOST_BYTES };
+        Reading { server, rows: Vec::new(), left, protection: None }
+    }
+
+    fn part(&mut self, core: &mut Core, span: &Bounds<'_>, timestamp: u64, hold: &Wanted) -> Result<Read, Refusal> {
+        let room = Room { rows: self.left.rows.min(PART.rows), bytes: self.left.bytes.min(PART.bytes) };
+        let page = core.page_until(span.span(), timestamp, room, Instant::now() + TURN);
+        let page = page.map_err(|unread| Stop::from(unread).refusal())?;
+        let keys: Vec<&[u8]> = page.rows.iter().map(|(key, _)| key.as_slice()).collect();
+        let versions = core.versions_at(timestamp, &keys).map_err(|_| Stop::NoMemory.refusal())?;
+        let count = keys.len() as u64;
+        let is_full = count == self.left.rows || count < room.rows && room.bytes == self.left.bytes;
+        self.left.rows -= count;
+        self.left.bytes -= page.bytes();
+        let rows = page.rows.into_iter().zip(versions);
+        self.rows.extend(rows.map(|((key, value), version)| Row { key: Cow::Owned(key), value: Some(value), version }));
+        match page.next {
+            Some(next) if !is_full => {
+                self.protect(core, timestamp)?;
+                Ok(Read::Part(next))
+            }
+            next => {
+                core.hold_wanted(timestamp, hold, next.is_some().then_some(HOLD))?;
+                self.release(core);
+                Ok(Read::All(next))
+            }
+        }
+    }
+
+    fn take(&mut self) -> Vec<Row<'static>> {
+        std::mem::take(&mut self.rows)
+    }
+
+    fn protect(&mut self, core: &mut Core, timestamp: u64) -> Result<(), Refusal> {
+        if self.protection.is_none() {
+            match core.ask(Owner::Server, Command::Protect { t: timestamp }) {
+                Ok(Outcome::Protected { id, .. }) => self.protection = Some(id),
+                // Its rows were just read, so it isn't below the horizon.
+                _ => return Err(Stop::NoMemory.refusal()),
+            }
+        }
+        Ok(())
+    }
+
+    fn release(&mut self, core: &mut Core) {
+        if let Some(id) = self.protection.take() {
+            core.release(id);
+        }
+    }
+}
+
+impl Drop for Reading<'_> {
+    fn drop(&mut self) {
+        let server = self.server;
+        if self.protection.is_some() {
+            server.door.run(|core| self.release(core));
+        }
+    }
 }
 
 fn limit_in(given: &Arguments) -> Result<usize, Refusal> {
@@ -166,10 +242,83 @@ fn path_of(given: &Arguments, lo: &[u8], at: u64) -> String {
 #[cfg(test)]
 mod tests {
     use super::*;
+    use crate::cuts::Cuts;
     use crate::gate::{Keys, Right, Who};
-    use crate::testing::{answers, ask, server, session, status};
+    use crate::testing::{answers, ask, end, say, server, session, status, tidy, waits, Dice};
 
     const NAMES: [&str; 7] = ["lo", "hi", "at", "limit", "hold", "wait", "bytes"];
+
+    fn protections(server: &Server) -> usize {
+        server.door.run(|core| core.ledger.protections.len())
+    }
+
+    #[tokio::test]
+    async fn a_page_that_is_read_in_parts_is_that_of_one_call() {
+        let (server, mut dice) = (server(&["--keep", "10"]), Dice::new(11));
+        server.door.run(|core| {
+            core.cuts = Cuts::of(u64::MAX);
+            let mut one = session(core);
+            for _ in 0..20 {
+                let mut put =
+                    |_| format!("put . k{:05} {}\n", dice.below(9000), "v".repeat(dice.below(65_536) as usize));
+                let puts: String = (0..15).map(&mut put).collect();
+                say(core, &mut one, &format!("begin\n{puts}commit .\n"));
+            }
+            let short: String = (0..3000).map(|at| format!("put . l{at:05} v\n")).collect();
+            say(core, &mut one, &format!("begin\n{short}commit .\n"));
+        });
+        let (at, unread) = (server.door.run(|core| core.ledger.closed), server.unread.begin([127, 0, 0, 1].into()));
+        let mut ends = [0; 3];
+        for _ in 0..100 {
+            let lo = format!("{}{:05}", dice.of(&["k", "l"]), dice.below(9000)).into_bytes();
+            let (span, limit) = (Bounds::new(Cow::Owned(lo), Cow::default()), 1 + dice.below(4000) as usize);
+            let whole = server.door.run(|core| core.page(span.span(), at, limit)).expect("a page");
+            let read = in_turns(&server, span, None, Instant::now(), limit, &Wanted::unsaid(), &unread).await;
+            let read = read.expect("a page");
+            ends[usize::from(whole.next.is_some()) + usize::from(whole.next.is_some() && whole.rows.len() < limit)] +=
+                1;
+            assert_eq!((read.timestamp, read.rows.len(), &read.next), (at, whole.rows.len(), &whole.next), "{limit}");
+            let rows = read.rows.into_iter().map(|row| (row.key.into_owned(), row.value.expect("it has one")));
+            assert!(rows.eq(whole.rows));
+        }
+        // One snapshot is held, for the pages behind.
+        assert!(ends.iter().all(|&count| count > 10) && protections(&server) == 1, "{ends:?}");
+    }
+
+    #[tokio::test]
+    async fn its_snapshot_is_held_as_long_as_a_page_is_read() {
+        let server = server(&["--history", "0"]);
+        let puts: String = (0..3000).map(|at| format!("put . k{at:05} v\n")).collect();
+        let (dels, unread) =
+            (puts.replace("put", "del").replace(" v\n", "\n"), server.unread.begin([127, 0, 0, 1].into()));
+        let change = |lines: &str| {
+            server.door.run(|core| {
+                let mut one = session(core);
+                say(core, &mut one, &format!("begin\n{lines}commit .\n"));
+                tidy(core);
+                end(core, &one);
+            });
+        };
+        let unsaid = Wanted::unsaid();
+        let read = || Box::pin(in_turns(&server, Bounds::default(), None, Instant::now(), 10_000, &unsaid, &unread));
+        change(&puts);
+        let mut page = read();
+        assert!(waits(page.as_mut()).await && protections(&server) == 1);
+        change(&dels);
+        // By the first one it is let go what was held, and by the next one it is collected.
+        let tidied = || (0..2).for_each(|_| server.door.run(tidy));
+        tidied();
+        let Shown { timestamp, rows, next } = page.await.expect("a page");
+        assert_eq!((timestamp, rows.len(), next, protections(&server)), (1, 3000, None, 0));
+        tidied();
+        assert_eq!(server.door.run(|core| core.ledger.horizon), 2);
+        // Who goes away holds it no longer.
+        change(&puts);
+        let mut page = read();
+        assert!(waits(page.as_mut()).await && protections(&server) == 1);
+        drop(page);
+        assert_eq!((protections(&server), server.door.run(|core| core.shouts)), (0, 0));
+    }
 
     #[test]
     fn the_next_path_asks_for_the_same() {

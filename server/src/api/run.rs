@@ -14,13 +14,15 @@
 //! 2. When `run` returns, the transaction is decided. Where there was no memory to abort it, --max-age does it.
 //! 3. It reads at most `MOST_ROWS` rows, passes over at most `cuts::MOST` parts of spans, and tells at most --max-reply
 //!    bytes. So others wait for some 30 milliseconds.
+//! 4. A short one is stopped where it has read and written what takes some 2 milliseconds: `Stop::Long`.
 
 use super::bytes::length_of;
 use super::pages::{Page, Unread, MOST_BYTES};
-use super::plan::{Bounds, Condition, Plan, Step};
+use super::plan::{Bounds, Condition, Plan, Step, SCANNED, SHORT, STEP};
 use super::remembered::Keep;
 use crate::core::Core;
 use crate::cuts;
+use crate::door::Length;
 use crate::journal::Form;
 use crate::outcome::Outcome;
 use crate::refusal::Refusal;
@@ -104,6 +106,8 @@ pub enum Stop {
     Draining,
     TooMuch,
     ReplyTooLong,
+    /// It is longer than it may be: nothing was changed, and it is run anew in the lane.
+    Long,
     /// The database gave an answer that it can't give.
     Unexpected,
     /// The commit was called, and its answer is lost.
@@ -146,7 +150,10 @@ impl Stop {
                 let why = "the answer would be longer than --max-reply: nothing was changed";
                 Refusal::new(422, "replytoolong", why)
             }
-            Stop::Unexpected => Refusal::new(500, "unexpected", "the server's log says more: nothing was changed"),
+            // Who runs it runs one anew that is long.
+            Stop::Long | Stop::Unexpected => {
+                Refusal::new(500, "unexpected", "the server's log says more: nothing was changed")
+            }
             Stop::Lost => Refusal::new(500, "unwritten", "it may have committed: there is no memory for its answer"),
         }
     }
@@ -161,11 +168,12 @@ impl From<Unread> for Stop {
     }
 }
 
-/// Runs a plan once. What it has committed is remembered, where it is said by whom.
-pub fn run<'p>(core: &mut Core, plan: &'p Plan<'_>, keep: Option<&Keep<'_>>) -> Result<End<'p>, Stop> {
+/// Runs a plan once, which may take so long. What it has committed is remembered, where it is said by whom.
+pub fn run<'p>(core: &mut Core, plan: &'p Plan<'_>, length: Length, keep: Option<&Keep<'_>>) -> Result<End<'p>, Stop> {
     check(core, plan)?;
     let timestamp = core.ledger.next_timestamp();
-    let mut running = Running { core, timestamp, own: BTreeSet::new(), read: 0, passed: 0, bytes: 0 };
+    let mut running =
+        Running { core, timestamp, length, own: BTreeSet::new(), read: 0, passed: 0, weight: 0, bytes: 0 };
     running.begin()?;
     let ended = running.steps(plan).and_then(|end| running.commit(end, keep));
     if !matches!(ended, Ok(End::Committed(_)) | Err(Stop::Lost)) {
@@ -200,11 +208,14 @@ fn check(core: &Core, plan: &Plan<'_>) -> Result<(), Stop> {
 struct Running<'c, 'p> {
     core: &'c mut Core,
     timestamp: u64,
+    length: Length,
     /// Keys that it has written.
     own: BTreeSet<&'p [u8]>,
     /// Rows that scans have read, and cuts that they have passed.
     read: usize,
     passed: usize,
+    /// What its steps weigh so far, as `plan` weighs them.
+    weight: usize,
     /// Bytes that are told.
     bytes: usize,
 }
@@ -292,6 +303,9 @@ impl<'p> Running<'_, 'p> {
 
     fn step(&mut self, step: &'p Step<'_>) -> Result<Told<'p>, Stop> {
         let ts = self.timestamp;
+        if step.writes() {
+            self.weigh(step.weight())?;
+        }
         match step {
             Step::Put { .. } if self.core.is_full() => Err(Stop::Full),
             Step::Del { .. } if !self.core.may_delete() => Err(Stop::Overfull),
@@ -319,6 +333,7 @@ impl<'p> Running<'_, 'p> {
             Ok(Outcome::Read { .. }) => {}
             other => return Err(self.stop("get", other)),
         }
+        self.weigh(STEP + key.len() + value.as_ref().map_or(0, Vec::len))?;
         self.count(length_of(key) + value.as_deref().map_or(0, length_of))?;
         Ok(self.row(Cow::Borrowed(key), value))
     }
@@ -331,6 +346,7 @@ impl<'p> Running<'_, 'p> {
 
     fn scan(&mut self, span: &Bounds<'_>, limit: usize) -> Result<Told<'p>, Stop> {
         let Page { rows, next } = self.read(span.span(), limit)?;
+        self.weigh(STEP + rows.iter().map(|(key, value)| SCANNED + key.len() + value.len()).sum::<usize>())?;
         self.count(rows.iter().map(|(key, value)| length_of(key) + length_of(value) + ROW_BYTES).sum())?;
         let rows = rows.into_iter().map(|(key, value)| self.row(Cow::Owned(key), Some(value))).collect();
         Ok(Told::Rows { rows, more: next.is_some() })
@@ -356,11 +372,15 @@ impl<'p> Running<'_, 'p> {
 
     /// The first rows of a span as the transaction sees them.
     fn read(&mut self, span: Span<'_>, most: usize) -> Result<Page, Stop> {
-        let far = self.core.cuts.passed(span.lo, span.hi, self.timestamp).nth(cuts::MOST - self.passed);
+        let (cuts, bytes) = match self.length {
+            Length::Short => (cuts::FEW, SHORT.saturating_sub(self.weight) as u64),
+            Length::Long => (cuts::MOST, MOST_BYTES),
+        };
+        let far = self.core.cuts.passed(span.lo, span.hi, self.timestamp).nth(cuts - self.passed);
         let far = far.map(<[u8]>::to_vec);
         let near = Span { lo: span.lo, hi: far.as_deref().or(span.hi) };
         let command = Command::Scan { ts: self.timestamp, span: near };
-        let room = Room { rows: most as u64, bytes: MOST_BYTES };
+        let room = Room { rows: most as u64, bytes };
         let mut page = self.core.scan(command, room).map_err(|error| match error {
             CommandError::Refused(refusal) => self.stop("scan", Ok(Outcome::Refused(refusal))),
             CommandError::Call(error) => self.stop("scan", Err(error)),
@@ -368,11 +388,14 @@ impl<'p> Running<'_, 'p> {
         let end = page.next.as_deref().or(near.hi);
         self.passed += self.core.cuts.passed(span.lo, end, self.timestamp).count();
         self.read += page.rows.len();
-        let is_short = page.rows.len() < most && page.next.is_none() && far.is_some();
+        let is_whole = page.rows.len() == most || page.next.is_none() && far.is_none();
+        // Behind the cut it would pass over more.
+        let has_passed_all = page.next.is_none();
         page.next = page.next.or(far);
-        match self.read > MOST_ROWS || is_short {
-            true => Err(Stop::TooMuch),
-            false => Ok(page),
+        match self.length {
+            Length::Short if !is_whole => Err(Stop::Long),
+            Length::Long if self.read > MOST_ROWS || !is_whole && has_passed_all => Err(Stop::TooMuch),
+            _ => Ok(page),
         }
     }
 
@@ -401,6 +424,16 @@ impl<'p> Running<'_, 'p> {
         Ok(())
     }
 
+    /// Counts what a step weighs.
+    fn weigh(&mut self, weight: usize) -> Result<(), Stop> {
+        self.weight += weight;
+        match self.length {
+            Length::Short if self.weight > SHORT => Err(Stop::Long),
+            _ => Ok(()),
+        }
+    }
+
+    /// Counts what is told.
     fn count(&mut self, bytes: usize) -> Result<(), Stop> {
         self.bytes += bytes;
         match self.bytes > self.core.limits.max_reply {

@@ -6,8 +6,8 @@
 //! 409 {"error":"condition",..,"timestamp":"9","found":[{"if":0,"key":"n","value":"3","version":"8"}]}
 //! ```
 //!
-//! `plan` reads it, and `run` runs it. While a session's undecided write blocks it, it waits for that one's decision, and
-//! is run anew.
+//! `plan` reads it, and `run` runs it: in the lane, where it may be long. While a session's undecided write blocks it, it
+//! waits for that one's decision, and is run anew.
 //!
 //! 1. It takes no seat.
 //! 2. Its answer is remembered under the lock of its commit, so no answer of a commit is forgotten.
@@ -18,6 +18,7 @@ use super::remembered::{Asked, Begun, Keep};
 use super::run::{run, Branch, Committed, End, Failed, Row, Stop, Told};
 use super::{body_of, spelling_in, wait_in, Answer};
 use crate::budget::Held;
+use crate::door::Length;
 use crate::http::{Request, Response};
 use crate::journal::Form;
 use crate::query::arguments;
@@ -76,13 +77,15 @@ pub async fn run_until<'p>(
     keep: Option<&Keep<'_>>,
     unread: Option<&Held>,
 ) -> Result<End<'p>, Refusal> {
+    let mut length = plan.length();
     loop {
-        let ran = server.door.run(|core| match unread.is_none_or(Held::has_room) {
-            true => run(core, plan, keep),
+        let ran = server.door.turn_of(length, |core, _| match unread.is_none_or(Held::has_room) {
+            true => run(core, plan, length, keep),
             false => Err(Stop::Crowded),
         });
-        match ran {
+        match ran.await.0 {
             Ok(end) => return Ok(end),
+            Err(Stop::Long) => length = Length::Long,
             Err(Stop::Blocked(by, mut decision)) => {
                 if tokio::time::timeout_at(until.into(), decision.changed()).await.is_err() {
                     return Err(Stop::Blocked(by, decision).refusal());
@@ -167,4 +170,46 @@ fn refusal_of(failed: &Failed<'_>, spelling: Spelling) -> Refusal {
     Refusal::new(409, "condition", "a condition doesn't hold: nothing was changed")
         .with_number("timestamp", failed.timestamp)
         .with("found", found.collect::<Vec<Value>>())
+}
+
+#[cfg(test)]
+mod tests {
+    use super::*;
+    use crate::testing::server;
+    use std::time::Duration;
+
+    #[tokio::test(start_paused = true)]
+    async fn a_long_plan_waits_for_the_lane_and_who_goes_away_lets_go_of_its_key() {
+        let server = server(&[]);
+        let [long, short] = [
+            r#"{"if":[{"span":["a","b"],"unchanged":"0"}],"then":[{"put":"a","value":"1"}]}"#,
+            r#"{"then":[{"put":"b","value":"1"}]}"#,
+        ];
+        let ask = |body: &'static str| {
+            let (server, asked) = (&server, Asked::new("", body, &[body.as_bytes()]));
+            async move {
+                let plan = Plan::of(body.as_bytes()).expect("a plan");
+                let form_of = |_: &Committed<'_>| Form::Put;
+                let refused = |failed: Failed<'_>| refusal_of(&failed, Spelling::Text);
+                // It is no longer waited for others' transactions.
+                answer_once(server, Some(asked), &plan, Instant::now(), &form_of, refused, None).await
+            }
+        };
+        let within = |body| tokio::time::timeout(Duration::from_secs(60), ask(body));
+        let lane = server.door.keep_lane().await;
+        assert!(within(long).await.is_err());
+        assert_eq!(within(short).await.expect("it doesn't wait").map(|answer| answer.timestamp).ok(), Some(1));
+        let given_back = async {
+            tokio::task::yield_now().await;
+            drop(lane);
+        };
+        let (told, ()) = tokio::join!(within(long), given_back);
+        assert_eq!(
+            told.expect("the lane is free").map(|answer| (answer.timestamp, answer.is_again)).ok(),
+            Some((2, false))
+        );
+        let again = within(long).await.expect("the lane is free");
+        assert_eq!(again.map(|answer| (answer.timestamp, answer.is_again)).ok(), Some((2, true)));
+        assert_eq!(server.door.run(|core| core.ledger.greatest), 2);
+    }
 }

@@ -330,7 +330,7 @@ fn much_is_collected_in_steps() {
     let mut one = session(&mut core);
     answers(&mut core, &mut one, "protect 0\n");
     for _ in 0..5 {
-        let puts: String = (0..9000).map(|row| format!("put . k{row} v\n")).collect();
+        let puts: String = (0..2000).map(|row| format!("put . k{row} v\n")).collect();
         answers(&mut core, &mut one, &format!("begin\n{puts}commit .\n"));
         core.close();
     }
@@ -340,9 +340,9 @@ fn much_is_collected_in_steps() {
     while core.collect(past) == Turn::More {
         horizons.push(core.ledger.horizon);
     }
-    // Each step has 20,000 rows at most: two transactions.
+    // Each step has 5,000 rows at most: two transactions.
     assert_eq!(horizons, [2, 4, 5]);
-    assert_eq!((core.shouts, core.ledger.collected), (0, 4 * 9000));
+    assert_eq!((core.shouts, core.ledger.collected), (0, 4 * 2000));
 }
 
 #[test]

@@ -1,5 +1,7 @@
 //! Lines of a session beside the database itself: what README promises of them.
 
+mod long;
+
 use super::*;
 use crate::cuts::Cuts;
 use crate::gate::{Right, Who};

@@ -12,7 +12,10 @@ fn plan(body: &str) -> Plan<'_> {
 
 /// Runs a plan, and closes.
 fn told<'p>(core: &mut Core, plan: &'p Plan<'_>) -> Result<End<'p>, Stop> {
-    let end = run(core, plan, None);
+    let end = match run(core, plan, plan.length(), None) {
+        Err(Stop::Long) => run(core, plan, Length::Long, None),
+        end => end,
+    };
     core.settle(std::time::Instant::now());
     assert_eq!(core.shouts, 0);
     end
@@ -282,11 +285,57 @@ fn a_transaction_passes_over_few_deleted_keys() {
 }
 
 #[test]
+fn a_short_one_is_stopped_where_it_has_read_much() {
+    let mut core = core(&["--keep", "10"]);
+    core.cuts = Cuts::of(1);
+    let mut one = session(&mut core);
+    let puts = |prefix: &str, count: usize, length: usize| {
+        let puts: String = (0..count).map(|row| format!("put . {prefix}{row:03} {}\n", "v".repeat(length))).collect();
+        format!("begin\n{puts}commit .\n")
+    };
+    for lines in [puts("a", 20, 60_000), puts("b", 300, 1000), puts("c", 1000, 1), puts("d", 10, 1)] {
+        say(&mut core, &mut one, &lines);
+    }
+    tidy(&mut core);
+    let dels: String = (0..10).map(|row| format!("del . d{row:03}\n")).collect();
+    say(&mut core, &mut one, &format!("begin\n{dels}commit .\n"));
+    let gets = |count: usize| (0..count).map(|at| format!(r#"{{"get":"a{at:03}"}}"#)).collect::<Vec<_>>().join(",");
+    let scan = |lo: &str, hi: &str| format!(r#"{{"scan":["{lo}","{hi}"]}}"#);
+    let put = |steps: &str| format!(r#"{{"then":[{{"put":"z","value":"1"}},{steps}]}}"#);
+    for (body, is_short) in [
+        (put(&gets(4)), true),
+        (put(&gets(5)), false),
+        (put(&scan("a", "a004")), true),
+        (put(&scan("a", "a005")), false),
+        (put(&scan("b", "b200")), true),
+        (put(&scan("b", "b250")), false),
+        (put(&[scan("b", "b200"), gets(1)].join(",")), false),
+        (put(&[scan("b", "b150"), scan("c", "c010")].join(",")), true),
+        (put(&scan("c", "d")), true),
+        (put(&scan("d", "d004")), true),
+        (put(&scan("d", "d005")), false),
+        (put(&[scan("d", "d002"), scan("d", "d003")].join(",")), false),
+        (put(&[scan("d", "d002"), scan("d", "d002")].join(",")), true),
+        (format!(r#"{{"if":[{{"key":"a000","absent":false}}],"then":[{}]}}"#, gets(3)), true),
+        (format!(r#"{{"if":[{{"key":"a000","absent":false}}],"then":[{}]}}"#, gets(4)), false),
+    ] {
+        let plan = plan(&body);
+        match run(&mut core, &plan, Length::Short, None) {
+            Ok(End::Committed(_)) => assert!(is_short, "{body}"),
+            Err(Stop::Long) => assert!(!is_short, "{body}"),
+            other => panic!("{body}: {other:?}"),
+        }
+        assert!(core.ledger.undecided.is_empty() && core.shouts == 0);
+        assert!(run(&mut core, &plan, Length::Long, None).is_ok(), "{body}");
+    }
+}
+
+#[test]
 fn a_transaction_is_bounded() {
     let (mut core, _) = with_rows(11_000);
     let scans =
         |count: usize| format!(r#"{{"then":[{}]}}"#, vec![r#"{"scan":[null,null],"limit":10000}"#; count].join(","));
-    assert!(run(&mut core, &plan(&scans(3)), None).is_ok());
+    assert!(run(&mut core, &plan(&scans(3)), Length::Long, None).is_ok());
     assert_eq!(stopped(&mut core, &scans(4)), (422, "toomuch"));
     let mut core = crate::testing::core(&["--max-reply", "1000"]);
     committed(&mut core, &format!(r#"{{"then":[{{"put":"a","value":"{}"}}]}}"#, "x".repeat(600)));
