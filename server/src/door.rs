@@ -9,9 +9,11 @@
 //! 4. `moved` changes after the lock was given back, so who is woken finds it free.
 //! 5. Work that may hold the lock for longer than a turn goes one at a time, in the order in which it came: who has such
 //!    work takes the lane for it before it waits for the lock. So who comes with short work waits for one such at most.
-//! 6. Behind work that took too long while others waited, the lane rests. So long work leaves a third of the time to
-//!    others, however much of it there is.
-//! 7. No one has the lane who waits for anything but the lane's rest and the lock. Who goes away gives it back.
+//! 6. Behind work that took too long while others waited, the lane rests. So long work leaves two thirds of the time
+//!    to others, however much of it there is.
+//! 7. Who works in the lane holds up its own thread alone. A thread of the runtime looks after the sockets of all
+//!    others too, so it hands that on before.
+//! 8. No one has the lane who waits for anything but the lane's rest and the lock. Who goes away gives it back.
 //!
 //! What is long is known before, by its size, or shows itself within the time of a short one, and then begins anew in the
 //! lane. What isn't found out so is known behind it: who overran its turn takes the lane for the next one.
@@ -28,14 +30,16 @@ use crate::process;
 use parking_lot::{Mutex, MutexGuard};
 use std::sync::atomic::{AtomicUsize, Ordering::Relaxed};
 use std::time::{Duration, Instant};
+use tokio::runtime::{Handle, RuntimeFlavor};
 use tokio::sync::{watch, Notify, Semaphore, SemaphorePermit};
+use tokio::task::block_in_place;
 use tokio::time::sleep;
 
 /// After so long others get a turn.
 pub const TURN: Duration = Duration::from_millis(5);
 /// Who took so much more has overrun its turn.
 const MUCH: Duration = Duration::from_micros(2500);
-/// The lane rests for this part of what a turn took too much.
+/// The lane rests so many times as long as a turn took too much.
 const REST: u32 = 2;
 /// Shorter rests aren't worth a timer.
 const SHORTEST_REST: Duration = Duration::from_millis(1);
@@ -131,11 +135,13 @@ impl Door {
 
     /// The same of work that may be so long: in the lane, where it may be long. And how long it was.
     pub async fn turn_of<R>(&self, length: Length, work: impl FnOnce(&mut Core, Instant) -> R) -> (R, Length) {
-        let _lane = match length {
-            Length::Short => None,
-            Length::Long => Some(self.lane().await),
-        };
-        self.measured(work)
+        match length {
+            Length::Short => self.measured(work),
+            Length::Long => {
+                let _lane = self.lane().await;
+                aside(|| self.measured(work))
+            }
+        }
     }
 
     /// Keeps the lane, as long work does.
@@ -161,9 +167,9 @@ impl Door {
             let now = Instant::now();
             let over = now.saturating_duration_since(until);
             let is_alone = self.waiting.load(Relaxed) == 0;
-            if !is_alone && over / REST >= SHORTEST_REST {
+            if !is_alone && over * REST >= SHORTEST_REST {
                 let mut rests = self.rests.lock();
-                *rests = (now + over / REST).max(*rests);
+                *rests = (now + over * REST).max(*rests);
             }
             (result, if over > MUCH { Length::Long } else { Length::Short })
         })
@@ -207,6 +213,14 @@ impl Door {
     /// Waits until a closing has to be done later than now.
     pub async fn due(&self) {
         self.due.notified().await;
+    }
+}
+
+/// Works for long, by itself: a thread of a runtime with several hands on before what else it does.
+fn aside<R>(work: impl FnOnce() -> R) -> R {
+    match Handle::try_current().map(|runtime| runtime.runtime_flavor()) {
+        Ok(RuntimeFlavor::MultiThread) => block_in_place(work),
+        _ => work(),
     }
 }
 
@@ -282,7 +296,7 @@ mod tests {
                     scope.spawn(|| door.run(|_| {}));
                     while_one_waits(door)
                 }));
-                assert!(was == Length::Long && next() >= end + (LONG - TURN) / REST);
+                assert!(was == Length::Long && next() >= end + (LONG - TURN) * REST);
             });
         }
     }

@@ -315,7 +315,7 @@ def fill_pages(port: int) -> None:
 def large_pages(port: int, count: int = 8) -> None:
     """So many clients that read pages of 4 MB."""
     fill_pages(port)
-    all_ask(port, count, 200, "GET", "/rows?lo=paged/&hi=paged0&limit=10000")
+    all_ask(port, count, 200, "GET", "/rows?lo=paged/&hi=paged0&limit=10000&hold=0")
 
 
 def large_plans(port: int, count: int = 8) -> None:
