@@ -22,6 +22,7 @@ use super::run::{Committed, End, Failed, Row, Stop, Told};
 use super::transact::{answer_once, run_until, tell_members};
 use super::{body_of, spelling_in, wait_in};
 use crate::core::Core;
+use crate::door::Length;
 use crate::http::{Request, Response};
 use crate::journal::Form;
 use crate::outcome::Outcome;
@@ -104,7 +105,7 @@ async fn read(server: &Server, key: &[u8], at: Option<u64>, hold: &Wanted, until
         Ok(read)
     };
     if at.is_some() {
-        return at_snapshot(server, at, until, held).await;
+        return at_snapshot(server, at, until, Length::Short, held).await;
     }
     let is_current = |core: &Core| core.ledger.closed >= core.ledger.greatest;
     let newest = server.door.run(|core| is_current(core).then(|| held(core, core.ledger.closed))).transpose()?;
@@ -114,7 +115,7 @@ async fn read(server: &Server, key: &[u8], at: Option<u64>, hold: &Wanted, until
             let read = read_by_transaction(server, key, until).await?;
             if hold.time(None).is_some() {
                 // A snapshot can be held once it is closed.
-                at_snapshot(server, Some(read.timestamp), until, held).await?;
+                at_snapshot(server, Some(read.timestamp), until, Length::Short, held).await?;
             }
             Ok(read)
         }

@@ -8,7 +8,8 @@
 //! 1. All pages of a walk show one snapshot, or are refused. While there are more, it is held for `hold` seconds, and
 //!    each page holds it anew. Where `hold` is 0, nothing is held.
 //! 2. A page that isn't the last one has a row at least.
-//! 3. A page is read in parts, none of which takes longer than a turn. Its snapshot isn't collected meanwhile.
+//! 3. A page is read in parts, none of which takes longer than a turn: in the lane, where there are several. Its
+//!    snapshot isn't collected meanwhile.
 
 use super::holds::Wanted;
 use super::pages::MOST_BYTES;
@@ -18,7 +19,7 @@ use super::transact::tell_rows;
 use super::{bytes::MOST_BOUND, spelling_in, wait_in};
 use crate::budget::Held;
 use crate::core::Core;
-use crate::door::TURN;
+use crate::door::{Length, TURN};
 use crate::http::{Request, Response};
 use crate::outcome::Outcome;
 use crate::query::{arguments, percent_encoded, Arguments};
@@ -85,30 +86,33 @@ async fn in_turns(
     unread: &Held,
 ) -> Result<Shown, Refusal> {
     let mut reading = Reading::new(server, limit);
+    // Many parts are long work, though none of them is.
+    let mut length = if limit as u64 > PART.rows { Length::Long } else { Length::Short };
     loop {
-        let part = at_snapshot(server, at, until, |core, at| match unread.has_room() {
+        let part = at_snapshot(server, at, until, length, |core, at| match unread.has_room() {
             true => Ok((at, reading.part(core, &span, at, hold)?)),
             false => Err(Refusal::crowded()),
         });
         match part.await? {
-            (timestamp, Read::Part(next)) => (at, span.lo) = (Some(timestamp), Cow::Owned(next)),
+            (timestamp, Read::Part(next)) => (at, span.lo, length) = (Some(timestamp), Cow::Owned(next), Length::Long),
             (timestamp, Read::All(next)) => return Ok(Shown { timestamp, rows: reading.take(), next }),
         }
         tokio::task::yield_now().await;
     }
 }
 
-/// Works at a snapshot, once it is closed: at the closed timestamp where none is asked for.
+/// Works so long at a snapshot, once it is closed: at the closed timestamp where none is asked for.
 pub async fn at_snapshot<R>(
     server: &Server,
     at: Option<u64>,
     until: Instant,
+    length: Length,
     mut work: impl FnMut(&mut Core, u64) -> Result<R, Refusal>,
 ) -> Result<R, Refusal> {
     let mut moved = server.door.moved();
     loop {
         moved.borrow_and_update();
-        let worked = server.door.run(|core| match at {
+        let worked = server.door.turn_of(length, |core, _| match at {
             Some(at) if at > core.ledger.closed.max(core.ledger.greatest) => {
                 let why = "this timestamp is above all that began";
                 Some(Err(Refusal::new(409, "notclosed", why).with_number("closed", core.ledger.closed)))
@@ -117,7 +121,7 @@ pub async fn at_snapshot<R>(
             Some(at) if at < core.ledger.horizon => Some(Err(Stop::BelowHorizon(core.ledger.horizon).refusal())),
             at => Some(work(core, at.unwrap_or(core.ledger.closed))),
         });
-        if let Some(worked) = worked {
+        if let Some(worked) = worked.await.0 {
             return worked;
         }
         if tokio::time::timeout_at(until.into(), moved.changed()).await.is_err() {
