@@ -230,6 +230,7 @@ mod tests {
     use crate::testing::{server, waits};
     use std::future::Future;
     use std::sync::atomic::{AtomicBool, Ordering::SeqCst};
+    use std::sync::Arc;
     use std::thread::{self, sleep, yield_now};
 
     const LONG: Duration = Duration::from_millis(45);
@@ -299,6 +300,26 @@ mod tests {
                 assert!(was == Length::Long && next() >= end + (LONG - TURN) * REST);
             });
         }
+    }
+
+    #[test]
+    fn work_in_the_lane_holds_up_no_other_task_of_its_thread() {
+        let (server, goes_on) = (server(&[]), Arc::new(AtomicBool::new(false)));
+        let one = tokio::runtime::Builder::new_multi_thread().worker_threads(1).enable_all().build();
+        let (one, other) = (one.expect("a runtime"), goes_on.clone());
+        let long = one.spawn(async move {
+            let wait_for_another = |_: &mut Core, _| {
+                tokio::spawn(async move { other.store(true, SeqCst) });
+                (0..6000).any(|_| {
+                    goes_on.load(SeqCst) || {
+                        sleep(Duration::from_millis(10));
+                        false
+                    }
+                })
+            };
+            server.door.turn_of(Length::Long, wait_for_another).await.0
+        });
+        assert!(one.block_on(long).expect("it doesn't panic"));
     }
 
     #[tokio::test(start_paused = true)]
