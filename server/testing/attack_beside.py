@@ -64,7 +64,7 @@ def test_eight_clients_that_read_pages_of_4_megabytes(room: Room, scale: Scale) 
     return beside(room, "large_pages", "8", ask="put")
 
 
-def test_eight_clients_with_transactions_that_scan_2_megabytes(room: Room, scale: Scale) -> str:
+def test_eight_clients_with_transactions_that_scan_4_megabytes(room: Room, scale: Scale) -> str:
     return beside(room, "large_plans", "8", ask="put")
 
 

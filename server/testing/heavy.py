@@ -319,9 +319,9 @@ def large_pages(port: int, count: int = 8) -> None:
 
 
 def large_plans(port: int, count: int = 8) -> None:
-    """So many clients that scan 2 MB in a transaction."""
+    """So many clients that scan 4 MB in a transaction."""
     fill_pages(port)
-    all_ask(port, count, 200, "POST", "/transact", '{"then":[{"scan":["paged/","paged0"],"limit":2500}]}')
+    all_ask(port, count, 200, "POST", "/transact", '{"then":[{"scan":["paged/","paged0"],"limit":10000}]}')
 
 
 def long_plans(port: int, count: int = 8) -> None:
