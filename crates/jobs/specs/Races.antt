@@ -10,9 +10,8 @@ use Rattle.script.specs.Transcripts.{transcript_text}
 use Rattle.shared_db.specs.declared.config.Config.{Config}
 use Rattle.shared_db.specs.Opening.{IsReason}
 use Rattle.races.specs.Calls.{IsRaceOf}
-use Rattle.races.specs.declared.racing.RaceError.TheVariants as race_errors
-use Rattle.races.specs.declared.settling.FreshError.{FreshError}
-use Rattle.races.specs.declared.settling.FreshError.TheVariants as errors
+use Rattle.races.specs.declared.calls.FreshError.{FreshError}
+use Rattle.races.specs.declared.calls.FreshError.TheVariants as errors
 use Rattle.jobs.specs.declared.answer.RaceAnswer.{RaceAnswer}
 use Rattle.jobs.specs.declared.answer.RaceAnswer.TheVariants as answer
 use Rattle.jobs.specs.declared.ending.End.{End}
@@ -51,8 +50,7 @@ IsUnraced options _ = ⊥
 abbrev pub end_of_refusal : FreshError → End
 end_of_refusal (errors.Open reason) = ends.Open reason
 end_of_refusal errors.NoMemory = ends.Memory
-end_of_refusal (errors.Race race_errors.Thread) = ends.Thread
-end_of_refusal (errors.Race _) = ends.Memory
+end_of_refusal errors.Thread = ends.Thread
 
 -- how a race ends whose answer is written whole
 abbrev pub end_of_answer : RaceAnswer → End

@@ -1,16 +1,14 @@
 //! The sessions of a script race.
-ghost use Rattle.std.specs.Prelude.{◌≡◌, ◌≢◌, ◌++◌, IfOk, IfErr};
+ghost use Rattle.std.specs.Prelude.{◌≡◌, ◌++◌, IfOk, IfErr};
 ghost use Rattle.text_format.specs.Limits.{header};
 ghost use Rattle.word_lines.specs.Events.{fault_line};
-ghost use Rattle.races.specs.declared.racing.RaceError.TheVariants.{Counts};
-ghost use Rattle.races.specs.declared.settling.FreshError.TheVariants.{Race};
 ghost use Rattle.jobs.specs.Answers.{IsAnswered};
 ghost use Rattle.jobs.specs.Ends.{end_of};
 ghost use Rattle.jobs.specs.Races.{IsRace, IsUnraced, end_of_answer, text_of_answer, end_of_refusal};
 
 use crate::answer::RaceAnswer;
 use crate::ending::End;
-use races::{FreshError, Gate, RaceError, race_calls};
+use races::{FreshError, Gate, race_calls};
 use script::fault::TranscriptError;
 use script::scripts::read_script;
 use sessions::{Sink, Source, read_whole};
@@ -108,15 +106,11 @@ fn fault_text(
 
 /// How a race ends that left nothing.
 fn end_of(refused: FreshError) -> End
-    requires as_many { refused ≢ Race Counts }
     ensures { result ≡ end_of_refusal refused }
 {
     match refused {
         FreshError::Open(reason) => End::Open(reason),
         FreshError::NoMemory => End::Memory,
-        FreshError::Race(RaceError::NoMemory) => End::Memory,
-        FreshError::Race(RaceError::Thread) => End::Thread,
-        // there are as many lists as seats
-        FreshError::Race(RaceError::Counts) => unreachable!(),
+        FreshError::Thread => End::Thread,
     }
 }

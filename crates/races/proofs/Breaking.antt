@@ -1,30 +1,20 @@
 -- Where sorted events first break.
-use Rattle.std.proofs.Common.{◌≡◌, ℕ, zero, suc, ◌+◌, ◌-◌, ◌<◌, ◌≤◌, List, [], ◌∷◌, ◌++◌, length, get_or, take, drop, refl, sym, ap, ◌∙◌, subst, arith}
+use Rattle.std.proofs.Common.{◌≡◌, ℕ, suc, ◌+◌, ◌-◌, ◌<◌, ◌≤◌, List, [], ◌∷◌, ◌++◌, length, get_or, take, drop, refl, sym, ap, ◌∙◌, subst, arith}
 use Rattle.std.specs.List.Sorted.{IsNonDecreasingBy}
+use Rattle.std.proofs.Math.Seq.{drop-cons, take-suc}
+use Rattle.std.proofs.lemmas.List.{get_or_default, length-take-le, take-append-drop}
 use Rattle.spans.specs.declared.calls.events.Event.{Event}
 use Rattle.spans.specs.Legal.{IsGapless}
 use Rattle.spans.proofs.Histories.{gapless_more}
+use Rattle.trace_check.proofs.TraceSteps.{last_stands}
 use Rattle.races.specs.Merging.{position_of, start_of, IsUnbroken, Breaks}
 
 module _ {A : Type 0} where
   cut_at : (xs : List A) (k : ℕ) (a : A) → k < length xs → a ≡ get_or xs k a → xs ≡ take k xs ++ a ∷ drop (suc k) xs
-  cut_at [] k a there at = absurd (omega arith)
-  cut_at (x ∷ xs) zero a there at = ap (λ y. y ∷ xs) (sym at)
-  cut_at (x ∷ xs) (suc k) a there at = ap (λ ys. x ∷ ys) (cut_at xs k a (omega arith) at)
+  cut_at xs k a there at = sym (take-append-drop k xs) ∙ ap (λ ys. take k xs ++ ys) (drop-cons xs k a there ∙ ap (λ y. y ∷ drop (suc k) xs) (sym at))
 
   take_more : (xs : List A) (k : ℕ) (a : A) → k < length xs → a ≡ get_or xs k a → take (suc k) xs ≡ take k xs ++ a ∷ []
-  take_more [] k a there at = absurd (omega arith)
-  take_more (x ∷ xs) zero a there at = ap (λ y. y ∷ []) (sym at)
-  take_more (x ∷ xs) (suc k) a there at = ap (λ ys. x ∷ ys) (take_more xs k a (omega arith) at)
-
-  take_length : (xs : List A) (k : ℕ) → k ≤ length xs → length (take k xs) ≡ k
-  take_length xs zero le = refl
-  take_length [] (suc k) le = absurd (omega arith)
-  take_length (x ∷ xs) (suc k) le = let q = take_length xs k (omega arith) in omega arith
-
-last_place : (n : ℕ) (es : List Event) (e : Event) → IsGapless n (es ++ e ∷ []) → e.position ≡ n + length es
-last_place n [] e h = let q = h.0 in omega arith
-last_place n (x ∷ es) e h = let q = last_place (suc n) es e h.1 in omega arith
+  take_more xs k a there at = take-suc xs k a there ∙ ap (λ y. take k xs ++ y ∷ []) (sym at)
 
 start_more : (es : List Event) (e f : Event) → start_of ((es ++ e ∷ []) ++ f ∷ []) ≡ start_of (es ++ e ∷ [])
 start_more [] e f = refl
@@ -38,9 +28,9 @@ goes_on events k e f there at at' next h =
     let two : take (suc (suc k)) events ≡ (es ++ e ∷ []) ++ f ∷ [] = take_more events (suc k) f there at' ∙ ap (λ xs. xs ++ f ∷ []) one in
     let h' : IsUnbroken (es ++ e ∷ []) = subst IsUnbroken one h in
     let n = start_of (es ++ e ∷ []) in
-    let at_e : e.position ≡ n + length es = last_place n es e h' in
-    let l : length (es ++ e ∷ []) ≡ suc k = ap length (sym one) ∙ take_length events (suc k) (omega arith) in
-    let l' : length es ≡ k = take_length events k (omega arith) in
+    let at_e : e.position ≡ n + length es = last_stands n es e h' in
+    let l : length (es ++ e ∷ []) ≡ suc k = ap length (sym one) ∙ length-take-le (suc k) events (omega arith) in
+    let l' : length es ≡ k = length-take-le k events (omega arith) in
     subst IsUnbroken (sym two) (subst (λ m. IsGapless m ((es ++ e ∷ []) ++ f ∷ [])) (sym (start_more es e f)) (gapless_more n (es ++ e ∷ []) f h' (omega arith)))
 
 -- the next event doesn't
@@ -59,16 +49,11 @@ breaks_here how events k e f there at at' broken h =
 
 -- ---- the same at a loop's places
 
-any_default : {A : Type 0} (xs : List A) (k : ℕ) (d a : A) → k < length xs → a ≡ get_or xs k a → get_or xs k d ≡ a
-any_default [] k d a there at = absurd (omega arith)
-any_default (x ∷ xs) zero d a there at = sym at
-any_default (x ∷ xs) (suc k) d a there at = any_default xs k d a (omega arith) at
-
 pub rises : (events : List Event) (at : ℕ) (e f : Event) → IsNonDecreasingBy position_of events → 0 < at → at < length events → e ≡ get_or events (at - 1) e → f ≡ get_or events at f → e.position ≤ f.position
 rises events at e f rising some there is_e is_f =
     let le = rising (at - 1) at e (omega arith) there in
-    let a = ap position_of (any_default events (at - 1) e e (omega arith) is_e) in
-    let b = ap position_of (any_default events at e f there is_f) in
+    let a = ap position_of is_e in
+    let b = ap position_of (get_or_default events at e f there ∙ sym is_f) in
     omega arith
 
 pub goes_on_at : (events : List Event) (at : ℕ) (e f : Event) → 0 < at → at < length events → e ≡ get_or events (at - 1) e → f ≡ get_or events at f → f.position ≡ e.position + 1 → IsUnbroken (take at events) → IsUnbroken (take (at + 1) events)

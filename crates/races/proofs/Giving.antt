@@ -1,21 +1,13 @@
 -- The calls of a script, given out to the lists of sessions one by one.
-use Rattle.std.proofs.Common.{◌≡◌, ◌≢◌, ℕ, ◌+◌, ◌<◌, ◌==◌, Bool, cond, List, [], ◌∷◌, ◌++◌, length, map, filter, set, refl, sym, ap, ◌∙◌, subst, arith, append-nil, append_assoc, eq-eqb, ne_eqb, ⊎_elim, All}
+use Rattle.std.proofs.Common.{◌≡◌, ◌≢◌, ℕ, ◌+◌, ◌==◌, Bool, cond, List, [], ◌∷◌, ◌++◌, map, filter, set, refl, sym, ap, ◌∙◌, subst, append-nil, append_assoc, eq-eqb, ne_eqb, All}
 use Rattle.std.specs.Prelude.{Vec}
 use mathlib.Core.Option.{some, some-injective}
 use lib.ListN.{get_elem?, get_or}
 use Rattle.spans.specs.declared.calls.commands.Cmd.{Cmd}
-use Rattle.spans.specs.declared.calls.events.Event.{Event}
-use Rattle.spans.specs.Legal.{IsGapless}
-use Rattle.engine.specs.declared.Engine.{Engine}
-use Rattle.ticket_lock.specs.Lists.{most, of_seat}
 use Rattle.ticket_lock.proofs.ListFacts.{each_set}
-use Rattle.shared_db.specs.declared.config.Config.{Config}
-use Rattle.races.specs.Calls.{commands_by, AreLists, IsRaceOf}
-use Rattle.races.specs.Playing.{commands_of}
-use Rattle.races.specs.Settling.{HasRaced}
+use Rattle.races.specs.Calls.{commands_by, AreLists}
 use Rattle.races.proofs.Promised.{there_at}
 use Rattle.races.proofs.Shares.{elem_at}
-use Rattle.races.proofs.Fresh.{found_at}
 
 -- what each list holds, and what is still to come for it, is what it has to hold
 abbrev pub AreLeft : {Z : Type 0} → List (ℕ × Cmd) → List (ℕ × Cmd) → List (Vec Cmd Z) → Type 0
@@ -45,15 +37,3 @@ one_given {Z} all s c rest lists old new at grown left = each_set (λ k (list : 
 
 pub all_given : {Z : Type 0} (all : List (ℕ × Cmd)) (lists : List (Vec Cmd Z)) → AreLeft all [] lists → AreLists all lists
 all_given all lists left = λ k list at. sym (append-nil list.items) ∙ left k list at
-
--- so many events are fewer than there are positions
-pub race_of : {Z : Type 0} (config : Config) (sessions : ℕ) (calls : List (ℕ × Cmd)) (lists : List (Vec Cmd Z)) (engine : Engine) (events : List Event)
-    → config.first ≡ 0 → length lists ≡ sessions → length events < 9223372036854775808 → AreLists calls lists → HasRaced config lists engine events → IsRaceOf sessions calls events
-race_of config sessions calls lists engine events first count few are h = record {
-  trace = h.trace;
-  gapless = subst (λ (n : ℕ). IsGapless n events) first h.gapless;
-  named = λ k e at. let lt = h.named k e at in omega (arith, lt, count);
-  each = λ k lt.
-      let a = found_at lists k (omega (arith, lt, count)) in
-      ⊎_elim (λ (w : commands_of (of_seat (λ (x : Event). x.seat) k events) ≡ a.0.items). w ∙ are k a.0 a.1) (λ (spent : config.first + length events ≡ most). absurd (omega (arith, spent, first, few))) (h.each k a.0 a.1).whole;
-}

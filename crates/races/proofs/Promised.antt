@@ -1,6 +1,7 @@
 -- What the threads of a race promised, at their places.
-use Rattle.std.proofs.Common.{◌≡◌, ℕ, zero, suc, ◌<◌, List, [], ◌∷◌, length, map, get_or, Ok, Global, refl, sym, ap, ◌∙◌, subst, arith}
+use Rattle.std.proofs.Common.{◌≡◌, ℕ, zero, suc, ◌<◌, List, [], ◌∷◌, length, map, get_or, Ok, Global, sym, ap, ◌∙◌, subst, arith}
 use Rattle.std.specs.Prelude.{Result, Vec, vec_len, IfOk}
+use Rattle.std.proofs.lemmas.List.{length-map}
 use Rattle.spans.specs.declared.calls.commands.Cmd.{Cmd}
 use Rattle.shared_db.specs.declared.db.Db.{Db}
 use Rattle.races.specs.declared.ended.Ended.{Ended}
@@ -31,17 +32,13 @@ got_at [] k a d e = absurd (some-ne-none a (sym e))
 got_at (x ∷ xs) zero a d e = some-injective x a e
 got_at (x ∷ xs) (suc k) a d e = got_at xs k a d e
 
-map_length : {A B : Type 0} (f : A → B) (xs : List A) → length (map f xs) ≡ length xs
-map_length f [] = refl
-map_length f (x ∷ xs) = let q = map_length f xs in omega arith
-
 -- what each thread promised, its session kept
 pub all_ended : {H Z E : Type 0} (promise : H → Plays) (db : Db) (seats : List _) (lists : List (Vec Cmd Global)) (handles : List H) (results : List (Result Ended E)) (all : Vec Ended Z) → AreStarted promise db seats lists handles
     → ((k : ℕ) (r : Result Ended E) → get_elem? results k ≡ some r → (h : H) × (get_elem? handles k ≡ some h) × IfOk r (λ e. IsPlayed (promise h).db.value (promise h).seat.value (promise h).commands.value.items e.events.items e.spent e.seat))
     → length results ≡ length handles → AreOk results all.items → vec_len all ≡ length all.items → AllEnded db seats lists all
 all_ended promise db seats lists handles results all started kept as_many ok whole = record {
-  count = whole ∙ (sym (map_length Ok all.items) ∙ (ap length ok ∙ (as_many ∙ (sym (map_length (λ h. (promise h).seat.value) handles) ∙ ap length started.of_seats))));
-  as_many = ap length (sym started.of_lists) ∙ (map_length (λ h. (promise h).commands.value) handles ∙ (sym (map_length (λ h. (promise h).seat.value) handles) ∙ ap length started.of_seats));
+  count = whole ∙ (sym (length-map all.items Ok) ∙ (ap length ok ∙ (as_many ∙ (sym (length-map handles (λ h. (promise h).seat.value)) ∙ ap length started.of_seats))));
+  as_many = ap length (sym started.of_lists) ∙ (length-map handles (λ h. (promise h).commands.value) ∙ (sym (length-map handles (λ h. (promise h).seat.value)) ∙ ap length started.of_seats));
   each = λ k e at.
       let r = kept k (Ok e) (ap (λ xs. get_elem? xs k) (sym ok) ∙ of_map Ok all.items k e at) in
       let same : (promise r.0).db.value ≡ db = subst (λ h. (promise h).db.value ≡ db) (got_at handles k r.0 r.0 r.1) (started.same k r.0 (there_at handles k r.0 r.1)) in

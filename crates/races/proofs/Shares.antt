@@ -1,6 +1,7 @@
 -- From what `finish` tells to what is said of a race that is over.
 use Rattle.std.proofs.Common.{◌≡◌, ℕ, zero, suc, ◌+◌, ◌<◌, List, [], ◌∷◌, length, map, reverse, get_or, cond, Global, sym, refl, ap, ◌∙◌, subst, arith, All}
 use Rattle.std.specs.Prelude.{◌==◌, sum_by, count_by, flat_map, Vec, IsPermutation}
+use Rattle.std.proofs.lemmas.List.Folds.{flat_map-map}
 use mathlib.Core.Option.{some, some-injective, some-ne-none}
 use lib.ListN.{get_elem?}
 use Rattle.spans.specs.declared.calls.events.Event.{Event}
@@ -15,13 +16,13 @@ use Rattle.ticket_lock.specs.Seats.{number}
 use Rattle.shared_db.specs.declared.db.Db.{Db}
 use Rattle.shared_db.specs.Seats.{IsOf, AllOf, AllNew, first_of, seat_count}
 use Rattle.shared_db.specs.Whole.{IsWhole}
-use Rattle.trace_check.specs.Traces.{position_of_first}
+use Rattle.trace_check.proofs.TraceSteps.{gapless_from_first}
 use Rattle.races.specs.declared.ended.Ended.{Ended}
 use Rattle.races.specs.declared.merging.MergeError.TheVariants as errors
 use Rattle.races.specs.Playing.{IsIdle}
 use Rattle.races.specs.Merging.{events_of, IsMerged, IsReason}
 use Rattle.races.specs.Settling.{IsSettled}
-use Rattle.races.proofs.Weighing.{Among, sum_map, flat_map_map, weighed, among}
+use Rattle.races.proofs.Weighing.{Among, sum_map, weighed, among}
 use Rattle.races.proofs.Ordered.{merged_is, no_repeat, no_gap}
 use Rattle.races.proofs.Promised.{of_map, there_at, got_at}
 
@@ -48,10 +49,6 @@ module _ {C : Ghosts Served Event} where
   pub new_idle : (db : Db) (seats : List (Seat Served Event C)) → AllNew db seats → All IsIdle seats
   new_idle db seats new k d lt = let s = new k (get_or seats k d) (elem_at seats k d lt) in record { unseen = s.unseen; none = s.idle }
 
-from_first : (n : ℕ) (es : List Event) → IsGapless n es → IsGapless (position_of_first es) es
-from_first n [] g = tt
-from_first n (e ∷ es) g = (refl, subst (λ (m : ℕ). IsGapless (suc m) es) (sym g.0) g.1)
-
 module _ (db : Db) (all : List Ended) (seats : List _) (lists : List (Vec Event Global)) (engine : Engine)
     (is_seats : seats ≡ map (λ (e : Ended). e.seat) all) (is_lists : lists ≡ map (λ (e : Ended). e.events) all) (w : IsWhole db seats engine) where
   part : (k : ℕ) (e : Ended) → get_elem? all k ≡ some e → get_elem? seats k ≡ some e.seat
@@ -64,7 +61,7 @@ module _ (db : Db) (all : List Ended) (seats : List _) (lists : List (Vec Event 
   once n lt = sym (sum_map (λ s. cond (number s == n) 1 0) (λ (e : Ended). e.seat) all) ∙ (ap (λ xs. count_by (λ s. number s == n) xs) (sym is_seats) ∙ w.once n lt)
 
   events_is : events_of lists ≡ flat_map (λ (e : Ended). e.events.items) all
-  events_is = ap (λ (xs : List (Vec Event Global)). events_of xs) is_lists ∙ flat_map_map (λ (list : Vec Event Global). list.items) (λ (e : Ended). e.events) all
+  events_is = ap (λ (xs : List (Vec Event Global)). events_of xs) is_lists ∙ flat_map-map (λ (list : Vec Event Global). list.items) (λ (e : Ended). e.events) all
 
   weighs : (f : Event → ℕ) → sum_by f (events_of lists) ≡ sum_by f w.history
   weighs f = ap (sum_by f) events_is ∙ weighed (λ (e : Ended). e.events.items) (λ (e : Ended). number e.seat) f (seat_count db) all w.history once w.named owns
@@ -85,7 +82,7 @@ module _ (db : Db) (all : List Ended) (seats : List _) (lists : List (Vec Event 
     gapless = subst (IsGapless (first_of db)) is w.gapless;
     stood = subst (λ xs. StandsFor engine (reverse xs)) is w.stood;
     steps = w.steps ∙ ap length is;
-    trace = record { legal = subst (λ xs. IsLegal (reverse xs)) is w.legal; gapless = from_first (first_of db) events (subst (IsGapless (first_of db)) is w.gapless) };
+    trace = record { legal = subst (λ xs. IsLegal (reverse xs)) is w.legal; gapless = gapless_from_first (first_of db) events (subst (IsGapless (first_of db)) is w.gapless) };
     named = λ k e at. w.named k e (ap (λ xs. get_elem? xs k) is ∙ at);
     each = λ k e at. record {
       own = owns k e at ∙ ap (λ xs. of_seat (λ (x : Event). x.seat) (number e.seat) xs) is;

@@ -7,6 +7,7 @@ use mathlib.Core.Logic.{dite}
 use native.Mathlib.Decide.{ℕ_discrete}
 use lib.ListN.{get_elem?}
 use Rattle.spans.specs.declared.calls.events.Event.{Event}
+use Rattle.spans.proofs.Steps.{by_test}
 use Rattle.ticket_lock.specs.Lists.{of_seat}
 
 -- the event is one of these
@@ -39,10 +40,6 @@ among_append : (xs ys h : List Event) → Among xs h → Among ys h → Among (x
 among_append [] ys h a b = b
 among_append (x ∷ xs) ys h a b = (a.0, among_append xs ys h a.1 b)
 
-split : {P : Type 0} (b : Bool) → (b ≡ true → P) → (b ≡ false → P) → P
-split true f g = f refl
-split false f g = g refl
-
 module _ {A : Type 0} where
   sum_zero : (l : List A) → sum_by (λ (x : A). 0) l ≡ 0
   sum_zero [] = refl
@@ -56,15 +53,11 @@ module _ {A : Type 0} where
   sum_map f g [] = refl
   sum_map f g (x ∷ xs) = let q = sum_map f g xs in omega (arith, sum_by-cons f (g x) (map g xs), sum_by-cons (λ (y : A). f (g y)) x xs)
 
-  pub flat_map_map : {B C : Type 0} (f : B → List C) (g : A → B) (l : List A) → flat_map f (map g l) ≡ flat_map (λ (x : A). f (g x)) l
-  flat_map_map f g [] = refl
-  flat_map_map f g (x ∷ xs) = ap (λ ys. f (g x) ++ ys) (flat_map_map f g xs)
-
   none_passes : (p : A → Bool) (w : ℕ) (l : List A) → count_by p l ≡ 0 → sum_by (λ (x : A). cond (p x) w 0) l ≡ 0
   none_passes p w [] z = refl
   none_passes p w (x ∷ xs) z =
       let c = sum_by-cons (λ (y : A). cond (p y) 1 0) x xs in let d = sum_by-cons (λ (y : A). cond (p y) w 0) x xs in
-      split (p x)
+      by_test (p x)
       (λ yes. let a = ap {B = ℕ} (λ b. cond b 1 0) yes in absurd (omega (arith, a, c, z)))
       (λ no. let a = ap {B = ℕ} (λ b. cond b 1 0) no in let b = ap {B = ℕ} (λ b. cond b w 0) no in let q = none_passes p w xs (omega (arith, a, c, z)) in omega (arith, b, d, q))
 
@@ -73,7 +66,7 @@ module _ {A : Type 0} where
   one_passes p w [] z = absurd (omega (arith, z))
   one_passes p w (x ∷ xs) z =
       let c = sum_by-cons (λ (y : A). cond (p y) 1 0) x xs in let d = sum_by-cons (λ (y : A). cond (p y) w 0) x xs in
-      split (p x)
+      by_test (p x)
       (λ yes. let a = ap {B = ℕ} (λ b. cond b 1 0) yes in let b = ap {B = ℕ} (λ b. cond b w 0) yes in let q = none_passes p w xs (omega (arith, a, c, z)) in omega (arith, b, d, q))
       (λ no. let a = ap {B = ℕ} (λ b. cond b 1 0) no in let b = ap {B = ℕ} (λ b. cond b w 0) no in let q = one_passes p w xs (omega (arith, a, c, z)) in omega (arith, b, d, q))
 

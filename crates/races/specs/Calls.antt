@@ -1,5 +1,5 @@
 -- The calls of a script, given to sessions that race, and what comes of them.
-use Rattle.std.specs.Prelude.{◌≡◌, ◌≢◌, ℕ, ◌<◌, ◌==◌, ◌↔◌, List, filter, map, Vec}
+use Rattle.std.specs.Prelude.{◌≡◌, ℕ, ◌<◌, ◌==◌, List, filter, map, Vec}
 use mathlib.Core.Option.{some}
 use lib.ListN.{get_elem?}
 use Rattle.spans.specs.declared.calls.commands.Cmd.{Cmd}
@@ -9,9 +9,8 @@ use Rattle.ticket_lock.specs.Lists.{of_seat}
 use Rattle.shared_db.specs.declared.config.Config.{Config}
 use Rattle.shared_db.specs.Opening.{IsReason}
 use Rattle.trace_check.specs.Traces.{IsTrace}
-use Rattle.races.specs.declared.racing.RaceError.TheVariants.{Counts}
-use Rattle.races.specs.declared.settling.FreshError.{FreshError}
-use Rattle.races.specs.declared.settling.FreshError.TheVariants as errors
+use Rattle.races.specs.declared.calls.FreshError.{FreshError}
+use Rattle.races.specs.declared.calls.FreshError.TheVariants as errors
 use Rattle.races.specs.Playing.{commands_of}
 
 -- the commands of one session, in their order
@@ -29,8 +28,7 @@ pub record IsRaceOf (sessions : ℕ) (calls : List (ℕ × Cmd)) (events : List 
   pub named : (k : ℕ) (e : Event) → get_elem? events k ≡ some e → e.seat < sessions
   pub each : (k : ℕ) → k < sessions → commands_of (of_seat (λ (x : Event). x.seat) k events) ≡ commands_by k calls
 
--- why a race on a database of its own left nothing, with so many lists
-abbrev pub IsFreshReason : Config → ℕ → FreshError → Type 0
-IsFreshReason config lists (errors.Open reason) = IsReason config reason
-IsFreshReason config lists (errors.Race error) = (error ≡ Counts) ↔ (lists ≢ config.seats)
-IsFreshReason config lists errors.NoMemory = Unit {0}
+-- why a race on a database of its own left nothing
+abbrev pub IsFreshReason : Config → FreshError → Type 0
+IsFreshReason config (errors.Open reason) = IsReason config reason
+IsFreshReason config _ = Unit {0}

@@ -30,8 +30,8 @@
 //!
 //! - `race`: a thread for each session, and the database's call for each call
 //! - `merge`: as a sort by position of all events
-//! - `settle`: as `merge`, and the end of the database; `settle_checked`: also a check of the history
-//! - `lists_of`: the calls, once
+//! - `settle`: as `merge`, and the end of the database
+//! - `race_calls`: the calls, once, and as `race` and `settle`
 //!
 //! Whether a race returns is not promised, nor in which way the calls of sessions mix.
 //!
@@ -45,9 +45,9 @@ mod merging;
 mod racing;
 mod settling;
 
-pub use calls::{lists_of, race_calls};
+pub use calls::{FreshError, race_calls};
 pub use ended::Ended;
 pub use gate::{Gate, Open};
 pub use merging::{MergeError, merge};
 pub use racing::{RaceError, race};
-pub use settling::{FreshError, Settled, settle, settle_checked};
+pub use settling::settle;

@@ -25,9 +25,8 @@ pairs_decide a b = Decides-like _ (λ same. pair_is a.0 b.0 a.1 b.1 same.0 same.
 -- values are compared where there are any
 afters_decide : (a b : Option (List ℕ)) → Decides (option_eq bytes_eq a b) (a ≡ b)
 afters_decide (Some v) (Some w) = Decides-like _ (ap Some) (λ same. cc) (bytes_eq-Decides v w)
-afters_decide (Some v) None = (λ no. cc, λ no. cc)
-afters_decide None (Some w) = (λ no. cc, λ no. cc)
 afters_decide None None = (λ _. refl, λ _. refl)
+afters_decide _ _ = (λ no. cc, λ no. cc)
 
 -- a row is compared by its timestamp, its key and its value
 rows_decide : (a b : CommittedRow) → Decides (a.ts == b.ts && (bytes_eq a.key b.key && option_eq bytes_eq a.after b.after)) (a ≡ b)
@@ -37,6 +36,5 @@ rows_decide a b = Decides-like _ (λ same. row_is a.ts b.ts a.key b.key a.after 
 -- a message is compared as a row, or by its timestamp
 pub messages_decide : (a b : Message) → Decides (eq-value.it a b) (a ≡ b)
 messages_decide (Row a) (Row b) = Decides-like _ (ap Row) (λ same. cc) (rows_decide a b)
-messages_decide (Row a) (Resolved b) = (λ no. cc, λ no. cc)
-messages_decide (Resolved a) (Row b) = (λ no. cc, λ no. cc)
 messages_decide (Resolved a) (Resolved b) = Decides-like _ (ap Resolved) (λ same. cc) (Decides-eqb a b)
+messages_decide _ _ = (λ no. cc, λ no. cc)

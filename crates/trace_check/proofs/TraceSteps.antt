@@ -11,17 +11,17 @@ use Rattle.spans.proofs.Histories.{gapless_more, turned_more}
 -- ---- positions
 
 -- the last of a list without a gap stands as far from the first as the list is long
-last_stands : (n : ℕ) (es : List Event) (e : Event) → IsGapless n (es ++ e ∷ []) → e.position ≡ n + length es
+pub last_stands : (n : ℕ) (es : List Event) (e : Event) → IsGapless n (es ++ e ∷ []) → e.position ≡ n + length es
 last_stands n [] e gapless = omega (arith, gapless.0)
 last_stands n (x ∷ xs) e gapless = let rest = last_stands (suc n) xs e gapless.1 in omega arith
 
 -- what begins a list without a gap has none
-gapless_begins : (n : ℕ) (es more : List Event) → IsGapless n (es ++ more) → IsGapless n es
+pub gapless_begins : (n : ℕ) (es more : List Event) → IsGapless n (es ++ more) → IsGapless n es
 gapless_begins n [] more gapless = tt
 gapless_begins n (x ∷ xs) more gapless = (gapless.0, gapless_begins (suc n) xs more gapless.1)
 
 -- a list without a gap has it from its first position on
-gapless_from_first : (n : ℕ) (es : List Event) → IsGapless n es → IsGapless (position_of_first es) es
+pub gapless_from_first : (n : ℕ) (es : List Event) → IsGapless n es → IsGapless (position_of_first es) es
 gapless_from_first n [] gapless = tt
 gapless_from_first n (e ∷ es) gapless = subst (λ k. IsGapless k (e ∷ es)) (sym gapless.0) gapless
 

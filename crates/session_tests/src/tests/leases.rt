@@ -3,16 +3,14 @@
 ghost use Rattle.std.specs.Prelude.{All};
 ghost use Rattle.timestamps.specs.Passes.{IsOf as IsPassOf};
 
-use super::texts::put_form;
-use races::{Open, lists_of, race, settle_checked};
-use script::scripts::read_script;
+use super::texts::{commands_of, put_form};
+use races::{Open, race, settle};
 use shared_db::{Config, Db};
 use std::alloc::Global;
 use std::test::Fail;
-use text_format::Format;
 use timestamps::lease::Lease;
 use timestamps::oracle::OraclePass;
-use trace_check::Verdict;
+use trace_check::{Verdict, check};
 
 /// How many calls each session makes.
 const CALLS: u64 = 1000;
@@ -120,12 +118,10 @@ fn eight_sessions_with_leases(rt: HostRuntime) -> Result<(), Fail> {
     };
     let (db, seats, passes) = Db::open(rt.alloc(), config)?;
     let script = script_of(rt.alloc(), &db, passes)?;
-    let calls = read_script(rt.alloc(), script.as_slice(), 8, Format::One)?;
-    assert!(rt; calls.len() == 8000);
-    let lists = lists_of(rt.alloc(), 8, calls)?;
+    let lists = commands_of(rt.alloc(), script.as_slice(), 8)?;
     let ended = race(&rt, rt.alloc(), &db, seats, lists, &Open)?;
-    let (settled, verdict) = settle_checked(rt.alloc(), db, ended)?;
-    assert!(rt; verdict == Verdict::Yes);
-    assert!(rt; settled.events.len() == 8000 && settled.engine.steps() == 8000);
+    let (engine, events) = settle(rt.alloc(), db, ended)?;
+    assert!(rt; events.len() == 8000 && engine.steps() == 8000);
+    assert!(rt; check(rt.alloc(), &events)? == Verdict::Yes);
     Ok(())
 }

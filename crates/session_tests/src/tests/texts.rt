@@ -1,5 +1,4 @@
 //! Scripts and transcripts that are written line by line, so that long ones are short here.
-use races::lists_of;
 use script::scripts::read_script;
 use spans::calls::{Cmd, Event};
 use std::alloc::{AllocError, Global};
@@ -51,8 +50,17 @@ pub(super) fn commands_of(
     script: &[u8],
     sessions: u8,
 ) -> Result<Vec<Vec<Cmd>>, Fail> {
-    let calls = read_script(alloc, script, sessions, Format::One)?;
-    Ok(lists_of(alloc, sessions, calls)?)
+    let mut lists = Vec::new(alloc);
+    for _session in 0..sessions {
+        lists.push(Vec::new(alloc))?;
+    }
+    for (session, cmd) in read_script(alloc, script, sessions, Format::One)? {
+        let list: &mut Vec<Cmd> = lists
+            .get_mut(usize::from(session))
+            .ok_or("no such session")?;
+        list.push(cmd)?;
+    }
+    Ok(lists)
 }
 
 /// The transcript of events.
