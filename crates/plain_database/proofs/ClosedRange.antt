@@ -4,9 +4,9 @@ use Rattle.std.specs.Prelude.{max, nat_lt}
 use Rattle.std.proofs.lemmas.Bool.{ltb-false}
 use Rattle.timestamps.specs.declared.ts.TheConstants.{MAX}
 use Rattle.spans.specs.declared.calls.commands.Cmd.{Cmd}
-use Rattle.spans.specs.declared.calls.commands.Cmd.TheVariants.{Begin, Get, Scan, Put, Del, Commit, Abort, Close, CloseHard, ReadAt, ScanAt, Protect, Release, Collect, Open, OpenInitial, OpenEvery, OpenInitialEvery, Poll, Cancel}
+use Rattle.spans.specs.declared.calls.commands.Cmd.TheVariants.{Close, CloseHard}
 use Rattle.spans.specs.declared.calls.replies.Reply.{Reply}
-use Rattle.spans.specs.declared.calls.replies.Reply.TheVariants.{Started, Found, Rows, Written, Committed, Aborted, Closed, Protected, Released, Collected, Opened, Messages, Cancelled, Refused}
+use Rattle.spans.specs.declared.calls.replies.Reply.TheVariants.{Closed, Refused}
 use Rattle.spans.specs.declared.calls.replies.Refusal.TheVariants.{TsRange, TooLate, NoMemory}
 use Rattle.spans.specs.declared.calls.events.Event.{Event}
 use Rattle.spans.specs.Effects.{Effect, effect, effects_of, event}
@@ -32,26 +32,7 @@ in_range_after p n seat (CloseHard to) (Closed at aborted) right low = elim righ
   | inl is ↦ answered_in_range to at aborted (max (closed_of p) to) _ is (λ high. omega arith)
   | inr want ↦ absurd (let no : Closed at aborted ≡ Refused NoMemory = want.0 in cc)
 ]
-in_range_after p n seat (Begin t) Started right low = low
-in_range_after p n seat (Get t x) (Found v) right low = low
-in_range_after p n seat (Scan t span) (Rows rows) right low = low
-in_range_after p n seat (Put t x v) Written right low = low
-in_range_after p n seat (Put t x v) (Refused TooLate) right low = low
-in_range_after p n seat (Del t x) Written right low = low
-in_range_after p n seat (Del t x) (Refused TooLate) right low = low
-in_range_after p n seat (Commit t) (Committed keys) right low = low
-in_range_after p n seat (Abort t) Aborted right low = low
-in_range_after p n seat (ReadAt t x) (Found v) right low = low
-in_range_after p n seat (ScanAt t span) (Rows rows) right low = low
-in_range_after p n seat (Protect t) (Protected id) right low = low
-in_range_after p n seat (Release id) Released right low = low
-in_range_after p n seat (Collect to) (Collected horizon removed) right low = low
-in_range_after p n seat (Open span cursor) (Opened f) right low = low
-in_range_after p n seat (OpenInitial span cursor) (Opened f) right low = low
-in_range_after p n seat (OpenEvery span cursor gap) (Opened f) right low = low
-in_range_after p n seat (OpenInitialEvery span cursor gap) (Opened f) right low = low
-in_range_after p n seat (Poll f max) (Messages ms) right low = low
-in_range_after p n seat (Cancel f) Cancelled right low = low
+in_range_after p n seat cmd (Refused TooLate) right low = low
 in_range_after p n seat cmd reply right low = low
 
 -- closed is at most the greatest timestamp

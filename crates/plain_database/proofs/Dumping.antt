@@ -1,12 +1,12 @@
 -- What a dump writes is what the definitions say.
-use Rattle.std.proofs.Common.{◌≡◌, ℕ, suc, ◌+◌, ◌<◌, ◌≤◌, Bool, true, false, not, cond, ◌&&◌, ◌||◌, List, [], ◌∷◌, ◌++◌, length, drop, Option, Some, None, refl, sym, ◌∙◌, ap, subst, inl, inr, arith, append_assoc, get_or, zero, Result, Ok, Err}
+use Rattle.std.proofs.Common.{◌≡◌, ℕ, suc, ◌+◌, ◌<◌, ◌≤◌, Bool, true, false, not, cond, ◌&&◌, ◌||◌, List, [], ◌∷◌, ◌++◌, length, drop, Option, Some, None, refl, sym, ◌∙◌, ap, subst, inl, inr, arith, append_assoc, get_or, zero}
 use Rattle.std.proofs.lemmas.Bool.Decides.{nat_tests}
 use Rattle.std.proofs.lemmas.List.{drop_more, take_all}
-use Rattle.std.specs.Prelude.{filter, is_none, is_some, max, nat_le, nat_lt, IfOk, ◌⊎◌}
+use Rattle.std.specs.Prelude.{filter, is_none, is_some, max, nat_le, nat_lt, ◌⊎◌}
 use Rattle.timestamps.specs.declared.row.Row.{Row}
 use Rattle.spans.specs.declared.calls.events.Event.{Event}
 use Rattle.spans.specs.Collection.{horizon_of, is_delete}
-use Rattle.spans.specs.Effects.{After, Effect, effects_of}
+use Rattle.spans.specs.Effects.{Effect, effects_of}
 use Rattle.spans.specs.Newest.{Version, newest}
 use Rattle.spans.specs.Streams.{stream_of}
 use Rattle.spans.specs.Transactions.{begun_of, closed_of, is_committed, owner_of}
@@ -35,6 +35,7 @@ use Rattle.plain_database.specs.Answering.{AfterEach}
 use Rattle.plain_database.specs.Dumps.{AreCommitted}
 use Rattle.plain_database.specs.Streams.{HasCommitted}
 use Rattle.plain_database.specs.Tied.{IsTied, StandsFor, owner_in}
+use Rattle.plain_database.proofs.LeftRows.{committed_there}
 use Rattle.plain_database.proofs.Reporting.{all_taken}
 
 -- ---- where a dump closes
@@ -69,8 +70,7 @@ module _ (db : PlainDatabase) (h : List Event) (stands : StandsFor db h) (r : Ro
     where
       not_low : (b c d : Bool) → c ≡ false → true ≡ not (b && (c && d))
       not_low true true d e = cc
-      not_low true false d e = refl
-      not_low false c d e = refl
+      not_low _ _ d e = refl
 
   -- at or below it a delete is dead, and a value that isn't the newest
   pub below : r.ts ≤ db.horizon → is_left (effects_of h) r ≡ not (is_none r.after || nat_lt r.ts (newest (committed_version_of (effects_of h) r.key) (horizon_of (effects_of h))).ts)
@@ -134,12 +134,8 @@ after_nothing db p through rows tied are = only_rows rows (stream_of p all_keys 
       let is = committed_is p r.key r.ts r.after (sym (tied r.key r.ts) ∙ s.there) in
       (in_stream p all_keys 0 through r).1 (record { above = omega (arith, s.some); low = s.low; done = is.0; inside = s.inside; wrote = is.1 }),
   λ i. let s = (in_stream p all_keys 0 through r).0 i in
-      (are.each r).1 (record { there = tied r.key r.ts ∙ both (is_committed p r.ts) (write_of p r.ts r.key) s.done s.wrote; inside = s.inside; later = (let above : nat_lt 0 r.ts ≡ true = grind (arith, nat_tests, s.above) in above); low = s.low; some = omega (arith, s.above) }),
+      (are.each r).1 (record { there = tied r.key r.ts ∙ committed_there (is_committed p r.ts) (write_of p r.ts r.key) s.done s.wrote; inside = s.inside; later = (let above : nat_lt 0 r.ts ≡ true = grind (arith, nat_tests, s.above) in above); low = s.low; some = omega (arith, s.above) }),
 ))
-  where
-    both : {a : After} (b : Bool) (o : Option After) → b ≡ true → o ≡ Some a → cond b o None ≡ Some a
-    both true o d w = w
-    both false o d w = cc
 
 pub stream_rows : (db : PlainDatabase) (p : List Effect) (through max : ℕ) (rows : List Row) → HasCommitted db p → AreNextRows db.transactions db.chains all_keys 0 None through max rows → length rows < max → rows ≡ stream_of p all_keys 0 through
 stream_rows db p through max rows tied next few =
@@ -151,12 +147,4 @@ stream_committed p [] each = tt
 stream_committed p (r ∷ rows) each = (each r (inl refl), stream_committed p rows (λ q i. each q (inr i)))
 
 pub streamed_committed : (p : List Effect) (through : ℕ) → AreCommitted p (stream_of p all_keys 0 through)
-streamed_committed p through = stream_committed p (stream_of p all_keys 0 through) (λ r i. let s = (in_stream p all_keys 0 through r).0 i in both (is_committed p r.ts) (write_of p r.ts r.key) s.done s.wrote)
-  where
-    both : {a : After} (b : Bool) (o : Option After) → b ≡ true → o ≡ Some a → cond b o None ≡ Some a
-    both true o d w = w
-    both false o d w = cc
-
-pub mapped_ok : {A E : Type 0} (P Q : A → Type 0) (r : Result A E) → ((x : A) → P x → Q x) → IfOk r P → IfOk r Q
-mapped_ok P Q (Ok x) f p = f x p
-mapped_ok P Q (Err e) f p = tt
+streamed_committed p through = stream_committed p (stream_of p all_keys 0 through) (λ r i. let s = (in_stream p all_keys 0 through r).0 i in committed_there (is_committed p r.ts) (write_of p r.ts r.key) s.done s.wrote)

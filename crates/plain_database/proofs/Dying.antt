@@ -6,7 +6,7 @@ use Rattle.std.proofs.lemmas.Bool.Decides.{nat_tests}
 use Rattle.std.proofs.lemmas.List.{length-append, length-map}
 use Rattle.std.proofs.Math.Bool.{and-false}
 use Rattle.spans.specs.Collection.{VersionName, version_name, versions_of, dead_of, is_dead, is_delete, horizon_of}
-use Rattle.spans.specs.Effects.{After, Effect, Begins, Reads, Scans, Writes, Commits, Aborts, Closes, HardCloses, SnapshotReads, SnapshotScans, Opens, Polls, Cancels, Protects, Releases, Collects, NoEffect}
+use Rattle.spans.specs.Effects.{After, Effect, Begins, Collects}
 use Rattle.spans.specs.Newest.{Version as Seen, newest}
 use Rattle.spans.specs.Transactions.{closed_of, is_committed, owner_of}
 use Rattle.spans.specs.Versions.{version_of, write_of, committed_version_of}
@@ -71,9 +71,8 @@ abbrev replaced_by : List Effect → VersionName → VersionName
 replaced_by p v = version_name v.key (newest (version_of p v.key) (v.ts - 1)).ts
 
 delete_is : (o : Option After) → is_delete o ≡ true → o ≡ Some None
-delete_is None e = cc
 delete_is (Some None) e = refl
-delete_is (Some (Some v)) e = cc
+delete_is _ e = cc
 
 named : (x y : List ℕ) (t k : ℕ) → x ≡ y → t ≡ k → version_name x t ≡ version_name y k
 named x y t k e h = rw (e, h) refl
@@ -250,22 +249,7 @@ dead_same p e all still =
 pub dead_then_is : (p : List Effect) → AllAllowed p → dead_then p ≡ length (dead_of p)
 dead_then_is [] all = refl
 dead_then_is (Collects n ∷ p) all = refl
-dead_then_is (Begins t seat ∷ p) all = dead_then_is p all.1 ∙ sym (dead_same p (Begins t seat) all refl)
-dead_then_is (Reads t x v ∷ p) all = dead_then_is p all.1 ∙ sym (dead_same p (Reads t x v) all refl)
-dead_then_is (Scans t span rows ∷ p) all = dead_then_is p all.1 ∙ sym (dead_same p (Scans t span rows) all refl)
-dead_then_is (Writes t x a ∷ p) all = dead_then_is p all.1 ∙ sym (dead_same p (Writes t x a) all refl)
-dead_then_is (Commits t ∷ p) all = dead_then_is p all.1 ∙ sym (dead_same p (Commits t) all refl)
-dead_then_is (Aborts t ∷ p) all = dead_then_is p all.1 ∙ sym (dead_same p (Aborts t) all refl)
-dead_then_is (Closes at ∷ p) all = dead_then_is p all.1 ∙ sym (dead_same p (Closes at) all refl)
-dead_then_is (HardCloses to at ∷ p) all = dead_then_is p all.1 ∙ sym (dead_same p (HardCloses to at) all refl)
-dead_then_is (SnapshotReads t x v ∷ p) all = dead_then_is p all.1 ∙ sym (dead_same p (SnapshotReads t x v) all refl)
-dead_then_is (SnapshotScans t span rows ∷ p) all = dead_then_is p all.1 ∙ sym (dead_same p (SnapshotScans t span rows) all refl)
-dead_then_is (Protects id t ∷ p) all = dead_then_is p all.1 ∙ sym (dead_same p (Protects id t) all refl)
-dead_then_is (Releases id ∷ p) all = dead_then_is p all.1 ∙ sym (dead_same p (Releases id) all refl)
-dead_then_is (Opens f seat kind span cursor ∷ p) all = dead_then_is p all.1 ∙ sym (dead_same p (Opens f seat kind span cursor) all refl)
-dead_then_is (Polls f max ms ∷ p) all = dead_then_is p all.1 ∙ sym (dead_same p (Polls f max ms) all refl)
-dead_then_is (Cancels f ∷ p) all = dead_then_is p all.1 ∙ sym (dead_same p (Cancels f) all refl)
-dead_then_is (NoEffect ∷ p) all = dead_then_is p all.1 ∙ sym (dead_same p (NoEffect) all refl)
+dead_then_is (d ∷ p) all = dead_then_is p all.1 ∙ sym (dead_same p d all refl)
 
 -- the dead stay dead
 pub dead_rises : (p : List Effect) → AllAllowed p → (n : ℕ) → horizon_of p ≤ n → length (dead_of p) ≤ length (dead_of (Collects n ∷ p))

@@ -1,19 +1,19 @@
 -- What a database stands for after one more event.
-use Rattle.std.proofs.Common.{◌≡◌, ℕ, Bool, true, false, List, Option, ◌∷◌, ◌==◌, Some, None, refl, sym, subst}
+use Rattle.std.proofs.Common.{◌≡◌, ℕ, Bool, true, false, List, Option, ◌∷◌, ◌==◌, None, refl, sym, subst}
 use Rattle.std.specs.Prelude.{nat_le, option_map}
 use Rattle.spans.specs.declared.calls.commands.Cmd.{Cmd}
 use Rattle.spans.specs.declared.span.Span.{Span}
-use Rattle.spans.specs.declared.calls.commands.Cmd.TheVariants.{Begin, Get, Scan, Put, Del, Commit, Abort, CloseHard, ReadAt, ScanAt}
+use Rattle.spans.specs.declared.calls.commands.Cmd.TheVariants.{Begin, Get, Scan, Put, Del, Commit, CloseHard, ReadAt, ScanAt}
 use Rattle.spans.specs.declared.calls.replies.Reply.{Reply}
 use Rattle.spans.specs.declared.calls.replies.Reply.TheVariants.{Started, Found, Rows, Written, Committed, Aborted, Closed, Opened, Refused}
 use Rattle.spans.specs.declared.calls.replies.Refusal.TheVariants.{TooLate}
 use Rattle.spans.specs.declared.calls.events.Event.{Event}
 use Rattle.spans.specs.declared.kind.Kind.{Kind}
-use Rattle.spans.specs.Effects.{After, Aborts, Effect, NoEffect, effect, effects_of, event, kind_of, open_cmd}
+use Rattle.spans.specs.Effects.{After, Aborts, Begins, Commits, Effect, HardCloses, NoEffect, Reads, Scans, SnapshotReads, SnapshotScans, Writes, effect, effects_of, event, kind_of, open_cmd}
 use Rattle.spans.specs.Keys.{in_span}
 use Rattle.spans.specs.Versions.{visible}
 use Rattle.spans.specs.Legal.{IsRightEvent}
-use Rattle.spans.proofs.Copies.{IsActive}
+use Rattle.spans.proofs.Copies.{Allowed}
 use Rattle.spans.proofs.Legal.{right_allowed, legal_allowed}
 use Rattle.plain_versions.specs.declared.transactions.Decision.TheVariants as decisions
 use Rattle.plain_database.specs.declared.span_reads.Scan.{Scan as SpanRead}
@@ -28,50 +28,41 @@ use Rattle.plain_database.specs.Answering.{Records}
 use Rattle.plain_database.specs.Tied.{IsTied, StandsFor}
 use Rattle.plain_database.proofs.Ties.{tied_still, tied_begins, tied_reads, tied_scans, tied_writes, tied_commits, tied_aborts, tied_snapshot, tied_snapshot_scan, tied_hard_closes, goes}
 
+-- one more event, and what the database came to by its effect
+pub stands_after : (db db' : PlainDatabase) (h : List Event) (n seat : ℕ) (cmd : Cmd) (reply : Reply) (e : Effect) → effect seat cmd reply ≡ e → (Allowed (effects_of h) e → IsTied db (effects_of h) → IsTied db' (e ∷ effects_of h))
+    → StandsFor db h → IsRightEvent (effects_of h) (event n seat cmd reply) → StandsFor db' (event n seat cmd reply ∷ h)
+stands_after db db' h n seat cmd reply e is goes stands right = record {
+  legal = (right, stands.legal);
+  tied = subst (λ d. IsTied db' (d ∷ effects_of h)) (sym is) (goes (subst (Allowed (effects_of h)) is (right_allowed (effects_of h) (event n seat cmd reply) right)) stands.tied);
+}
+
 -- an event that did nothing
 pub stands_still : (db : PlainDatabase) (h : List Event) (n seat : ℕ) (cmd : Cmd) (reply : Reply) → effect seat cmd reply ≡ NoEffect → StandsFor db h → IsRightEvent (effects_of h) (event n seat cmd reply)
     → StandsFor db (event n seat cmd reply ∷ h)
-stands_still db h n seat cmd reply none stands right = record {
-  legal = (right, stands.legal);
-  tied = subst (λ e. IsTied db (e ∷ effects_of h)) (sym none) (tied_still db (effects_of h) stands.tied);
-}
+stands_still db h n seat cmd reply none = stands_after db db h n seat cmd reply NoEffect none (λ allowed. tied_still db (effects_of h))
 
 pub stands_begins : (db : PlainDatabase) (table : Table) (h : List Event) (n seat t : ℕ) → IsSetAt db.transactions table t (begun seat)
     → StandsFor db h → IsRightEvent (effects_of h) (event n seat (Begin t) Started) → StandsFor (record db { transactions = table }) (event n seat (Begin t) Started ∷ h)
-stands_begins db table h n seat t set stands right = record {
-  legal = (right, stands.legal);
-  tied = tied_begins db (effects_of h) t seat table set stands.tied (right_allowed (effects_of h) (event n seat (Begin t) Started) right).1;
-}
+stands_begins db table h n seat t set =
+    stands_after db (record db { transactions = table }) h n seat (Begin t) Started (Begins t seat) refl (λ allowed tied. tied_begins db (effects_of h) t seat table set tied allowed.1)
 
 pub stands_reads : (db : PlainDatabase) (reads : KeyReads) (h : List Event) (n seat t : ℕ) (x : List ℕ) (v : After) (k : ℕ) → HasReadToo db.reads reads t x k → k ≡ (visible (effects_of h) x t).ts
     → StandsFor db h → IsRightEvent (effects_of h) (event n seat (Get t x) (Found v)) → StandsFor (record db { reads = reads }) (event n seat (Get t x) (Found v) ∷ h)
-stands_reads db reads h n seat t x v k more at stands right = record {
-  legal = (right, stands.legal);
-  tied = tied_reads db (effects_of h) reads t x v k stands.tied more at;
-}
+stands_reads db reads h n seat t x v k more at =
+    stands_after db (record db { reads = reads }) h n seat (Get t x) (Found v) (Reads t x v) refl (λ allowed tied. tied_reads db (effects_of h) reads t x v k tied more at)
 
 -- a span was scanned: of each of its keys the sources have the version that its reader sees
 pub stands_scans : (db : PlainDatabase) (scans : List (ℕ × List SpanRead)) (h : List Event) (n seat t : ℕ) (span : Span) (sources : List (List ℕ × ℕ)) (rows : List (List ℕ × List ℕ))
     → ((y : List ℕ) → in_span span y ≡ true → source_at sources y ≡ (visible (effects_of h) y t).ts) → HasScanToo db.scans scans t (scan_of span sources)
     → StandsFor db h → IsRightEvent (effects_of h) (event n seat (Scan t span) (Rows rows)) → StandsFor (record db { scans = scans }) (event n seat (Scan t span) (Rows rows) ∷ h)
-stands_scans db scans h n seat t span sources rows given more stands right = record {
-  legal = (right, stands.legal);
-  tied = tied_scans db (effects_of h) scans t span sources rows stands.tied given more;
-}
+stands_scans db scans h n seat t span sources rows given more =
+    stands_after db (record db { scans = scans }) h n seat (Scan t span) (Rows rows) (Scans t span rows) refl (λ allowed tied. tied_scans db (effects_of h) scans t span sources rows tied given more)
 
-pub stands_puts : (db : PlainDatabase) (chains : Stored) (h : List Event) (n seat t : ℕ) (x v : List ℕ) → IsWritten db.chains chains x t (Some v)
-    → StandsFor db h → IsRightEvent (effects_of h) (event n seat (Put t x v) Written) → StandsFor (record db { chains = chains }) (event n seat (Put t x v) Written ∷ h)
-stands_puts db chains h n seat t x v is stands right = record {
-  legal = (right, stands.legal);
-  tied = tied_writes db (effects_of h) chains t x (Some v) is stands.tied (right_allowed (effects_of h) (event n seat (Put t x v) Written) right).0;
-}
-
-pub stands_dels : (db : PlainDatabase) (chains : Stored) (h : List Event) (n seat t : ℕ) (x : List ℕ) → IsWritten db.chains chains x t None
-    → StandsFor db h → IsRightEvent (effects_of h) (event n seat (Del t x) Written) → StandsFor (record db { chains = chains }) (event n seat (Del t x) Written ∷ h)
-stands_dels db chains h n seat t x is stands right = record {
-  legal = (right, stands.legal);
-  tied = tied_writes db (effects_of h) chains t x None is stands.tied (right_allowed (effects_of h) (event n seat (Del t x) Written) right).0;
-}
+-- a put or a delete wrote
+pub stands_writes : (db : PlainDatabase) (chains : Stored) (h : List Event) (n seat t : ℕ) (x : List ℕ) (a : After) (cmd : Cmd) (reply : Reply) → effect seat cmd reply ≡ Writes t x a → IsWritten db.chains chains x t a
+    → StandsFor db h → IsRightEvent (effects_of h) (event n seat cmd reply) → StandsFor (record db { chains = chains }) (event n seat cmd reply ∷ h)
+stands_writes db chains h n seat t x a cmd reply is written =
+    stands_after db (record db { chains = chains }) h n seat cmd reply (Writes t x a) is (λ allowed tied. tied_writes db (effects_of h) chains t x a written tied allowed.0)
 
 -- the transaction of t is aborted, and its versions are gone
 abbrev pub AreAborted : PlainDatabase → PlainDatabase → ℕ → Type 0
@@ -80,36 +71,16 @@ AreAborted db db' t =
     × IsCleared db.chains db'.chains (λ i. t == i)
     × (db' ≡ record db { transactions = db'.transactions; chains = db'.chains })
 
-aborts : (db db' : PlainDatabase) (p : List Effect) (t : ℕ) → AreAborted db db' t → IsTied db p → IsActive p t → IsTied db' (Aborts t ∷ p)
-aborts db db' p t are tied active = subst (λ (d : PlainDatabase). IsTied d (Aborts t ∷ p)) (sym are.2) (tied_aborts db p t db'.transactions db'.chains are.0 are.1 tied active)
-
-pub stands_late_put : (db db' : PlainDatabase) (h : List Event) (n seat t : ℕ) (x v : List ℕ) → AreAborted db db' t
-    → StandsFor db h → IsRightEvent (effects_of h) (event n seat (Put t x v) (Refused TooLate)) → StandsFor db' (event n seat (Put t x v) (Refused TooLate) ∷ h)
-stands_late_put db db' h n seat t x v are stands right = record {
-  legal = (right, stands.legal);
-  tied = aborts db db' (effects_of h) t are stands.tied (right_allowed (effects_of h) (event n seat (Put t x v) (Refused TooLate)) right);
-}
-
-pub stands_late_del : (db db' : PlainDatabase) (h : List Event) (n seat t : ℕ) (x : List ℕ) → AreAborted db db' t
-    → StandsFor db h → IsRightEvent (effects_of h) (event n seat (Del t x) (Refused TooLate)) → StandsFor db' (event n seat (Del t x) (Refused TooLate) ∷ h)
-stands_late_del db db' h n seat t x are stands right = record {
-  legal = (right, stands.legal);
-  tied = aborts db db' (effects_of h) t are stands.tied (right_allowed (effects_of h) (event n seat (Del t x) (Refused TooLate)) right);
-}
-
-pub stands_aborts : (db db' : PlainDatabase) (h : List Event) (n seat t : ℕ) → AreAborted db db' t
-    → StandsFor db h → IsRightEvent (effects_of h) (event n seat (Abort t) Aborted) → StandsFor db' (event n seat (Abort t) Aborted ∷ h)
-stands_aborts db db' h n seat t are stands right = record {
-  legal = (right, stands.legal);
-  tied = aborts db db' (effects_of h) t are stands.tied (right_allowed (effects_of h) (event n seat (Abort t) Aborted) right);
-}
+-- by an abort, or by a write that was too late
+pub stands_aborts : (db db' : PlainDatabase) (h : List Event) (n seat t : ℕ) (cmd : Cmd) (reply : Reply) → effect seat cmd reply ≡ Aborts t → AreAborted db db' t
+    → StandsFor db h → IsRightEvent (effects_of h) (event n seat cmd reply) → StandsFor db' (event n seat cmd reply ∷ h)
+stands_aborts db db' h n seat t cmd reply is are = stands_after db db' h n seat cmd reply (Aborts t) is (λ active tied.
+    subst (λ (d : PlainDatabase). IsTied d (Aborts t ∷ effects_of h)) (sym are.2) (tied_aborts db (effects_of h) t db'.transactions db'.chains are.0 are.1 tied active))
 
 pub stands_commits : (db : PlainDatabase) (table : Table) (h : List Event) (n seat t keys : ℕ) → IsSetAt db.transactions table t (option_map (decided decisions.Committed))
     → StandsFor db h → IsRightEvent (effects_of h) (event n seat (Commit t) (Committed keys)) → StandsFor (record db { transactions = table }) (event n seat (Commit t) (Committed keys) ∷ h)
-stands_commits db table h n seat t keys set stands right = record {
-  legal = (right, stands.legal);
-  tied = tied_commits db (effects_of h) t table set stands.tied (right_allowed (effects_of h) (event n seat (Commit t) (Committed keys)) right);
-}
+stands_commits db table h n seat t keys set =
+    stands_after db (record db { transactions = table }) h n seat (Commit t) (Committed keys) (Commits t) refl (λ active tied. tied_commits db (effects_of h) t table set tied active)
 
 -- a reply that isn't the one that a command is accepted with does nothing
 pub get_does_nothing : (seat t : ℕ) (x : List ℕ) (reply : Reply) → ((v : After) → reply ≡ Found v → ⊥) → effect seat (Get t x) reply ≡ NoEffect
@@ -128,9 +99,8 @@ open_does_nothing kind seat span cursor reply other = by_parts kind.initial kind
     by_parts : (initial : Bool) (gap : Option ℕ) (r : Reply) → ((f : ℕ) → r ≡ Opened f → ⊥) → effect seat (open_cmd (kind_of initial gap) span cursor) r ≡ NoEffect
     by_parts initial gap (Opened f) other = absurd (other f refl)
     by_parts false None _ other = refl
-    by_parts true None _ other = refl
-    by_parts false (Some gap) _ other = refl
-    by_parts true (Some gap) _ other = refl
+    by_parts initial None _ other = refl
+    by_parts _ _ _ other = refl
 
 -- what was kept of an opening is kept of one of the same kind
 pub opens_alike : {kind same : Kind} (db db' : PlainDatabase) (seat : ℕ) (span : Span) (cursor : ℕ) (reply : Reply) → kind ≡ same → Records db seat (open_cmd kind span cursor) reply db' → Records db seat (open_cmd same span cursor) reply db'
@@ -151,18 +121,17 @@ del_does_nothing seat t x (Refused TooLate) isnt other = cc
 del_does_nothing seat t x _ isnt other = refl
 
 pub stands_read_at : (db : PlainDatabase) (h : List Event) (n seat t : ℕ) (x : List ℕ) (reply : Reply) → StandsFor db h → IsRightEvent (effects_of h) (event n seat (ReadAt t x) reply) → StandsFor db (event n seat (ReadAt t x) reply ∷ h)
-stands_read_at db h n seat t x (Found v) stands right = record { legal = (right, stands.legal); tied = tied_snapshot db (effects_of h) t x v stands.tied }
-stands_read_at db h n seat t x _ stands right = record { legal = (right, stands.legal); tied = tied_still db (effects_of h) stands.tied }
+stands_read_at db h n seat t x (Found v) = stands_after db db h n seat (ReadAt t x) (Found v) (SnapshotReads t x v) refl (λ allowed. tied_snapshot db (effects_of h) t x v)
+stands_read_at db h n seat t x reply = stands_still db h n seat (ReadAt t x) reply refl
 
 -- a snapshot was scanned, or not
 pub stands_scan_at : (db : PlainDatabase) (h : List Event) (n seat t : ℕ) (span : Span) (reply : Reply) → StandsFor db h → IsRightEvent (effects_of h) (event n seat (ScanAt t span) reply) → StandsFor db (event n seat (ScanAt t span) reply ∷ h)
-stands_scan_at db h n seat t span (Rows rows) stands right = record { legal = (right, stands.legal); tied = tied_snapshot_scan db (effects_of h) t span rows stands.tied }
-stands_scan_at db h n seat t span _ stands right = record { legal = (right, stands.legal); tied = tied_still db (effects_of h) stands.tied }
+stands_scan_at db h n seat t span (Rows rows) = stands_after db db h n seat (ScanAt t span) (Rows rows) (SnapshotScans t span rows) refl (λ allowed. tied_snapshot_scan db (effects_of h) t span rows)
+stands_scan_at db h n seat t span reply = stands_still db h n seat (ScanAt t span) reply refl
 
 pub stands_hard_closes : (db : PlainDatabase) (table : Table) (chains : Stored) (h : List Event) (n seat to at aborted : ℕ)
     → ((i : ℕ) → transaction_at table i ≡ option_map (hard_closed (nat_le i to)) (transaction_at db.transactions i)) → IsCleared db.chains chains (goes db to)
     → StandsFor db h → IsRightEvent (effects_of h) (event n seat (CloseHard to) (Closed at aborted)) → StandsFor (record db { closed = at; transactions = table; chains = chains }) (event n seat (CloseHard to) (Closed at aborted) ∷ h)
-stands_hard_closes db table chains h n seat to at aborted set cleared stands right = record {
-  legal = (right, stands.legal);
-  tied = tied_hard_closes db (effects_of h) to at table chains set cleared stands.tied (legal_allowed h stands.legal);
-}
+stands_hard_closes db table chains h n seat to at aborted set cleared stands =
+    stands_after db (record db { closed = at; transactions = table; chains = chains }) h n seat (CloseHard to) (Closed at aborted) (HardCloses to at) refl
+    (λ allowed tied. tied_hard_closes db (effects_of h) to at table chains set cleared tied (legal_allowed h stands.legal)) stands

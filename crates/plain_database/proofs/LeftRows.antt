@@ -73,8 +73,8 @@ committed_parts : {a : After} (done : Bool) (o : Option After) → cond done o N
 committed_parts true o is = (refl, is)
 committed_parts false o is = absurd cc
 
-committed_is : {a : After} (done : Bool) (o : Option After) → done ≡ true → o ≡ Some a → cond done o None ≡ Some a
-committed_is done o e is = rw e is
+pub committed_there : {a : After} (done : Bool) (o : Option After) → done ≡ true → o ≡ Some a → cond done o None ≡ Some a
+committed_there done o e is = rw e is
 
 -- ---- which feeds are in their snapshot
 
@@ -104,7 +104,7 @@ module _ (table : Table) (stored : Stored) (p : List Effect) (tied : (y : List �
   stream_in x r left streamed =
       let parts = and_parts (nat_lt x.told.resolved r.ts) _ left in
       let resolved : x.told.resolved < r.ts = ltb-true x.told.resolved r.ts parts.0 in record {
-        there = tied r.key r.ts ∙ committed_is (is_committed p r.ts) (write_of p r.ts r.key) streamed.done streamed.wrote;
+        there = tied r.key r.ts ∙ committed_there (is_committed p r.ts) (write_of p r.ts r.key) streamed.done streamed.wrote;
         inside = streamed.inside;
         later = behind_both (told_through x) x.told.row r (omega (arith, streamed.above)) parts.1;
         low = streamed.low;
@@ -202,7 +202,7 @@ module _ (table : Table) (stored : Stored) (p : List Effect) (tied : (y : List �
             later = ap (λ k. is_past k r.key) behind ∙ sym (past_is x r near tells first.1.at) ∙ left;
           })))
           | inr streamed ↦ (join r).1 (inr ((are.each r).1 (record {
-            there = tied r.key r.ts ∙ committed_is (is_committed p r.ts) (write_of p r.ts r.key) streamed.done streamed.wrote;
+            there = tied r.key r.ts ∙ committed_there (is_committed p r.ts) (write_of p r.ts r.key) streamed.done streamed.wrote;
             inside = streamed.inside;
             later = lt-ltb x.cursor r.ts streamed.above;
             low = streamed.low;

@@ -40,7 +40,7 @@ least_turned n f (x ∷ xs) =
     ∙ least_more (f x) n (map f (reverse xs)) ∙ ap (min (f x)) (least_turned n f xs)
 
 -- what is at or below each is at or below the least
-least_over : {A : Type 0} (k n : ℕ) (f : A → ℕ) (xs : List A) → k ≤ n → ((x : A) → Has x xs → k ≤ f x) → k ≤ least_of n (map f xs)
+pub least_over : {A : Type 0} (k n : ℕ) (f : A → ℕ) (xs : List A) → k ≤ n → ((x : A) → Has x xs → k ≤ f x) → k ≤ least_of n (map f xs)
 least_over k n f [] low each = low
 least_over k n f (x ∷ xs) low each =
     let here : k ≤ f x = each x (inl refl) in

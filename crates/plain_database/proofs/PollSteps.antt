@@ -1,5 +1,5 @@
 -- What a feed is told next, and what a database stands for after it was told.
-use Rattle.std.proofs.Common.{◌≡◌, ℕ, zero, suc, ◌≤◌, Bool, true, false, cond, not, List, [], ◌∷◌, ◌++◌, map, take, Option, Some, None, refl, sym, ◌∙◌, ap, arith}
+use Rattle.std.proofs.Common.{◌≡◌, ℕ, zero, suc, ◌≤◌, false, not, List, [], ◌∷◌, ◌++◌, map, take, Option, Some, refl, sym, ◌∙◌, ap, arith}
 use Rattle.std.specs.Prelude.{filter, if◌then◌else◌}
 use Rattle.std.specs.List.{list_any}
 use Rattle.std.proofs.lemmas.Bool.{le-ltb}
@@ -13,17 +13,15 @@ use Rattle.spans.specs.Effects.{Effect, Polls, effects_of, event}
 use Rattle.spans.specs.declared.kind.Kind.{Kind}
 use Rattle.spans.specs.Feeds.{Feed, first_rows, list_of, resolved_of, is_due, told_to, rows_in, same_version, due_message, untold_rows, next_messages}
 use Rattle.spans.specs.Legal.{IsRightEvent}
-use Rattle.spans.specs.Transactions.{closed_of, is_committed}
-use Rattle.spans.specs.Versions.{version_of, write_of}
-use Rattle.spans.proofs.Copies.{AllAllowed, not_both}
+use Rattle.spans.specs.Transactions.{closed_of}
 use Rattle.spans.proofs.Listing.{IsSettled, first_none}
 use Rattle.plain_feeds.specs.declared.record.FeedRecord.{FeedRecord}
 use Rattle.plain_feeds.specs.FeedTie.{LeadsTo}
 use Rattle.plain_feeds.specs.Records.{feed_part}
 use Rattle.plain_database.specs.declared.database.PlainDatabase.{PlainDatabase}
-use Rattle.plain_database.specs.Streams.{HasCommitted}
-use Rattle.plain_database.specs.Tied.{IsTied, StandsFor}
+use Rattle.plain_database.specs.Tied.{StandsFor}
 use Rattle.plain_database.proofs.ClosedRange.{closed_in_range}
+use Rattle.plain_database.proofs.Events.{stands_after}
 use Rattle.plain_database.proofs.Ties.{tied_feeds}
 
 -- what is in range and no timestamp is 0
@@ -55,14 +53,6 @@ nothing_next p f feed max settled none =
     due_none : (kind : Kind) (n : ℕ) → is_due kind n 0 ≡ false
     due_none kind n = rw (le-ltb n 0 (omega arith)) refl
 
--- the chains of a database have the committed versions
-pub committed_tied : (db : PlainDatabase) (p : List Effect) → AllAllowed p → IsTied db p → HasCommitted db p
-committed_tied db p all tied y t = rw (tied.committed t, tied.versions y t) (by_done (is_committed p t) refl)
-  where
-    by_done : (done : Bool) → is_committed p t ≡ done → cond done (version_of p y t) None ≡ cond done (write_of p t y) None
-    by_done true is = rw (not_both p all t is) refl
-    by_done false is = refl
-
 -- the rows that the feed of a record was not told are those of the feed
 pub rows_of_record : (p : List Effect) (f max : ℕ) (o : Option Feed) (feed : Feed) (x : FeedRecord) → o ≡ Some feed → o ≡ Some (feed_part x) → take max (untold_rows p f (feed_part x)) ≡ take max (untold_rows p f feed)
 rows_of_record p f max o feed x is has =
@@ -72,7 +62,5 @@ rows_of_record p f max o feed x is has =
 -- a feed was told messages
 pub stands_polls : (db : PlainDatabase) (feeds : List FeedRecord) (h : List Event) (n seat f max : ℕ) (ms : List Message) → ((m : ℕ) → LeadsTo db.feeds (Polls f m ms) feeds)
     → StandsFor db h → IsRightEvent (effects_of h) (event n seat (Poll f max) (Messages ms)) → StandsFor (record db { feeds = feeds }) (event n seat (Poll f max) (Messages ms) ∷ h)
-stands_polls db feeds h n seat f max ms tells stands right = record {
-  legal = (right, stands.legal);
-  tied = tied_feeds db (effects_of h) (Polls f max ms) feeds tt stands.tied (tells max (effects_of h) stands.tied.feeds);
-}
+stands_polls db feeds h n seat f max ms tells = stands_after db (record db { feeds = feeds }) h n seat (Poll f max) (Messages ms) (Polls f max ms) refl
+    (λ allowed tied. tied_feeds db (effects_of h) (Polls f max ms) feeds tt tied (tells max (effects_of h) tied.feeds))

@@ -26,8 +26,7 @@ lower_source k n i j = grind (arith, nat_tests)
 
 pub turn : (a b c : Bool) → (a || (b || c)) ≡ (b || (a || c))
 turn true true c = refl
-turn true false c = refl
-turn false b c = refl
+turn _ _ c = refl
 
 equal_is : (j n : ℕ) → nat_cmp j n ≡ Equal → n ≡ j
 equal_is j n e = grind (arith, nat_tests)
@@ -51,7 +50,7 @@ one_more_reader (e ∷ es) j k i rise = by_order (nat_cmp j e.0) refl (one_more_
     by_order Greater is more =
         rw is (ap (λ b. lies_between e.1 i e.0 || b) more ∙ turn (lies_between e.1 i e.0) (lies_between k i j) (is_read_across es i))
 
-is_above : (i n : ℕ) → range_contains nat_cmp (Excluded i) Unbounded n ≡ nat_lt i n
+pub is_above : (i n : ℕ) → range_contains nat_cmp (Excluded i) Unbounded n ≡ nat_lt i n
 is_above i n = grind (arith, nat_tests)
 
 -- the readers above i alone are asked

@@ -3,6 +3,7 @@ use Rattle.std.proofs.Common.{◌≡◌, ℕ, zero, suc, ◌-◌, ◌<◌, ◌�
 use Rattle.std.specs.Prelude.{is_none, is_some, nat_le, nat_lt}
 use Rattle.std.proofs.lemmas.Bool.{and_from, and_parts, both_ways, leb-false, leb-true, le-leb, lt-ltb, ltb-true, or_right}
 use Rattle.std.proofs.lemmas.Bool.Decides.{nat_tests}
+use Rattle.std.proofs.Math.Bool.{and-false}
 use Rattle.spans.specs.Effects.{After}
 use Rattle.spans.specs.Newest.{Version, version_at, newer_or, newest}
 use Rattle.spans.proofs.Steps.{by_test, newest_is, newest_only, newest_rises}
@@ -107,13 +108,9 @@ replaced_dies f low n j above through stands value = elim (newest_is f (j - 1)).
         some = some.0;
         left = some.1;
         dead = and_from _ _ (le-leb (newest f (j - 1)).ts n (omega arith)) (or_right _ _ (lt-ltb (newest f (j - 1)).ts (newest f n).ts (omega arith)));
-        live = rw (isnt, older) (nothing (nat_le (newest f (j - 1)).ts low));
+        live = rw (isnt, older) (and-false (nat_le (newest f (j - 1)).ts low));
       })
 ]
-  where
-    nothing : (b : Bool) → (b && (false || false)) ≡ false
-    nothing true = refl
-    nothing false = refl
 
 -- no two versions replace the same
 pub replaces_once : (f : ℕ → Option After) (i j : ℕ) → is_some (f i) ≡ true → 0 < i → i < j → (newest f (i - 1)).ts ≡ (newest f (j - 1)).ts → ⊥

@@ -1,7 +1,8 @@
 -- Why a database's answers are those of the definitions.
 use Rattle.std.proofs.Common.{◌≡◌, ℕ, ◌≤◌, ◌==◌, Bool, true, false, not, ◌&&◌, ◌||◌, List, [], ◌∷◌, Option, Some, None, refl, sym, ◌∙◌, ap, arith}
-use Rattle.std.specs.Prelude.{max, nat_lt, Result, Ok, Err, IfOk, OnErr}
+use Rattle.std.specs.Prelude.{max, nat_lt, Result, IfOk, OnErr}
 use Rattle.std.proofs.lemmas.Bool.{ne_eqb, le-ltb, ltb-false}
+use Rattle.std.proofs.lemmas.Result.{IfOk-weaker, on_err_weaker}
 use Rattle.timestamps.specs.declared.ts.TheConstants.{MAX}
 use Rattle.spans.specs.declared.calls.commands.Cmd.TheVariants.{Get, Close, CloseHard, ReadAt}
 use Rattle.spans.specs.declared.calls.commands.Cmd.{Cmd}
@@ -66,9 +67,8 @@ get_found db h seat t x v stands here best free =
     (blocked_at (effects_of h) x t v.ts (ap (λ (n : Seen). n.ts) is) ∙ no_block (not (v.ts == 0)) (v.ts == t) (is_committed (effects_of h) v.ts) (rw (sym (stands.tied.committed v.ts)) free))
   where
     no_block : (a b c : Bool) → (b || c) ≡ true → (a && (not b && not c)) ≡ false
-    no_block false b c f = refl
-    no_block true true c f = refl
     no_block true false c f = rw f refl
+    no_block _ _ c f = refl
 
 -- a version is there that may not be read
 pub get_blocked : (db : PlainDatabase) (h : List Event) (seat t : ℕ) (x : List ℕ) (v : LentVersion) → StandsFor db h → None ≡ first_refusal (transaction_tests (effects_of h) seat t) → IsBest (versions_at db.chains x) t (Some v)
@@ -79,18 +79,14 @@ get_blocked db h seat t x v stands here best shut =
     (blocked_at (effects_of h) x t v.ts is ∙ rw (ne_eqb v.ts 0 (λ z. omega (arith, best.1))) (block (v.ts == t) (is_committed (effects_of h) v.ts) (rw (sym (stands.tied.committed v.ts)) shut)))
   where
     block : (b c : Bool) → (b || c) ≡ false → (not b && not c) ≡ true
-    block true c f = cc
-    block false true f = cc
     block false false f = refl
+    block _ _ f = cc
 
 -- ---- closing
 
 pub close_answers : (db : PlainDatabase) (h : List Event) (seat to at n : ℕ) → StandsFor db h → to ≤ MAX → at ≡ max db.closed n → IsDecidedThrough db.transactions to n
     → Closed at 0 ≡ answer_of (effects_of h) seat (Close to)
-close_answers db h seat to at n stands low is is' = rw (not_above) (ap (λ (m : ℕ). Closed m 0) (is ∙ rw (stands.tied.closed_at, decided_through_is db (effects_of h) to n stands.tied is') refl))
-  where
-    not_above : nat_lt MAX to ≡ false
-    not_above = le-ltb MAX to low
+close_answers db h seat to at n stands low is is' = rw (le-ltb MAX to low) (ap (λ (m : ℕ). Closed m 0) (is ∙ rw (stands.tied.closed_at, decided_through_is db (effects_of h) to n stands.tied is') refl))
 
 -- ---- snapshots and hard closings
 
@@ -107,20 +103,15 @@ read_at_answers db h seat t x o stands here best =
 
 pub close_hard_answers : (db : PlainDatabase) (h : List Event) (seat to at n : ℕ) → StandsFor db h → to ≤ MAX → at ≡ max db.closed to → IsCountOf (is_undecided_through db.transactions to) n
     → Closed at n ≡ answer_of (effects_of h) seat (CloseHard to)
-close_hard_answers db h seat to at n stands low is is' = rw (not_above) (rw (is, stands.tied.closed_at) (ap (λ (m : ℕ). Closed (max (closed_of (effects_of h)) to) m)
+close_hard_answers db h seat to at n stands low is is' = rw (le-ltb MAX to low) (rw (is, stands.tied.closed_at) (ap (λ (m : ℕ). Closed (max (closed_of (effects_of h)) to) m)
     (open_count_through db (effects_of h) to n (legal_allowed h stands.legal) stands.tied is')))
-  where
-    not_above : nat_lt MAX to ≡ false
-    not_above = le-ltb MAX to low
 
 -- ---- what is answered to every seat is answered to one
 
 pub answer_at : (r : Result Reply AllocError) (db : PlainDatabase) (seat : ℕ) (cmd : Cmd)
     → IfOk r (λ reply. (s : ℕ) → Answers db s cmd reply) → IfOk r (λ reply. AnswersCounted db seat cmd reply)
-answer_at (Ok reply) db seat cmd answers = λ h stands few. answers seat h stands
-answer_at (Err e) db seat cmd answers = tt
+answer_at r db seat cmd = IfOk-weaker r (λ reply. (s : ℕ) → Answers db s cmd reply) (λ reply. AnswersCounted db seat cmd reply) (λ reply answers. λ h stands few. answers seat h stands)
 
 pub failure_at : (r : Result Reply AllocError) (db : PlainDatabase) (seat : ℕ) (cmd : Cmd) → may_lack_memory cmd ≡ true
     → OnErr r ((s : ℕ) → Accepts db s cmd) → OnErr r (MayLackMemory db seat cmd)
-failure_at (Ok reply) db seat cmd may fails = tt
-failure_at (Err e) db seat cmd may fails = λ h stands. (fails seat h stands, may)
+failure_at r db seat cmd may fails = on_err_weaker r (λ (accepts : (s : ℕ) → Accepts db s cmd). λ h stands. (accepts seat h stands, may)) fails

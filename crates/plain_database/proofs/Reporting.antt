@@ -79,18 +79,16 @@ feed_counted db n k counted = record {
 -- the counts leave the numbers
 counted_numbers : (db : PlainDatabase) (ns ms : List FeedReport) → AreCounted db ns ms → map (λ (n : FeedReport). n.number) ms ≡ map (λ (n : FeedReport). n.number) ns
 counted_numbers db [] [] all = refl
-counted_numbers db [] (m ∷ ms) all = absurd all
-counted_numbers db (n ∷ ns) [] all = absurd all
 counted_numbers db (n ∷ ns) (m ∷ ms) all =
     ap (λ k. k ∷ map (λ (n : FeedReport). n.number) ms) all.0.number ∙ ap (λ l. n.number ∷ l) (counted_numbers db ns ms all.1)
+counted_numbers db _ _ all = absurd all
 
 counted_right : (db : PlainDatabase) (h : List Event) → StandsFor db h → (ns ms : List FeedReport) → AreCounted db ns ms → All (IsFeedReport false (effects_of h)) ns → All (IsFeedReport true (effects_of h)) ms
 counted_right db h stands [] [] all right = All-nil (IsFeedReport true (effects_of h))
-counted_right db h stands [] (m ∷ ms) all right = absurd all
-counted_right db h stands (n ∷ ns) [] all right = absurd all
 counted_right db h stands (n ∷ ns) (m ∷ ms) all right =
     All-cons (IsFeedReport true (effects_of h)) m ms (all.0.right h stands (All-head (IsFeedReport false (effects_of h)) n ns right))
     (counted_right db h stands ns ms all.1 (All-tail (IsFeedReport false (effects_of h)) n ns right))
+counted_right db h stands _ _ all right = absurd all
 
 -- all are counted
 pub feeds_counted : (db : PlainDatabase) (h : List Event) (ns ms : List FeedReport) → StandsFor db h → AreCounted db ns ms → AreFeeds false (effects_of h) ns → AreFeeds true (effects_of h) ms

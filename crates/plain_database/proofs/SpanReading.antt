@@ -1,5 +1,5 @@
 -- What the scans of all readers say after one more.
-use Rattle.std.proofs.Common.{◌≡◌, ℕ, Bool, true, false, cond, ◌&&◌, ◌||◌, List, [], ◌∷◌, ◌++◌, Some, None, refl, ◌∙◌, ap, arith}
+use Rattle.std.proofs.Common.{◌≡◌, ℕ, Bool, true, false, cond, ◌&&◌, ◌||◌, List, [], ◌∷◌, ◌++◌, Some, None, refl, ◌∙◌, ap}
 use Rattle.std.specs.Prelude.{filter, nat_lt}
 use Rattle.std.specs.List.{list_any}
 use Rattle.std.specs.Map.{lookup, set_value}
@@ -9,13 +9,12 @@ use Rattle.std.specs.Ordering.{nat_cmp}
 use Rattle.std.specs.declared.cmp.Ordering.{Ordering}
 use Rattle.std.specs.declared.cmp.Ordering.TheVariants.{Less, Equal, Greater}
 use Rattle.std.specs.declared.ops.Bound.TheVariants.{Excluded, Unbounded}
-use Rattle.std.proofs.lemmas.Bool.Decides.{nat_tests}
 use Rattle.std.proofs.lemmas.List.Folds.{list_any-append}
 use Rattle.spans.proofs.Steps.{by_test}
 use Rattle.spans.proofs.Sets.{is_found}
 use Rattle.plain_database.specs.declared.span_reads.Scan.{Scan}
 use Rattle.plain_database.specs.SpanReads.{is_scan_across, scan_goes_across}
-use Rattle.plain_database.proofs.Reading.{turn}
+use Rattle.plain_database.proofs.Reading.{is_above, turn}
 
 -- the readers of spans, each with its scans
 abbrev pub Readers : Type 0
@@ -23,15 +22,12 @@ Readers = List (ℕ × List Scan)
 
 only_one : (a b r : Bool) → ((a && (b || false)) || r) ≡ ((a && b) || r)
 only_one true true r = refl
-only_one true false r = refl
-only_one false b r = refl
+only_one _ _ r = refl
 
 last_one : (a b c r : Bool) → ((a && (b || (c || false))) || r) ≡ ((a && c) || ((a && b) || r))
 last_one true true true r = refl
-last_one true true false r = refl
 last_one true false true r = refl
-last_one true false false r = refl
-last_one false b c r = refl
+last_one _ _ _ r = refl
 
 -- the first scan of a reader
 pub first_scan : (es : Readers) (j : ℕ) (s : Scan) (x : List ℕ) (i : ℕ) → lookup (is_at (nat_cmp j)) es ≡ None
@@ -59,9 +55,6 @@ later_scan (e ∷ es) j ss s x i found = by_test (is_at (nat_cmp j) e.0)
     ∙ last_one (nat_lt i j) (list_any (is_scan_across x i) ss) (is_scan_across x i s) (scan_goes_across es x i)))
     (λ there. rw there (ap (λ b. (nat_lt i e.0 && list_any (is_scan_across x i) e.1) || b) (later_scan es j ss s x i (rw there at found))
     ∙ turn (nat_lt i e.0 && list_any (is_scan_across x i) e.1) (nat_lt i j && is_scan_across x i s) (scan_goes_across es x i)))
-
-is_above : (i n : ℕ) → range_contains nat_cmp (Excluded i) Unbounded n ≡ nat_lt i n
-is_above i n = grind (arith, nat_tests)
 
 -- the scans of the readers above i, key by key
 abbrev above : ℕ → Readers → Readers

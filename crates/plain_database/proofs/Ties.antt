@@ -42,8 +42,7 @@ IsOfFeed _ = ⊥
 
 owner_decided : (b : Bool) (s : Decision) (o : Option Transaction) → owner_in (cond b (option_map (decided s) o) o) ≡ owner_in o
 owner_decided true s None = refl
-owner_decided true s (Some x) = refl
-owner_decided false s o = refl
+owner_decided _ s _ = refl
 
 owner_some : (db : PlainDatabase) (p : List Effect) (t : ℕ) → IsTied db p → IsActive p t → (i : ℕ) → (t == i) ≡ true → is_some (owner_in (transaction_at db.transactions i)) ≡ true
 owner_some db p t tied active i same = subst (λ n. is_some (owner_in (transaction_at db.transactions n)) ≡ true) (eqb-true t i same) (ap is_some (tied.owners t) ∙ active.begun)
@@ -131,11 +130,9 @@ tied_scans db p scans t span sources rows tied given more = record {
 }
   where
     apart : (a b c : Bool) → (a && (b && c)) ≡ (b && (c && a))
-    apart true true c = by_test c (λ is. rw is refl) (λ isnt. rw isnt refl)
-    apart true false c = refl
+    apart true true true = refl
     apart false true true = refl
-    apart false true false = refl
-    apart false false c = refl
+    apart _ _ _ = refl
 
     across : (y : List ℕ) (i : ℕ) → (nat_lt i t && is_scan_across y i (scan_of span sources)) ≡ (in_span span y && (nat_lt (visible p y t).ts i && nat_lt i t))
     across y i = apart (nat_lt i t) (in_span span y) (nat_lt (source_at sources y) i) ∙ by_test (in_span span y)
@@ -287,9 +284,8 @@ tied_hard_closes db p to at table chains set cleared tied all = record {
 
     by_state : (low : Bool) (s : State) → is_committed_state (state_closed low s) ≡ is_committed_state s
     by_state true states.Undecided = refl
-    by_state false states.Undecided = refl
-    by_state low states.Committed = refl
-    by_state low states.Aborted = refl
+    by_state low states.Undecided = refl
+    by_state _ _ = refl
 
     committed_closed : (low : Bool) (o : Option Transaction) → committed_in (option_map (hard_closed low) o) ≡ committed_in o
     committed_closed low None = refl
@@ -297,11 +293,8 @@ tied_hard_closes db p to at table chains set cleared tied all = record {
 
     by_state' : (low : Bool) (s : State) → is_aborted_state (state_closed low s) ≡ ((low && (true && not (is_committed_state s))) || is_aborted_state s)
     by_state' true states.Undecided = refl
-    by_state' false states.Undecided = refl
-    by_state' true states.Committed = refl
-    by_state' false states.Committed = refl
-    by_state' true states.Aborted = refl
-    by_state' false states.Aborted = refl
+    by_state' low states.Undecided = refl
+    by_state' _ _ = refl
 
     aborted_closed : (low : Bool) (o : Option Transaction) → aborted_in (option_map (hard_closed low) o) ≡ ((low && (is_some (owner_in o) && not (committed_in o))) || aborted_in o)
     aborted_closed true None = refl
@@ -317,10 +310,5 @@ tied_hard_closes db p to at table chains set cleared tied all = record {
 
     by_parts : (low o c a : Bool) (w : Option After) → cond (low && (o && (not c && not a))) None (cond a None w) ≡ cond ((low && (o && not c)) || a) None w
     by_parts true true true true w = refl
-    by_parts true true true false w = refl
-    by_parts true true false true w = refl
-    by_parts true true false false w = refl
-    by_parts true false c true w = refl
-    by_parts true false c false w = refl
-    by_parts false o c true w = refl
-    by_parts false o c false w = refl
+    by_parts low o c true w = refl
+    by_parts _ _ _ _ w = refl

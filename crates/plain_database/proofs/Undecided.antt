@@ -15,13 +15,13 @@ use Rattle.plain_database.specs.declared.database.PlainDatabase.{PlainDatabase}
 use Rattle.plain_versions.specs.Counting.{IsCountOf}
 use Rattle.plain_versions.specs.Transactions.{transaction_at, is_open_state, is_committed_state, is_aborted_state, open_in, committed_in, is_undecided_through, IsDecidedThrough}
 use Rattle.plain_database.specs.Tied.{owner_in, aborted_in, IsTied}
+use Rattle.plain_database.proofs.Limits.{least_over}
 
 -- ---- one is undecided
 
 open_state : (s : State) → is_open_state s ≡ (true && (not (is_committed_state s) && not (is_aborted_state s)))
 open_state states.Undecided = refl
-open_state states.Committed = refl
-open_state states.Aborted = refl
+open_state _ = refl
 
 open_is : (o : Option Transaction) → open_in o ≡ (is_some (owner_in o) && (not (committed_in o) && not (aborted_in o)))
 open_is None = refl
@@ -56,16 +56,9 @@ least_reached n t (k ∷ ks) i = elim i [
   | inr there ↦ (let more = least_reached n t ks there in omega arith)
 ]
 
-least_over : (n m : ℕ) (ts : List ℕ) → m ≤ n → ((t : ℕ) → Has t ts → m ≤ t - 1) → m ≤ least_of n (map (λ i. i - 1) ts)
-least_over n m [] low all = low
-least_over n m (t ∷ ts) low all =
-    let here = all t (inl refl) in
-    let more = least_over n m ts low (λ k i. all k (inr i)) in
-    omega arith
-
 least_is : (to n : ℕ) (ts : List ℕ) → n ≤ to → ((t : ℕ) → Has t ts → n ≤ t - 1) → (n ≡ to) ⊎ ((t : ℕ) × Has t ts × (n ≡ t - 1)) → n ≡ least_of to (map (λ t. t - 1) ts)
 least_is to n ts low all reached =
-    let up = least_over to n ts low all in
+    let up = least_over n to (λ i. i - 1) ts low all in
     elim reached [
       | inl e ↦ (let down = least_low to (map (λ t. t - 1) ts) in omega arith)
       | inr there ↦ (let down = least_reached to there.0 ts there.1 in let at = there.2 in omega arith)

@@ -10,7 +10,8 @@ use Rattle.spans.proofs.Legal.{legal_allowed}
 use Rattle.plain_feeds.specs.declared.record.FeedRecord.{FeedRecord}
 use Rattle.plain_feeds.specs.Records.{IsToldIn}
 use Rattle.plain_database.proofs.ClosedRange.{closed_in_range}
-use Rattle.plain_database.proofs.PollSteps.{committed_tied, nothing_closed, nothing_next, rows_of_record}
+use Rattle.plain_database.proofs.Scanning.{committed_is}
+use Rattle.plain_database.proofs.PollSteps.{nothing_closed, nothing_next, rows_of_record}
 use Rattle.plain_database.proofs.database.PlainDatabase.next_messages.Goals as goal
 
 pub returns-in-None : goal.returns-in-None
@@ -28,5 +29,5 @@ returns-in_ok-rows-in-Some c = IfOk-weaker c.next_messages.result _ _
     let at : c.in-Some.closed ≡ closed_of p = c.in-Some.ensures.number ∙ stands.tied.closed_at in
     let low : c.in-Some.closed ≤ MAX = omega (arith, at, closed_in_range h stands.legal) in
     e p f stands.tied.feeds is (c.get.ensures.number ∙ at)
-    (c.in_ok-rows-in-Some.ensures.left p all (committed_tied c.args.self.now p all stands.tied) c.args.feed has told at low ∙ rows_of_record p c.args.feed c.args.max (feed_of p c.args.feed) f x is has))
+    (c.in_ok-rows-in-Some.ensures.left p all (committed_is c.args.self.now p all stands.tied) c.args.feed has told at low ∙ rows_of_record p c.args.feed c.args.max (feed_of p c.args.feed) f x is has))
     c.next_messages.ensures

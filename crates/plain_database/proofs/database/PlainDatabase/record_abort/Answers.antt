@@ -1,5 +1,8 @@
+use Rattle.std.proofs.Common.{refl}
+use Rattle.spans.specs.declared.calls.commands.Cmd.TheVariants.{Abort}
+use Rattle.spans.specs.declared.calls.replies.Reply.TheVariants.{Aborted}
 use Rattle.plain_database.proofs.Events.{stands_aborts}
 use Rattle.plain_database.proofs.database.PlainDatabase.record_abort.Goals as goal
 
 pub returns-in-Aborted : goal.returns-in-Aborted
-returns-in-Aborted c = λ seat h n. rw c.in-Aborted.is (stands_aborts c.args.self.now c.abort.new.self h n seat c.args.ts (c.abort.ensures.transactions, c.abort.ensures.chains, c.abort.ensures.rest))
+returns-in-Aborted c = λ seat h n. rw c.in-Aborted.is (stands_aborts c.args.self.now c.abort.new.self h n seat c.args.ts (Abort c.args.ts) Aborted refl (c.abort.ensures.transactions, c.abort.ensures.chains, c.abort.ensures.rest))

@@ -9,7 +9,8 @@ use Rattle.spans.proofs.Legal.{legal_allowed}
 use Rattle.plain_feeds.specs.declared.record.FeedRecord.{FeedRecord}
 use Rattle.plain_feeds.specs.Records.{IsToldIn}
 use Rattle.plain_database.proofs.ClosedRange.{closed_in_range}
-use Rattle.plain_database.proofs.PollSteps.{committed_tied, nothing_closed, nothing_left, rows_of_record}
+use Rattle.plain_database.proofs.Scanning.{committed_is}
+use Rattle.plain_database.proofs.PollSteps.{nothing_closed, nothing_left, rows_of_record}
 use Rattle.plain_database.proofs.Reporting.{all_taken}
 use Rattle.plain_database.proofs.database.PlainDatabase.untold_count.Goals as goal
 
@@ -26,6 +27,6 @@ returns-in_ok-rows-in-Some c = λ h f stands is.
     let at : c.in-Some.closed ≡ closed_of p = c.in-Some.ensures.number ∙ stands.tied.closed_at in
     let low : c.in-Some.closed ≤ MAX = omega (arith, at, closed_in_range h stands.legal) in
     let all = legal_allowed h stands.legal in
-    let left = c.in_ok-rows-in-Some.ensures.left p all (committed_tied c.args.self.now p all stands.tied) c.args.feed has told at low ∙ rows_of_record p c.args.feed 18446744073709551615 (feed_of p c.args.feed) f x is has in
+    let left = c.in_ok-rows-in-Some.ensures.left p all (committed_is c.args.self.now p all stands.tied) c.args.feed has told at low ∙ rows_of_record p c.args.feed 18446744073709551615 (feed_of p c.args.feed) f x is has in
     let many = all_taken 18446744073709551615 c.in_ok-rows-in-Some.rows.items (untold_rows p c.args.feed f) left (omega (arith, c.in_ok-rows-in-Some.rows.ok, c.in_ok-rows-in-Some.rows.small)) in
     omega (arith, many, c.len.ensures, c.in_ok-rows-in-Some.rows.ok)
