@@ -15,56 +15,33 @@ use Rattle.follow.specs.Steps.{EndsWritten, IsStopped, end_by}
 module _ (o : FollowOptions) (input : List ℕ) (ended : Bool) (ms : List Message) where
   -- all that is owed was written
   owed_at : (e : FollowEnd) (output : List ℕ) → e ≢ ends.Output → IsOwed o input ended ms e output → EndsBy o input ended ms output e
-  owed_at ends.Done output ne owed = owed
-  owed_at ends.NoMessages output ne owed = owed
-  owed_at (ends.Fault line fault) output ne owed = owed
-  owed_at ends.Spent output ne owed = owed
-  owed_at ends.Input output ne owed = owed
   owed_at ends.Output output ne owed = absurd (ne refl)
-  owed_at ends.Memory output ne owed = owed
+  owed_at _ output ne owed = owed
 
   -- memory is wanted for the line of the end
   comes_unlined : (e : FollowEnd) → HasLine e → ComesBy o input ended ms e → ComesBy o input ended ms ends.Memory
   comes_unlined (ends.Fault line fault) lined (inl begun) = inl begun.1
   comes_unlined (ends.Fault line fault) lined (inr stop) = inr (inr (inl (line, fault, stop)))
   comes_unlined ends.Spent lined endless = inr (inl endless)
-  comes_unlined ends.Done lined comes = absurd lined
-  comes_unlined ends.NoMessages lined comes = absurd lined
-  comes_unlined ends.Input lined comes = absurd lined
-  comes_unlined ends.Output lined comes = absurd lined
-  comes_unlined ends.Memory lined comes = absurd lined
+  comes_unlined _ lined comes = absurd lined
 
 fails_unlined : (e : FollowEnd) (r r' : Reads) (w w' : Writes) → HasLine e → FailsAt e r w r' w' → FailsAt ends.Memory r w r' w'
 fails_unlined (ends.Fault line fault) r r' w w' lined f = f
 fails_unlined ends.Spent r r' w w' lined f = f
-fails_unlined ends.Done r r' w w' lined f = absurd lined
-fails_unlined ends.NoMessages r r' w w' lined f = absurd lined
-fails_unlined ends.Input r r' w w' lined f = absurd lined
-fails_unlined ends.Output r r' w w' lined f = absurd lined
-fails_unlined ends.Memory r r' w w' lined f = absurd lined
+fails_unlined _ r r' w w' lined f = absurd lined
 
 lined_else : (e : FollowEnd) → HasLine e → e ≢ ends.Output
 lined_else e lined is = let none : HasLine ends.Output = subst HasLine is lined in none
 
 -- all that was left is written, and no write fails
 fails_still : (e : FollowEnd) (r r' : Reads) (w w' w'' : Writes) → w''.failures ≡ w'.failures → FailsAt e r w r' w' → FailsAt e r w r' w''
-fails_still ends.Done r r' w w' w'' same f = (f.0, same ∙ f.1)
-fails_still ends.NoMessages r r' w w' w'' same f = (f.0, same ∙ f.1)
-fails_still (ends.Fault line fault) r r' w w' w'' same f = (f.0, same ∙ f.1)
-fails_still ends.Spent r r' w w' w'' same f = (f.0, same ∙ f.1)
-fails_still ends.Input r r' w w' w'' same f = (f.0, same ∙ f.1)
 fails_still ends.Output r r' w w' w'' same f = (f.0, f.1, same ∙ f.2)
-fails_still ends.Memory r r' w w' w'' same f = (f.0, same ∙ f.1)
+fails_still _ r r' w w' w'' same f = (f.0, same ∙ f.1)
 
 -- one write more fails
 fails_more : (e : FollowEnd) (r r' : Reads) (w w' w'' : Writes) → e ≢ ends.Output → w''.failures ≡ w'.failures + 1 → FailsAt e r w r' w' → FailsAt ends.Output r w r' w''
-fails_more ends.Done r r' w w' w'' ne more f = let a = f.0 in let b = f.1 in (omega arith, omega arith, omega arith)
-fails_more ends.NoMessages r r' w w' w'' ne more f = let a = f.0 in let b = f.1 in (omega arith, omega arith, omega arith)
-fails_more (ends.Fault line fault) r r' w w' w'' ne more f = let a = f.0 in let b = f.1 in (omega arith, omega arith, omega arith)
-fails_more ends.Spent r r' w w' w'' ne more f = let a = f.0 in let b = f.1 in (omega arith, omega arith, omega arith)
-fails_more ends.Input r r' w w' w'' ne more f = let a = f.0 in let b = f.1 in (omega arith, omega arith, omega arith)
 fails_more ends.Output r r' w w' w'' ne more f = absurd (ne refl)
-fails_more ends.Memory r r' w w' w'' ne more f = let a = f.0 in let b = f.1 in (omega arith, omega arith, omega arith)
+fails_more _ r r' w w' w'' ne more f = let a = f.0 in let b = f.1 in (omega arith, omega arith, omega arith)
 
 module _ (o : FollowOptions) (r r' : Reads) (w w' : Writes) (kept : List ℕ) (e : FollowEnd) (s : IsStopped o r r' w w' kept e) where
   followed_by : (e' : FollowEnd) (w'' : Writes) (output : List ℕ) → w''.taken ≡ w.taken ++ output → EndsBy o s.over.input r'.ended s.messages output e' → FailsAt e' r w r' w'' → IsFollowed o r r' w w'' e'

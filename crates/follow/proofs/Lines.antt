@@ -1,13 +1,9 @@
 -- What is followed of an input, line by line.
-use Rattle.std.proofs.Common.{◌≡◌, ℕ, suc, ◌+◌, ◌-◌, ◌<◌, ◌≤◌, ◌⊎◌, ⊎_elim, Bool, true, false, cond, List, [], ◌∷◌, ◌++◌, length, take, drop, Option, Some, None, Result, Ok, Err, refl, sym, ap, subst, ◌∙◌, arith, append-nil, append_assoc, length-append, inl, inr}
+use Rattle.std.proofs.Common.{◌≡◌, ℕ, ◌+◌, ◌-◌, ◌<◌, ◌≤◌, ◌⊎◌, ⊎_elim, Bool, true, false, cond, List, [], ◌∷◌, ◌++◌, length, take, drop, Option, Some, None, Result, Ok, Err, refl, sym, ap, subst, ◌∙◌, arith, append-nil, append_assoc, length-append, inl, inr}
 use Rattle.std.specs.Prelude.{◌≢◌, is_some, not, position}
-use Rattle.std.specs.List.{position_or_len}
-use Rattle.std.proofs.lemmas.Bool.{lt-ltb}
-use Rattle.std.proofs.lemmas.List.{length-take, length-take-le, take-append-drop, take-append-le}
-use Rattle.std.proofs.lemmas.List.Sums.{fails_before_first}
-use Rattle.std.proofs.Math.Seq.{take-length, take-append_seam, drop-append_seam, take-append-add}
+use Rattle.std.proofs.lemmas.List.{length-take-le, take-append-drop}
+use Rattle.std.proofs.Math.Seq.{take-length, take-append_seam, drop-append_seam}
 use Rattle.text_format.specs.declared.Format.{Format}
-use Rattle.text_format.specs.Limits.{line_limit}
 use Rattle.spans.specs.declared.calls.messages.Message.{Message}
 use Rattle.spans.specs.Consumer.{ApplyFault, apply_fault}
 use Rattle.json_lines.specs.declared.fault.MessageFault.{MessageFault}
@@ -16,12 +12,12 @@ use Rattle.json_lines.specs.Tests.{message_at}
 use Rattle.spelled_words.specs.declared.fault.LineFault.{LineFault}
 use Rattle.spelled_words.specs.declared.fault.LineFault.TheVariants as faults
 use Rattle.word_lines.specs.Words.{has_newline, without_newline, text_at}
-use Rattle.word_lines.proofs.Splitting.{place_cases}
 use Rattle.script.specs.Lines.{is_newline, lines_of}
-use Rattle.script.proofs.CutLines.{lines_alone, lines_first}
+use Rattle.script.proofs.CutLines.{lines_first}
 use Rattle.sessions.specs.declared.lines.Lines.{Lines}
 use Rattle.sessions.specs.Waiting.{waiting, IsLine}
-use Rattle.sessions.proofs.Finding.{newline_stays, newline_comes, newline_lacks}
+use Rattle.sessions.proofs.Finding.{newline_stays, newline_comes, newline_lacks, no_last}
+use Rattle.sessions.proofs.FirstLines as first
 use Rattle.follow.specs.declared.options.FollowOptions.{FollowOptions}
 use Rattle.follow.specs.Ends.{TakesNext}
 use Rattle.follow.specs.declared.fault.FollowError.{FollowError}
@@ -56,48 +52,12 @@ module _ (format : Format) where
 
 -- ---- the first line of what waits
 
-known_first : (xs more : List ℕ) → None ≡ position is_newline xs → 0 < length xs → (x : List ℕ) × (others : List (List ℕ)) × (lines_of (xs ++ more) ≡ (xs ++ x) ∷ others)
-known_first xs more none some = by_place (position is_newline more) refl
-  where
-    by_place : (at : Option ℕ) → at ≡ position is_newline more → (x : List ℕ) × (others : List (List ℕ)) × (lines_of (xs ++ more) ≡ (xs ++ x) ∷ others)
-    by_place None lacks = (more, lines_of [], lines_alone (xs ++ more) (let l = length-append xs more in omega arith) (newline_lacks xs more none lacks))
-    by_place (Some at) is =
-        let cut = lines_first (xs ++ more) (length xs + at) (newline_comes xs more at none is) in
-        let n : length xs + at + 1 ≡ length xs + (at + 1) = omega arith in (
-          take (at + 1) more,
-          lines_of (drop (length xs + at + 1) (xs ++ more)),
-          cut ∙ ap (λ (l : List ℕ). l ∷ lines_of (drop (length xs + at + 1) (xs ++ more))) (ap (λ (k : ℕ). take k (xs ++ more)) n ∙ take-append-add xs more (at + 1)),
-        )
-
-newline_none : (xs : List ℕ) → None ≡ position is_newline xs → length xs ≤ position_or_len is_newline xs
-newline_none xs none = elim (place_cases (position_or_len is_newline xs) (length xs) _ None refl none) [
-  | inl h ↦ absurd cc
-  | inr h ↦ h.1
-]
-
-no_last : (xs : List ℕ) → None ≡ position is_newline xs → 0 < length xs → has_newline xs ≡ false
-no_last xs none some = let n = newline_none xs none in fails_before_first is_newline xs (length xs - 1) 0 (omega arith)
-
-without_step : (limit : ℕ) (s : Bool) (l : List ℕ) → (s ≡ false) ⊎ (suc limit < length l) → limit < length l → limit < length (cond s (take (length l - 1) l) l)
-without_step limit true l (inl e) long = absurd cc
-without_step limit true l (inr e) long = let q = length-take (length l - 1) l in omega arith
-without_step limit false l e long = long
-
 ended_step : (b s : Bool) (l text : List ℕ) → cond b (Err faults.LineTooLong) (cond (not s) (Err faults.NoNewline) (Ok l)) ≡ Ok text → s ≡ true
 ended_step true s l text e = absurd cc
 ended_step false true l text e = refl
 ended_step false false l text e = absurd cc
 
 module _ (format : Format) where
-  too_long : (line : List ℕ) → (has_newline line ≡ false) ⊎ (suc (line_limit format) < length line) → line_limit format < length line → text_at format line ≡ Err faults.LineTooLong
-  unfolding text_at
-  too_long line e long = rw (lt-ltb (line_limit format) (length (without_newline line)) (without_step (line_limit format) (has_newline line) line e long)) refl
-
-  -- a line that is too long is so with more behind it
-  grown_too_long : (xs x : List ℕ) → None ≡ position is_newline xs → line_limit format < length xs → text_at format (xs ++ x) ≡ Err faults.LineTooLong
-  grown_too_long xs [] none long = ap (text_at format) (append-nil xs) ∙ too_long xs (inl (no_last xs none (omega arith))) long
-  grown_too_long xs (c ∷ cs) none long = let q = length-append xs (c ∷ cs) in too_long (xs ++ c ∷ cs) (inr (omega arith)) (omega arith)
-
   -- a text has a newline behind it
   has_end : (line text : List ℕ) → text_at format line ≡ Ok text → has_newline line ≡ true
   unfolding text_at
@@ -106,26 +66,16 @@ module _ (format : Format) where
   -- whatever comes behind what waits, its first line says the same
   pub line_comes : (taking : Bool) (n : ℕ) (l : Lines) (more : List ℕ) → l.format ≡ format → n ≤ length (waiting l) → IsLine l n → (l.ended ≡ true → more ≡ [])
       → (line : List ℕ) × (others : List (List ℕ)) × (lines_of (waiting l ++ more) ≡ line ∷ others) × (line_at format taking line ≡ line_at format taking (take n (waiting l)))
-  line_comes taking n l more same within (inl h) stops =
-      let ws = waiting l in
-      let cut = lines_first (ws ++ more) h.0 (newline_stays ws more h.0 h.1) in
-      let front : take (h.0 + 1) (ws ++ more) ≡ take n ws = take-append-le (h.0 + 1) ws more (let q = h.2 in omega arith) ∙ ap (λ (k : ℕ). take k ws) (sym h.2) in
-      (take (h.0 + 1) (ws ++ more), lines_of (drop (h.0 + 1) (ws ++ more)), cut, ap (line_at format taking) front)
-  line_comes taking n l more same within (inr h) stops =
-      let ws = waiting l in
-      let some : 0 < length ws = let q = h.1 in let r = h.2 in omega arith in
-      let all : take n ws ≡ ws = ap (λ (k : ℕ). take k ws) h.1 ∙ take-length ws in
-      ⊎_elim
-      (λ (ended : l.ended ≡ true).
-      let z : ws ++ more ≡ ws = ap (λ (ys : List ℕ). ws ++ ys) (stops ended) ∙ append-nil ws in
-      (ws, lines_of [], ap lines_of z ∙ lines_alone ws some h.0, ap (line_at format taking) (sym all)))
-      (λ (over : line_limit l.format < n).
-      let long : line_limit format < n = subst (λ (x : Format). line_limit x < n) same over in
-      let big : line_limit format < length ws = let q = h.1 in omega arith in
-      let g = known_first ws more h.0 some in
-      let told : text_at format (take n ws) ≡ Err faults.LineTooLong = ap (text_at format) (all ∙ sym (append-nil ws)) ∙ grown_too_long ws [] h.0 big in
-      (ws ++ g.0, g.1, g.2, line_misread format taking (ws ++ g.0) faults.LineTooLong (grown_too_long ws g.0 h.0 big) ∙ sym (line_misread format taking (take n ws) faults.LineTooLong told)))
-      h.3
+  line_comes taking n l more same within line stops =
+      let c = first.line_comes format n l more same within line stops in (
+        c.0,
+        c.1,
+        c.2,
+        ⊎_elim
+            (λ (is : c.0 ≡ take n (waiting l)). ap (line_at format taking) is)
+            (λ (long : (text_at format c.0 ≡ Err faults.LineTooLong) × (text_at format (take n (waiting l)) ≡ Err faults.LineTooLong)). line_misread format taking c.0 faults.LineTooLong long.0 ∙ sym (line_misread format taking (take n (waiting l)) faults.LineTooLong long.1))
+            c.3,
+      )
 
   front_at : (n at : ℕ) (ws : List ℕ) → n ≤ length ws → Some at ≡ position is_newline ws → n ≡ at + 1 → Some at ≡ position is_newline (take n ws)
   front_at n at ws within is next = by_place (position is_newline (take n ws)) refl (position is_newline (drop n ws)) refl

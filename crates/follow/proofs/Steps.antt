@@ -49,8 +49,7 @@ use Rattle.follow.proofs.Lines.{chosen_stays, line_whole, line_comes, line_ahead
 -- a replica is of the span that its follower was given
 span_kept : (span : Span) (start : Start) → (start_of span start).span ≡ span
 span_kept span (starts.Cursor cursor) = refl
-span_kept span (starts.Initial cursor) = refl
-span_kept span (starts.Seed cursor rows) = refl
+span_kept span _ = refl
 
 -- ---- where it begins
 

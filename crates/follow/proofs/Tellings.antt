@@ -1,13 +1,6 @@
 -- What is told at a timestamp, and the keys that are named.
-use Rattle.std.proofs.Common.{◌≡◌, ◌∙◌, ℕ, List, [], ◌∷◌, ◌++◌, Result, Ok, Err, OnOk, Some, sym, ap, append-nil, append_assoc, refl}
-use Rattle.std.specs.Prelude.{IfErr}
+use Rattle.std.proofs.Common.{◌≡◌, ◌∙◌, ℕ, List, [], ◌∷◌, ◌++◌, Some, sym, ap, append-nil, append_assoc}
 use Rattle.std.specs.List.{flat_map}
-use Rattle.std.specs.BTreeSet as sets
-use Rattle.std.specs.Ordering.{match_ordering}
-use Rattle.std.specs.declared.cmp.Ordering.{Ordering}
-use Rattle.std.specs.declared.cmp.Ordering.TheVariants.{Equal, Greater, Less}
-use Rattle.timestamps.specs.Bytes.{key_cmp}
-use Rattle.spans.specs.Keys.{insert_key, insert_where}
 use Rattle.spans.specs.Serial.{Map}
 use Rattle.word_lines.specs.Replies.{row_line}
 use Rattle.replica.specs.Rows.{AreRowsOf, IsCountOf}
@@ -18,26 +11,6 @@ use Rattle.follow.specs.Followed.{count_line}
 use Rattle.follow.specs.Reports.{shown_lines, unless_told}
 use Rattle.follow.specs.Telling.{named_in, ShowsRows, TellsAt}
 use Rattle.follow.proofs.Reports.{only_rows}
-
--- ---- of results
-
-pub if_ok : {T E P Q : Type 0} (r : Result T E) → (P → Q) → OnOk r P → OnOk r Q
-if_ok (Ok x) f p = f p
-if_ok (Err e) f p = tt
-
-pub if_err : {T E : Type 0} (P Q : E → Type 0) (r : Result T E) → ((e : E) → P e → Q e) → IfErr r P → IfErr r Q
-if_err P Q (Ok x) f p = tt
-if_err P Q (Err e) f p = f e p
-
--- the set puts a key where the definitions do
-pub inserted_is : (x : List ℕ) (keys : List (List ℕ)) → sets.insert_key key_cmp keys x ≡ insert_key x keys
-inserted_is x [] = refl
-inserted_is x (y ∷ keys) = by_order (key_cmp x y) (inserted_is x keys)
-  where
-    by_order : (o : Ordering) → sets.insert_key key_cmp keys x ≡ insert_key x keys → match_ordering o (x ∷ y ∷ keys) (y ∷ keys) (y ∷ sets.insert_key key_cmp keys x) ≡ insert_where o x y keys (insert_key x keys)
-    by_order Less more = refl
-    by_order Equal more = refl
-    by_order Greater more = ap (λ (l : List (List ℕ)). y ∷ l) more
 
 -- the rows of a map are the same ones, however they were listed
 pub shows_listed : (t : Telling) (m : Map) (listed : List (List ℕ × List ℕ)) (before after : List ℕ) → t.shown ≡ shown.Rows → AreRowsOf m listed → after ≡ before ++ flat_map row_line listed → ShowsRows t m before after

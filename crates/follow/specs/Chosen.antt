@@ -11,11 +11,8 @@ begins_message (byte ∷ bytes) = byte == 123
 
 -- the feed that words poll: the third is `poll`, and the fourth the feed's number
 abbrev pub polled_among : List (List ℕ) → Option ℕ
-polled_among [] = None
-polled_among (position ∷ []) = None
-polled_among (position ∷ seat ∷ []) = None
-polled_among (position ∷ seat ∷ name ∷ []) = None
 polled_among (position ∷ seat ∷ name ∷ feed ∷ words) = if bytes_eq name (codes "poll") then number_of feed else None
+polled_among _ = None
 
 abbrev pub polled_by : Result (List (List ℕ)) LineFault → Option ℕ
 polled_by (Ok words) = polled_among words

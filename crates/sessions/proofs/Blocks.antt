@@ -1,13 +1,7 @@
 -- What waits in a block.
-use Rattle.std.proofs.Common.{◌≡◌, ℕ, ◌+◌, ◌-◌, ◌≤◌, zero, suc, List, [], ◌∷◌, ◌++◌, length, take, drop, arith, refl, ◌∙◌, sym, ap, subst, append_assoc}
-use Rattle.std.proofs.lemmas.List.{take-append-le, drop-take, drop-drop, length-take, length-take-le}
+use Rattle.std.proofs.Common.{◌≡◌, ℕ, ◌+◌, ◌-◌, ◌≤◌, List, ◌++◌, length, take, drop, arith, ◌∙◌, sym, ap, subst, append_assoc}
+use Rattle.std.proofs.lemmas.List.{take-append-le, take-take, drop-take, drop-drop, length-take, length-take-le}
 use Rattle.std.proofs.Math.Seq.{take-append-add}
-
-take_take : (k m : ℕ) (ys : List ℕ) → k ≤ m → take k (take m ys) ≡ take k ys
-take_take zero m ys le = refl
-take_take (suc k) zero ys le = absurd (omega arith)
-take_take (suc k) (suc m) [] le = refl
-take_take (suc k) (suc m) (y ∷ ys) le = ap (λ (zs : List ℕ). y ∷ zs) (take_take k m ys (omega arith))
 
 -- what came behind it waits too
 pub grown : (s e n m : ℕ) (xs got rest tail : List ℕ) → s ≡ 0 → e ≤ length xs → n ≤ length got → e + n ≤ m → take (e + n - s) (drop s (take m ((take e xs ++ (got ++ rest)) ++ tail))) ≡ take (e - s) (drop s xs) ++ take n got
@@ -16,7 +10,7 @@ grown s e n m xs got rest tail front within few fits =
     let whole : (take e xs ++ (got ++ rest)) ++ tail ≡ take e xs ++ (got ++ (rest ++ tail)) = append_assoc (take e xs) (got ++ rest) tail ∙ ap (λ (ys : List ℕ). take e xs ++ ys) (append_assoc got rest tail) in
     let seam : take (e + n) (take e xs ++ (got ++ (rest ++ tail))) ≡ take e xs ++ take n (got ++ (rest ++ tail)) = subst (λ (m : ℕ). take (m + n) (take e xs ++ (got ++ (rest ++ tail))) ≡ take e xs ++ take n (got ++ (rest ++ tail))) l (take-append-add (take e xs) (got ++ (rest ++ tail)) n) in
     let all : take (e + n) (take e xs ++ (got ++ (rest ++ tail))) ≡ take e xs ++ take n got = seam ∙ ap (λ (ys : List ℕ). take e xs ++ ys) (take-append-le n got (rest ++ tail) few) in
-    let cut : take (e + n) (take m ((take e xs ++ (got ++ rest)) ++ tail)) ≡ take (e + n) ((take e xs ++ (got ++ rest)) ++ tail) = take_take (e + n) m ((take e xs ++ (got ++ rest)) ++ tail) fits in
+    let cut : take (e + n) (take m ((take e xs ++ (got ++ rest)) ++ tail)) ≡ take (e + n) ((take e xs ++ (got ++ rest)) ++ tail) = take-take (e + n) m ((take e xs ++ (got ++ rest)) ++ tail) fits in
     let z : e - s ≡ e = omega arith in
     let y : e + n - s ≡ e + n = omega arith in
     rw (y, z, front) (cut ∙ (ap (take (e + n)) whole ∙ all))

@@ -18,47 +18,26 @@ use Rattle.sessions.specs.Going.{IsStopped, IsRefused, kept_at}
 use Rattle.sessions.proofs.Goings.{ends_known, cut_off}
 
 open_at : (config : Config) (e : ServeEnd) → SeatsInRange config × RingInRange config → IsOpenAt config e
-open_at config end.Done r = r
-open_at config (end.Fault line fault) r = r
-open_at config (end.Spent line) r = r
 open_at config (end.Open reason) r = tt
-open_at config end.Input r = r
-open_at config end.Output r = r
-open_at config end.Memory r = r
+open_at config _ r = r
 
 nothing_behind : (out pending : List ℕ) → out ++ pending ≡ out ++ (pending ++ [])
 nothing_behind out pending = ap (λ (xs : List ℕ). out ++ xs) (sym (append-nil pending))
 
 kept_else : (e : ServeEnd) (out pending : List ℕ) → e ≢ end.Output → kept_at e out pending ≡ out ++ (pending ++ last_line e)
-kept_else end.Done out pending ne = nothing_behind out pending
 kept_else (end.Fault line fault) out pending ne = refl
 kept_else (end.Spent line) out pending ne = refl
-kept_else (end.Open reason) out pending ne = nothing_behind out pending
-kept_else end.Input out pending ne = nothing_behind out pending
 kept_else end.Output out pending ne = absurd (ne refl)
-kept_else end.Memory out pending ne = nothing_behind out pending
+kept_else _ out pending ne = nothing_behind out pending
 
 -- how often writes failed, where the rest is written or can't be
 fails_whole : (e : ServeEnd) (r r' : Reads) (w w' w'' : Writes) → e ≢ end.Output → w''.failures ≡ w'.failures → FailsBy e r w r' w' → FailsBy e r w r' w''
-fails_whole end.Done r r' w w' w'' ne same h = (h.0, same ∙ h.1)
-fails_whole (end.Fault line fault) r r' w w' w'' ne same h = (h.0, same ∙ h.1)
-fails_whole (end.Spent line) r r' w w' w'' ne same h = (h.0, same ∙ h.1)
-fails_whole (end.Open reason) r r' w w' w'' ne same h = (h.0, same ∙ h.1)
-fails_whole end.Input r r' w w' w'' ne same h = (h.0, same ∙ h.1)
 fails_whole end.Output r r' w w' w'' ne same h = absurd (ne refl)
-fails_whole end.Memory r r' w w' w'' ne same h = (h.0, same ∙ h.1)
-
-cut : (r r' : Reads) (w w' w'' : Writes) → w''.failures ≡ w'.failures + 1 → (r'.failures ≡ r.failures) × (w'.failures ≡ w.failures) → FailsBy end.Output r w r' w''
-cut r r' w w' w'' failed h = let reads = h.0 in let writes = h.1 in (omega (arith, reads), omega (arith, reads), failed ∙ ap (λ (n : ℕ). n + 1) writes)
+fails_whole _ r r' w w' w'' ne same h = (h.0, same ∙ h.1)
 
 fails_part : (e : ServeEnd) (r r' : Reads) (w w' w'' : Writes) → e ≢ end.Output → w''.failures ≡ w'.failures + 1 → FailsBy e r w r' w' → FailsBy end.Output r w r' w''
-fails_part end.Done r r' w w' w'' ne failed h = cut r r' w w' w'' failed h
-fails_part (end.Fault line fault) r r' w w' w'' ne failed h = cut r r' w w' w'' failed h
-fails_part (end.Spent line) r r' w w' w'' ne failed h = cut r r' w w' w'' failed h
-fails_part (end.Open reason) r r' w w' w'' ne failed h = cut r r' w w' w'' failed h
-fails_part end.Input r r' w w' w'' ne failed h = let reads = h.0 in (omega (arith, reads), omega (arith, reads), failed ∙ ap (λ (n : ℕ). n + 1) h.1)
 fails_part end.Output r r' w w' w'' ne failed h = absurd (ne refl)
-fails_part end.Memory r r' w w' w'' ne failed h = cut r r' w w' w'' failed h
+fails_part _ r r' w w' w'' ne failed h = let reads = h.0 in (omega (arith, reads), omega (arith, reads), failed ∙ ap (λ (n : ℕ). n + 1) h.1)
 
 abbrev AllLegal : Run → Type 0
 AllLegal run = (events : List Event) → HasMade run.callers.latest run.callers.seats.items events → IsHistory (first_of run.callers.db) events
@@ -111,33 +90,21 @@ served_part r r' w w' w'' last run e ne is begun failed s legal spent =
     (rest, ap (λ (xs : List ℕ). s.out ++ xs) all ∙ sym (append_assoc s.out t.part rest)))
 
 -- nothing was begun
+unbegun : (format : Format) (config : Config) (r : Reads) (w : Writes) (e : ServeEnd) → EndsBy format (config.first + 0 ≡ most) config [] r.ended [] [] e → IsOpenAt config e → FailsBy e r w r w → IsServed format config r r w w e
+unbegun format config r w e ends opened failed = record {
+  events = [];
+  history = record { legal = tt; gapless = tt };
+  input = [];
+  read = sym (append-nil r.given);
+  output = [];
+  wrote = sym (append-nil w.taken);
+  begins = λ whole may. ((script_at format config.seats whole).calls, refl);
+  ends = ends;
+  opened = opened;
+  failed = failed;
+}
+
 pub served_refused : (format : Format) (config : Config) (r : Reads) (w : Writes) (e : ServeEnd) → IsRefused config e → IsServed format config r r w w e
-served_refused format config r w (end.Open reason) why = record {
-  events = [];
-  history = record { legal = tt; gapless = tt };
-  input = [];
-  read = sym (append-nil r.given);
-  output = [];
-  wrote = sym (append-nil w.taken);
-  begins = λ whole may. ((script_at format config.seats whole).calls, refl);
-  ends = (why, refl, refl, refl);
-  opened = tt;
-  failed = (refl, refl);
-}
-served_refused format config r w end.Memory why = record {
-  events = [];
-  history = record { legal = tt; gapless = tt };
-  input = [];
-  read = sym (append-nil r.given);
-  output = [];
-  wrote = sym (append-nil w.taken);
-  begins = λ whole may. ((script_at format config.seats whole).calls, refl);
-  ends = inl (refl, refl, refl);
-  opened = why;
-  failed = (refl, refl);
-}
-served_refused format config r w end.Done why = absurd why
-served_refused format config r w (end.Fault line fault) why = absurd why
-served_refused format config r w (end.Spent line) why = absurd why
-served_refused format config r w end.Input why = absurd why
-served_refused format config r w end.Output why = absurd why
+served_refused format config r w (end.Open reason) why = unbegun format config r w (end.Open reason) (why, refl, refl, refl) tt (refl, refl)
+served_refused format config r w end.Memory why = unbegun format config r w end.Memory (inl (refl, refl, refl)) why (refl, refl)
+served_refused format config r w _ why = absurd why

@@ -3,24 +3,21 @@ use Rattle.std.proofs.Common.{◌≡◌, ℕ, suc, ◌+◌, ◌-◌, ◌<◌, �
 use Rattle.std.specs.Prelude.{position, is_some, IfSome}
 use Rattle.std.proofs.lemmas.List.{length-append, length-take-le, take-append-drop}
 use Rattle.std.proofs.lemmas.List.Recursion.{is_position_or_len}
-use Rattle.std.proofs.lemmas.List.Sums.{position_or_len_is}
-use Rattle.std.proofs.lemmas.Bool.{lt-ltb, le-ltb}
+use Rattle.std.proofs.lemmas.List.Sums.{fails_before_first, position_or_len_is}
+use Rattle.std.proofs.lemmas.Bool.{false_from_ne_true, lt-ltb, le-ltb}
 use Rattle.std.specs.List.{position_or_len}
 use Rattle.memchr.specs.Find.{IsFirstByte, is_byte}
 use Rattle.script.specs.Lines.{is_newline}
+use Rattle.word_lines.specs.Words.{has_newline}
 use Rattle.word_lines.proofs.Splitting.{end_is, place_cases}
-
-not_true : (b : Bool) → ¬ (b ≡ true) → b ≡ false
-not_true true never = absurd (never refl)
-not_true false _ = refl
 
 pub first_newline : (bytes : List ℕ) (r : _) → IsFirstByte (is_byte 10) bytes r → (r ≡ position is_newline bytes) × IfSome r (λ at. at < length bytes)
 first_newline bytes None h =
-    let n : position_or_len is_newline bytes ≡ length bytes = position_or_len_is is_newline bytes (length bytes) 0 (omega arith) (λ k lt. not_true (is_newline (get_or bytes k 0)) (h k (omega arith) lt)) (λ lt. absurd (omega arith)) in
+    let n : position_or_len is_newline bytes ≡ length bytes = position_or_len_is is_newline bytes (length bytes) 0 (omega arith) (λ k lt. false_from_ne_true (is_newline (get_or bytes k 0)) (h k (omega arith) lt)) (λ lt. absurd (omega arith)) in
     (sym (ap (λ (b : Bool). cond b (Some (position_or_len is_newline bytes)) None) (le-ltb (position_or_len is_newline bytes) (length bytes) (omega (arith, n)))), tt)
 first_newline bytes (Some at) h =
     let high : at < length bytes = h.0.high in
-    let n : position_or_len is_newline bytes ≡ at = position_or_len_is is_newline bytes at 0 (omega arith) (λ k lt. not_true (is_newline (get_or bytes k 0)) (h.0.before k (omega arith) lt)) (λ lt. h.1) in
+    let n : position_or_len is_newline bytes ≡ at = position_or_len_is is_newline bytes at 0 (omega arith) (λ k lt. false_from_ne_true (is_newline (get_or bytes k 0)) (h.0.before k (omega arith) lt)) (λ lt. h.1) in
     (sym (ap (λ (b : Bool). cond b (Some (position_or_len is_newline bytes)) None) (lt-ltb (position_or_len is_newline bytes) (length bytes) (omega (arith, n, high))) ∙ ap (λ (k : ℕ). Some k) n), high)
 
 -- ---- in two parts
@@ -108,3 +105,7 @@ newline_other bytes n at known within none is found =
 pub newline_none : (bytes : List ℕ) (n : ℕ) (known : Option ℕ) → is_some known ≡ false → known ≡ position is_newline (take n bytes) → None ≡ position is_newline (take (length bytes - n) (drop n bytes)) → None ≡ position is_newline bytes
 newline_none bytes n known none is lacks =
     newline_lacks (take n bytes) (drop n bytes) (none_known known none ∙ is) (lacks ∙ ap (position is_newline) (end_is n bytes)) ∙ ap (position is_newline) (take-append-drop n bytes)
+
+-- bytes that have none don't end in one
+pub no_last : (xs : List ℕ) → None ≡ position is_newline xs → 0 < length xs → has_newline xs ≡ false
+no_last xs none some = fails_before_first is_newline xs (length xs - 1) 0 (omega (arith, some, none_before xs none, before_is xs))

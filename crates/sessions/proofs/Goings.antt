@@ -84,10 +84,6 @@ module _ {used used' : Type 0} (format : Format) (knows : used → used') (seats
   part_known events output p = record { last = p.last; is_last = last_known (calls_of events) p.last p.is_last; begins = p.begins }
 
 pub ends_known : (format : Format) (used used' : Type 0) (config : Config) (input : List ℕ) (ended : Bool) (events : List Event) (output : List ℕ) (e : ServeEnd) → (used → used') → EndsBy format used config input ended events output e → EndsBy format used' config input ended events output e
-ends_known format used used' config input ended events output end.Done knows h = h
-ends_known format used used' config input ended events output (end.Fault line fault) knows h = h
 ends_known format used used' config input ended events output (end.Spent line) knows h = (spent_known format knows config.seats input ended (calls_of events) line h.0, h.1)
-ends_known format used used' config input ended events output (end.Open reason) knows h = h
-ends_known format used used' config input ended events output end.Input knows h = h
 ends_known format used used' config input ended events output end.Output knows h = part_known format knows config.seats input ended events output h
-ends_known format used used' config input ended events output end.Memory knows h = h
+ends_known format used used' config input ended events output _ knows h = h

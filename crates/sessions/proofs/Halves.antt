@@ -1,6 +1,7 @@
 -- A list that was split in two, with one element of each half written.
 use Rattle.std.proofs.Common.{◌≡◌, ℕ, zero, suc, ◌<◌, List, [], ◌∷◌, ◌++◌, length, set, take, drop, refl, sym, ap, ◌∙◌, subst, arith}
 use Rattle.std.proofs.Math.Seq.{take-append_seam}
+use Rattle.std.proofs.lemmas.List.{length-set}
 use mathlib.Core.Option.{some}
 use lib.ListN.{get_elem?, get_or}
 use Rattle.ticket_lock.proofs.ListFacts.{each_read}
@@ -12,29 +13,21 @@ module _ {A : Type 0} where
   half_set (x ∷ xs) (suc h) b there = ap (λ ys. x ∷ ys) (half_set xs h b (omega arith))
 
   halves_set : (xs : List A) (i h : ℕ) (a b : A) → i < h → h < length xs → set (take h xs) i a ++ set (drop h xs) 0 b ≡ set (set xs i a) h b
-  halves_set [] i h a b order there = absurd (omega arith)
-  halves_set (x ∷ xs) i zero a b order there = absurd (omega arith)
   halves_set (x ∷ xs) zero (suc h) a b order there = ap (λ ys. a ∷ ys) (half_set xs h b (omega arith))
   halves_set (x ∷ xs) (suc i) (suc h) a b order there = ap (λ ys. x ∷ ys) (halves_set xs i h a b (omega arith) (omega arith))
-
-  set_length : (xs : List A) (i : ℕ) (a : A) → length (set xs i a) ≡ length xs
-  set_length [] i a = refl
-  set_length (x ∷ xs) zero a = refl
-  set_length (x ∷ xs) (suc i) a = let q = set_length xs i a in omega arith
+  halves_set _ i h a b order there = absurd (omega arith)
 
   -- the whole list, once both halves are back in place
   pub joined : (xs front back rest : List A) (i h n : ℕ) (a b : A) → front ≡ take h xs → back ≡ drop h xs → i < h → h < length xs → n ≡ length xs → take n ((set front i a ++ set back 0 b) ++ rest) ≡ set (set xs i a) h b
   joined xs front back rest i h n a b is_front is_back order there long =
       let whole : set front i a ++ set back 0 b ≡ set (set xs i a) h b = rw (is_front, is_back) (halves_set xs i h a b order there) in
-      let l : length (set (set xs i a) h b) ≡ n = let q = set_length (set xs i a) h b in let r = set_length xs i a in omega arith in
+      let l : length (set (set xs i a) h b) ≡ n = omega (arith, long, length-set (set xs i a) h b, length-set xs i a) in
       ap (λ ys. take n (ys ++ rest)) whole ∙ subst (λ (k : ℕ). take k (set (set xs i a) h b ++ rest) ≡ set (set xs i a) h b) l (take-append_seam (set (set xs i a) h b) rest)
 
   in_front : (xs : List A) (h i : ℕ) (a : A) → i < h → get_elem? (take h xs) i ≡ some a → get_elem? xs i ≡ some a
-  in_front [] zero i a order e = absurd (omega arith)
-  in_front [] (suc h) i a order e = e
-  in_front (x ∷ xs) zero i a order e = absurd (omega arith)
-  in_front (x ∷ xs) (suc h) zero a order e = e
+  in_front xs zero i a order e = absurd (omega arith)
   in_front (x ∷ xs) (suc h) (suc i) a order e = in_front xs h i a (omega arith) e
+  in_front _ (suc h) i a order e = e
 
   in_back : (xs : List A) (h : ℕ) (a : A) → get_elem? (drop h xs) 0 ≡ some a → get_elem? xs h ≡ some a
   in_back xs zero a e = e

@@ -3,6 +3,7 @@ pub mod Blocks
 pub mod Halves
 pub mod Seating
 pub mod Making
+pub mod FirstLines
 pub mod Scripts
 pub mod Goings
 pub mod Steps

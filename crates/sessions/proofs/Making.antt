@@ -26,11 +26,9 @@ use Rattle.sessions.specs.Made.{woven, told, HasMade, HasSpent, IsHistory}
 -- ---- lists
 
 set_else : {A : Type 0} (vs : List A) (me i : ℕ) (w : A) → i ≢ me → get_elem? (set vs me w) i ≡ get_elem? vs i
-set_else [] me i w ne = refl
 set_else (x ∷ xs) zero zero w ne = absurd (ne refl)
-set_else (x ∷ xs) zero (suc i) w ne = refl
-set_else (x ∷ xs) (suc me) zero w ne = refl
 set_else (x ∷ xs) (suc me) (suc i) w ne = set_else xs me i w (λ e. ne (ap suc e))
+set_else _ me i w ne = refl
 
 -- what begins with a list and is no longer is that list
 starts_whole : {A : Type 0} (whole seen : List A) → StartsWith whole seen → length whole ≤ length seen → whole ≡ seen

@@ -172,11 +172,7 @@ pub stop_sought : (r r' r'' : Reads) (w w' w'' : Writes) (run run' : Run) (event
     → IsSought run'.lines r' r'' w' w'' run.output run'.output (Err e) → IsGoing r r' w w' run events → IsStopped r r'' w w'' run' e
 stop_sought r r' r'' w w' w'' run run' events end.Input same same' x s g = stop_input r r' r'' w w' w'' run run' events same same' x s.0 s.2 s.1 s.3 g
 stop_sought r r' r'' w w' w'' run run' events end.Output same same' x s g = stop_output r r' r'' w w' w'' run run' events same same' x s.1 s.0 s.2 g
-stop_sought r r' r'' w w' w'' run run' events end.Done same same' x s g = absurd s
-stop_sought r r' r'' w w' w'' run run' events (end.Fault line fault) same same' x s g = absurd s
-stop_sought r r' r'' w w' w'' run run' events (end.Spent line) same same' x s g = absurd s
-stop_sought r r' r'' w w' w'' run run' events (end.Open reason) same same' x s g = absurd s
-stop_sought r r' r'' w w' w'' run run' events end.Memory same same' x s g = absurd s
+stop_sought r r' r'' w w' w'' run run' events _ same same' x s g = absurd s
 
 -- nothing was read
 pub unread : (l : Lines) (r : Reads) → HasReadOn l l r r

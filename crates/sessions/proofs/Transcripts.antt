@@ -1,14 +1,10 @@
 -- A transcript written event by event.
-use Rattle.std.proofs.Common.{◌≡◌, ◌<◌, ℕ, zero, suc, List, [], ◌∷◌, ◌++◌, drop, length, get_or, refl, sym, ap, ◌∙◌, append-nil, append_assoc, arith}
+use Rattle.std.proofs.Common.{◌≡◌, ◌<◌, ℕ, suc, List, [], ◌∷◌, ◌++◌, drop, length, get_or, refl, sym, ap, ◌∙◌, append-nil, append_assoc}
+use Rattle.std.proofs.Math.Seq.{drop-cons}
 use Rattle.spans.specs.declared.calls.events.Event.{Event}
 use Rattle.word_lines.specs.Events.{event_text}
 use Rattle.script.specs.Transcripts.{events_text}
 use Rattle.sessions.specs.Writing.{HasTaken, HasBegun}
-
-dropped : {A : Type 0} (xs : List A) (at : ℕ) (x : A) → at < length xs → x ≡ get_or xs at x → drop at xs ≡ x ∷ drop (suc at) xs
-dropped [] at x low e = absurd (omega arith)
-dropped (y ∷ xs) zero x low e = ap (λ z. z ∷ xs) (sym e)
-dropped (y ∷ xs) (suc at) x low e = dropped xs at x (omega arith) e
 
 -- nothing was written
 pub nothing_taken : (taken bytes : List ℕ) → HasTaken taken taken bytes bytes
@@ -22,7 +18,7 @@ one_kept whole taken taken' events at next event pending pending' low there is g
       part = h.part;
       took = h.took;
       left = h.left ∙ ap (λ (xs : List ℕ). h.part ++ xs)
-          (ap (λ (es : List Event). pending ++ events_text es) (dropped events at event low there)
+          (ap (λ (es : List Event). pending ++ events_text es) (drop-cons events at event low ∙ ap (λ x. x ∷ drop (suc at) events) (sym there))
           ∙ (sym (append_assoc pending (event_text event) rest)
           ∙ (ap (λ (p : List ℕ). p ++ rest) (sym grown) ∙ ap (λ (n : ℕ). pending' ++ events_text (drop n events)) (sym is))));
     }

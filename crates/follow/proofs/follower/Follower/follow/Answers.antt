@@ -20,15 +20,11 @@ use Rattle.follow.proofs.follower.Follower.follow.Goals as goal
 module _ (o : FollowOptions) (r r' r'' : Reads) (w w' w'' : Writes) (f : Follower) (l : Lines) (kept out : Output) (lines : ℕ) (ms : List Message) (x : HasReadOn f.lines l r' r'') (u : IsGoing o r r' w w' f (pending_of kept) lines ms) where
   -- the next line isn't found
   stop_unfound : (e : ServeEnd) → IsSought l r' r'' w' w'' kept out (Err e) → IsStopped o r r'' w w'' (pending_of out) (end_unfound e)
-  stop_unfound end.Done s = absurd s
-  stop_unfound (end.Fault line fault) s = absurd s
-  stop_unfound (end.Spent line) s = absurd s
-  stop_unfound (end.Open reason) s = absurd s
   stop_unfound end.Input s =
       stop_reported o ms r r'' w w'' (pending_of out) ends.Input (over_input o r r' r'' f l lines ms x u.0 s.0) (reported_on o ms w w' w'' (pending_of kept) (pending_of out) s.1 s.3 u.1) (s.2 ∙ ap (λ (n : ℕ). n + 1) u.0.worked, s.3 ∙ u.1.worked)
   stop_unfound end.Output s =
       stop_unwritten o ms w w' w'' (pending_of kept) (pending_of out) r r'' (pending_of out) s.0 s.2 u.1 (s.1 ∙ u.0.worked) (over_output o r r' r'' f l lines ms x u.0)
-  stop_unfound end.Memory s = absurd s
+  stop_unfound _ s = absurd s
 
 -- all of the input was taken
 stop_done : (o : FollowOptions) (r r' : Reads) (w w' : Writes) (f : Follower) (kept : List ℕ) (lines : ℕ) (ms : List Message) (e : FollowEnd) → waiting f.lines ≡ [] → has_ended f.lines ≡ true → e ≡ end_at f.started → IsGoing o r r' w w' f kept lines ms

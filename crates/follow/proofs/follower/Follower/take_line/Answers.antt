@@ -1,7 +1,7 @@
 use Rattle.std.proofs.Common.{◌++◌, ◌∷◌, ◌+◌, []}
 use Rattle.sessions.specs.Writing.{pending_of}
 use Rattle.follow.proofs.Steps.{go_passed, go_holding, goes_on_still, over_misread}
-use Rattle.follow.proofs.Tellings.{if_ok, if_err}
+use Rattle.std.proofs.lemmas.Result.{IfErr-weaker, on_ok_weaker}
 use Rattle.follow.proofs.follower.Follower.take_line.Goals as goal
 
 pub returns-in-Ok-None-clause-ok : goal.returns-in-Ok-None-clause-ok
@@ -12,13 +12,13 @@ returns-in-Ok-None-clause-ok c = let k = c.read.ensures in λ o r r' lines ms u.
 )
 
 pub returns-in-Ok-Some-clause-ok : goal.returns-in-Ok-Some-clause-ok
-returns-in-Ok-Some-clause-ok c = let k = c.read.ensures in let m = c.in-Ok-Some.message in if_ok c.take.result (λ takes. λ o r r' lines ms u.
+returns-in-Ok-Some-clause-ok c = let k = c.read.ensures in let m = c.in-Ok-Some.message in on_ok_weaker c.take.result (λ takes. λ o r r' lines ms u.
     let t = takes o r r' (lines + 1) ms
     (go_holding o r r' c.args.self.now c.read.new.self lines c.args.count ms c.requires.within c.requires.line u m k.format k.complete k.replica k.telling k.started (rw c.in-Ok-Some.field-0-is at c.in-Ok-Some.ensures.ok)) in
     (ms ++ m ∷ [], t.0, t.1)) c.take.ensures.ok
 
 pub returns-in-Ok-Some-clause-err : goal.returns-in-Ok-Some-clause-err
-returns-in-Ok-Some-clause-err c = let k = c.read.ensures in let m = c.in-Ok-Some.message in if_err _ _ c.take.result (λ e stops. λ o r r' lines ms u.
+returns-in-Ok-Some-clause-err c = let k = c.read.ensures in let m = c.in-Ok-Some.message in IfErr-weaker c.take.result _ _ (λ e stops. λ o r r' lines ms u.
     stops o r r' (lines + 1) ms
     (go_holding o r r' c.args.self.now c.read.new.self lines c.args.count ms c.requires.within c.requires.line u m k.format k.complete k.replica k.telling k.started (rw c.in-Ok-Some.field-0-is at c.in-Ok-Some.ensures.ok))) c.take.ensures.err
 

@@ -1,7 +1,8 @@
 use Rattle.replica.specs.Replicas.{view_in}
-use Rattle.follow.proofs.Tellings.{if_ok, shows_listed}
+use Rattle.std.proofs.lemmas.Result.{on_ok_weaker}
+use Rattle.follow.proofs.Tellings.{shows_listed}
 use Rattle.follow.proofs.telling.Telling.show.Goals as goal
 
 pub returns-in-Rows : goal.returns-in-Rows
 returns-in-Rows c =
-    if_ok c.put_rows.result (λ added. shows_listed c.args.self.now (view_in c.args.replica.now) c.rows.result c.args.report.now.items c.put_rows.new.out.items c.in-Rows.is c.rows.ensures added) c.put_rows.ensures
+    on_ok_weaker c.put_rows.result (λ added. shows_listed c.args.self.now (view_in c.args.replica.now) c.rows.result c.args.report.now.items c.put_rows.new.out.items c.in-Rows.is c.rows.ensures added) c.put_rows.ensures
