@@ -16,8 +16,4 @@ unwritten answers r r' w w' text e out run.Output read whole reads right h =
 unwritten answers r r' w w' text e out run.Memory read whole reads right h =
     let begun : HasBegunAnswer answers r r' w w' = record { text = text; read = read; whole = whole; end = e; out = out; right = right; begun = h.0 } in
     record { answered = inr (inr (inr (refl, inr begun))); failed = (reads, h.1) }
-unwritten answers r r' w w' text e out run.Done read whole reads right h = absurd h
-unwritten answers r r' w w' text e out (run.Fault line fault) read whole reads right h = absurd h
-unwritten answers r r' w w' text e out (run.Spent line) read whole reads right h = absurd h
-unwritten answers r r' w w' text e out (run.Open reason) read whole reads right h = absurd h
-unwritten answers r r' w w' text e out run.Input read whole reads right h = absurd h
+unwritten answers r r' w w' text e out _ read whole reads right h = absurd h

@@ -1,7 +1,6 @@
 -- How a dump is written: by what a checker has taken, or as a check says that there is none.
-use Rattle.std.proofs.Common.{◌≡◌, ℕ, List, [], ◌∷◌, ◌++◌, None, false, refl, ◌∙◌, ap}
+use Rattle.std.proofs.Common.{◌≡◌, ℕ, List, [], ◌∷◌, ◌++◌, None, false, ◌∙◌, ap}
 use Rattle.std.specs.Prelude.{reverse}
-use Rattle.spans.specs.declared.calls.commands.Cmd.{Cmd}
 use Rattle.spans.specs.declared.calls.commands.Cmd.TheVariants.{Close, Collect}
 use Rattle.spans.specs.Effects.{Effect, effects_of}
 use Rattle.restarts.specs.Dump.{mark_of}
@@ -22,14 +21,7 @@ use Rattle.jobs.specs.Verdicts.{IsVerdict, is_right}
 pub refused_dump : (at : ℕ) (text : List ℕ) (end : End) (out : List ℕ) → IsVerdict text end out → is_right end ≡ false → IsDumped at text end out
 refused_dump at text ends.Done out said wrong = absurd said
 refused_dump at text (ends.Right count) out said wrong = cc
-refused_dump at text (ends.Faulty line fault) out said wrong = said
-refused_dump at text (ends.No position) out said wrong = said
-refused_dump at text ends.Spent out said wrong = said
-refused_dump at text (ends.Open reason) out said wrong = said
-refused_dump at text ends.Input out said wrong = said
-refused_dump at text ends.Output out said wrong = said
-refused_dump at text ends.Memory out said wrong = said
-refused_dump at text ends.Thread out said wrong = said
+refused_dump at text _ out said wrong = said
 
 -- what a dump writes are its commands
 commands_are : (p : List Effect) (m : ℕ) (d : Dump) → IsDump p m d → row_commands None d.rows.items ++ Close d.to ∷ Collect d.horizon ∷ [] ≡ commands_by_row p m

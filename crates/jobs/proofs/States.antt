@@ -1,5 +1,5 @@
 -- How a state is told: by the report of what a checker has taken, or as a check says that there is none.
-use Rattle.std.proofs.Common.{◌≡◌, ℕ, List, false, refl, arith}
+use Rattle.std.proofs.Common.{◌≡◌, ℕ, List, false, arith}
 use Rattle.spans.specs.declared.report.Report.{Report}
 use Rattle.trace_check.specs.declared.checker.Checker.{Checker}
 use Rattle.trace_check.specs.Checkers.{Reports}
@@ -15,14 +15,7 @@ use Rattle.jobs.specs.States.{is_whole, IsState}
 pub refused_state : (detail : Detail) (text : List ℕ) (end : End) (out : List ℕ) → IsVerdict text end out → is_right end ≡ false → IsState detail text end out
 refused_state detail text ends.Done out said wrong = absurd said
 refused_state detail text (ends.Right count) out said wrong = cc
-refused_state detail text (ends.Faulty line fault) out said wrong = said
-refused_state detail text (ends.No position) out said wrong = said
-refused_state detail text ends.Spent out said wrong = said
-refused_state detail text (ends.Open reason) out said wrong = said
-refused_state detail text ends.Input out said wrong = said
-refused_state detail text ends.Output out said wrong = said
-refused_state detail text ends.Memory out said wrong = said
-refused_state detail text ends.Thread out said wrong = said
+refused_state detail text _ out said wrong = said
 
 -- the report of a checker that has taken all events of a text is the text's state
 pub reported_state : (detail : Detail) (text : List ℕ) (checker : Checker) (r : Report) (out : List ℕ) → HasTakenText text checker → Reports checker (is_whole detail) r

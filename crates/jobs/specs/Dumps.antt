@@ -23,6 +23,5 @@ dump_text d = lines_of (row_commands None d.rows.items ++ Close d.to ∷ Collect
 abbrev pub IsDumped : ℕ → List ℕ → End → List ℕ → Type 0
 IsDumped at text ends.Done out = (events : List Event) × (transcript_at (format_of text) text ≡ Ok events) × IsTrace events
     × (out ≡ lines_of (dump_commands (effects_of (reverse events)) (mark_of (effects_of (reverse events)) at)))
-IsDumped at text (ends.No position) out = IsVerdict text (ends.No position) out
-IsDumped at text (ends.Faulty line fault) out = IsVerdict text (ends.Faulty line fault) out
-IsDumped at text _ out = ⊥
+IsDumped at text (ends.Right count) out = ⊥
+IsDumped at text end out = IsVerdict text end out

@@ -27,6 +27,5 @@ IsStateOf detail events out =
 -- how the state of a text's events is told: the report where they are a trace, and else what a check says
 abbrev pub IsState : Detail → List ℕ → End → List ℕ → Type 0
 IsState detail text ends.Done out = (events : List Event) × (transcript_at (format_of text) text ≡ Ok events) × IsTrace events × IsStateOf detail events out
-IsState detail text (ends.No position) out = IsVerdict text (ends.No position) out
-IsState detail text (ends.Faulty line fault) out = IsVerdict text (ends.Faulty line fault) out
-IsState detail text _ out = ⊥
+IsState detail text (ends.Right count) out = ⊥
+IsState detail text end out = IsVerdict text end out
