@@ -51,17 +51,7 @@ refusal_few (BelowClosed n) is = omega (arith, number_length n is)
 refusal_few (Blocked n) is = omega (arith, number_length n is)
 refusal_few (NotClosed n) is = omega (arith, number_length n is)
 refusal_few (BelowHorizon n) is = omega (arith, number_length n is)
-refusal_few TsUsed is = omega arith
-refusal_few TsRange is = omega arith
-refusal_few NoTxn is = omega arith
-refusal_few NotOwner is = omega arith
-refusal_few Ended is = omega arith
-refusal_few TooLate is = omega arith
-refusal_few NoProtection is = omega arith
-refusal_few NoFeed is = omega arith
-refusal_few FeedCancelled is = omega arith
-refusal_few NoMemory is = omega arith
-refusal_few GapRange is = omega arith
+refusal_few _ is = omega arith
 
 -- the effects of a history so far: of one that is legal, that a number counts, and whose commands keep the limits
 pub record IsSoFar (format : Format) (p : List Effect) : Type 0 where
@@ -120,14 +110,6 @@ module _ (format : Format) where
   unfolding reply_words
   found_few None is = omega arith
   found_few (Some v) is = omega (arith, bytes_few v (value_limit format) is.1 is.0)
-
-  got_suits : (t : ℕ) (x : List ℕ) (a : After) → IsAfter format a → Suits (Get t x) (Found a)
-  unfolding IsReply
-  got_suits t x a is = (is, found_few a is)
-
-  read_suits : (t : ℕ) (x : List ℕ) (a : After) → IsAfter format a → Suits (ReadAt t x) (Found a)
-  unfolding IsReply
-  read_suits t x a is = (is, found_few a is)
 
   counted_suits : (a b c d e : ℕ) → IsNumber a → IsNumber b → IsNumber c → IsNumber d → IsNumber e → Suits Stats (replies.Stats a b c d e)
   unfolding IsReply reply_words
@@ -189,7 +171,7 @@ module _ (format : Format) where
     answer_suits seat (Begin t) is = unless_is (Suits (Begin t)) ((not (is_timestamp t), TsRange) ∷ (nat_le t (closed_of p), BelowClosed (closed_of p)) ∷ (is_some (owner_of p t), TsUsed) ∷ []) Started
         (λ _. refused_suits (Begin t) TsRange tt, λ _. (λ _. refused_suits (Begin t) (BelowClosed (closed_of p)) closed_number, λ _. (λ _. refused_suits (Begin t) TsUsed tt, λ _. (tt, omega arith))))
     answer_suits seat (Get t x) is = past_txn (Get t x) p seat t ((is_blocked p x t, Blocked (visible p x t).ts) ∷ []) (Found (visible p x t).after)
-        (λ _. refused_suits (Get t x) (Blocked (visible p x t).ts) (blocked_number x t is.0), λ _. got_suits t x (visible p x t).after (visible_keeps format p so.keeps x t))
+        (λ _. refused_suits (Get t x) (Blocked (visible p x t).ts) (blocked_number x t is.0), λ _. (visible_keeps format p so.keeps x t, found_few (visible p x t).after (visible_keeps format p so.keeps x t)))
     answer_suits seat (Scan t span) is =
         let reply : Reply = Rows (pairs_of (λ x. (visible p x t).after) (filter (in_span span) (written_keys p))) in
         past_txn (Scan t span) p seat t (map (λ x. (is_blocked p x t, Blocked (visible p x t).ts)) (filter (in_span span) (written_keys p))) reply
@@ -203,7 +185,7 @@ module _ (format : Format) where
         (λ _. refused_suits (Close to) TsRange tt, λ _. closed_suits (Close to) (max (closed_of p) (decided_through p to)) 0 (omega (arith, so.closed, least_low to (map (λ t. t - 1) (undecided_timestamps p)))) (omega arith))
     answer_suits seat (CloseHard to) is = unless_is (Suits (CloseHard to)) ((nat_lt MAX to, TsRange) ∷ []) (Closed (max (closed_of p) to) (length (filter (λ t. nat_le t to) (undecided_timestamps p))))
         (λ _. refused_suits (CloseHard to) TsRange tt, λ _. closed_suits (CloseHard to) (max (closed_of p) to) (length (filter (λ t. nat_le t to) (undecided_timestamps p))) (omega (arith, so.closed)) (omega (arith, filter_few (λ t. nat_le t to) (undecided_timestamps p), undecided_few p, so.few)))
-    answer_suits seat (ReadAt t x) is = past_snapshot (ReadAt t x) t (Found (committed_value p x t)) (read_suits t x (committed_value p x t) (committed_keeps format p so.keeps x t))
+    answer_suits seat (ReadAt t x) is = past_snapshot (ReadAt t x) t (Found (committed_value p x t)) (committed_keeps format p so.keeps x t, found_few (committed_value p x t) (committed_keeps format p so.keeps x t))
     answer_suits seat (ScanAt t span) is = past_snapshot (ScanAt t span) t (Rows (pairs_of (λ x. committed_value p x t) (filter (in_span span) (written_keys p))))
         (span_rows (ScanAt t span) (λ x. committed_value p x t) span (λ x. committed_keeps format p so.keeps x t))
     answer_suits seat (Protect t) is = unless_is (Suits (Protect t)) (horizon_tests p t) (Protected (suc (protections_made p)))

@@ -4,16 +4,16 @@ use Rattle.std.specs.Prelude.{is_none}
 use Rattle.std.specs.List.{AllByRecursion, flat_map}
 use Rattle.std.proofs.lemmas.Grind.{flat_map-append}
 use Rattle.std.proofs.lemmas.List.{append-nil, reverse-append, reverse-reverse}
-use Rattle.std.proofs.lemmas.List.Elements.{recursion_from_All}
+use Rattle.std.proofs.lemmas.List.Elements.{All-append, All-from_recursion, recursion_from_All}
 use Rattle.text_format.specs.declared.Format.{Format}
 use Rattle.spans.specs.declared.calls.commands.Cmd.{Cmd}
-use Rattle.spans.specs.declared.calls.commands.Cmd.TheVariants.{Begin, Get, Scan, Put, Del, Commit, Abort, Close, CloseHard, Protect, Release, Collect, Open, OpenInitial, OpenEvery, OpenInitialEvery, Poll, Cancel, Stats, ReadAt, ScanAt}
+use Rattle.spans.specs.declared.calls.commands.Cmd.TheVariants.{Poll}
 use Rattle.spans.specs.declared.calls.events.Event.{Event}
 use Rattle.spans.specs.declared.calls.messages.Message.{Message}
 use Rattle.spans.specs.declared.span.Span.{Span}
 use Rattle.spans.specs.declared.calls.replies.Refusal.TheVariants.{TooLate}
 use Rattle.spans.specs.declared.calls.replies.Reply.{Reply}
-use Rattle.spans.specs.declared.calls.replies.Reply.TheVariants.{Started, Found, Rows, Written, Committed, Aborted, Closed, Protected, Released, Collected, Opened, Messages, Cancelled, Refused}
+use Rattle.spans.specs.declared.calls.replies.Reply.TheVariants.{Messages, Refused}
 use Rattle.spans.specs.Consumer.{AllTaken, ConsumerIsRight}
 use Rattle.spans.specs.Effects.{Effect, effect, effects_of}
 use Rattle.spans.specs.Feeds.{Feed, feed_of, told_to}
@@ -38,35 +38,10 @@ use Rattle.pipes.proofs.Texts.{events_are, lines_keep}
 -- ---- what events told a feed
 
 module _ (n : ℕ) where
-  told_none : (r : Reply) → told_where false r ≡ []
-  told_none (Messages ms) = refl
-  told_none (_) = refl
-
   -- one effect tells the feed what its reply has, where its command polls the feed
   tells_more : (seat : ℕ) (c : Cmd) (r : Reply) (p : List Effect) → told_to (effect seat c r ∷ p) n ≡ told_to p n ++ told_where (is_feed n (polled_of c)) r
   tells_more seat (Poll f max) (Messages ms) p = by_test (f == n) (λ is. rw is refl) (λ isnt. rw isnt (sym (append-nil (told_to p n))))
-  tells_more seat (Put t x v) Written p = sym (append-nil (told_to p n))
-  tells_more seat (Put t x v) (Refused TooLate) p = sym (append-nil (told_to p n))
-  tells_more seat (Del t x) Written p = sym (append-nil (told_to p n))
-  tells_more seat (Del t x) (Refused TooLate) p = sym (append-nil (told_to p n))
-  tells_more seat (Begin t) Started p = sym (append-nil (told_to p n))
-  tells_more seat (Get t x) (Found v) p = sym (append-nil (told_to p n))
-  tells_more seat (Scan t span) (Rows rows) p = sym (append-nil (told_to p n))
-  tells_more seat (Commit t) (Committed keys) p = sym (append-nil (told_to p n))
-  tells_more seat (Abort t) Aborted p = sym (append-nil (told_to p n))
-  tells_more seat (Close to) (Closed at aborted) p = sym (append-nil (told_to p n))
-  tells_more seat (CloseHard to) (Closed at aborted) p = sym (append-nil (told_to p n))
-  tells_more seat (ReadAt t x) (Found v) p = sym (append-nil (told_to p n))
-  tells_more seat (ScanAt t span) (Rows rows) p = sym (append-nil (told_to p n))
-  tells_more seat (Protect t) (Protected id) p = sym (append-nil (told_to p n))
-  tells_more seat (Release id) Released p = sym (append-nil (told_to p n))
-  tells_more seat (Collect to) (Collected horizon removed) p = sym (append-nil (told_to p n))
-  tells_more seat (Open span cursor) (Opened f) p = sym (append-nil (told_to p n))
-  tells_more seat (OpenInitial span cursor) (Opened f) p = sym (append-nil (told_to p n))
-  tells_more seat (OpenEvery span cursor gap) (Opened f) p = sym (append-nil (told_to p n))
-  tells_more seat (OpenInitialEvery span cursor gap) (Opened f) p = sym (append-nil (told_to p n))
-  tells_more seat (Cancel f) Cancelled p = sym (append-nil (told_to p n))
-  tells_more seat Stats r p = sym (append-nil (told_to p n)) ∙ ap (λ (ms : List Message). told_to p n ++ ms) (sym (told_none r))
+  tells_more seat c (Refused TooLate) p = sym (append-nil (told_to p n))
   tells_more seat c r p = sym (append-nil (told_to p n))
 
   -- what the events of a list told, one after the other
@@ -86,8 +61,7 @@ module _ (n : ℕ) where
 -- ---- each of these messages has a line
 
 both_are : {A : Type 0} (P : A → Type 0) (xs ys : List A) → AllByRecursion P xs → AllByRecursion P ys → AllByRecursion P (xs ++ ys)
-both_are P [] ys all more = more
-both_are P (x ∷ xs) ys all more = (all.0, both_are P xs ys all.1 more)
+both_are P xs ys all more = recursion_from_All P (xs ++ ys) (All-append P xs ys (All-from_recursion P xs all) (All-from_recursion P ys more))
 
 module _ (format : Format) where
   reply_told : (taking : Bool) (r : Reply) → IsReply format r → AllByRecursion (IsMessage format) (told_where taking r)

@@ -12,7 +12,7 @@ use Rattle.text_format.specs.declared.Format.TheVariants.{One, Two}
 use Rattle.text_format.specs.Limits.{header}
 use Rattle.spans.specs.declared.calls.commands.Cmd.{Cmd}
 use Rattle.spans.specs.declared.calls.events.Event.{Event}
-use Rattle.spans.specs.Legal.{IsGapless, IsLegal}
+use Rattle.spans.specs.Legal.{IsLegal}
 use Rattle.spans.specs.Members.{Has}
 use Rattle.spans.proofs.Histories.{turned_more}
 use Rattle.spans.proofs.ReportLimit.{All-reverse}
@@ -35,6 +35,7 @@ use Rattle.sessions.specs.declared.ending.ServeEnd.{ServeEnd}
 use Rattle.sessions.specs.declared.ending.ServeEnd.TheVariants as run
 use Rattle.races.specs.Calls.{IsRaceOf, commands_by}
 use Rattle.races.specs.Playing.{commands_of}
+use Rattle.trace_check.proofs.TraceSteps.{gapless_begins}
 use Rattle.jobs.specs.Races.{IsRaced}
 use Rattle.embedded.specs.Embedded.{StandsFor}
 use Rattle.embedded.specs.declared.database.Database.{Database}
@@ -75,11 +76,6 @@ module _ (format : Format) (seats : ℕ) where
   calls_keep (e ∷ es) few are = ((omega (arith, are.0.0), are.0.1), calls_keep es few are.1)
 
 -- ---- runs
-
--- what begins a list without a gap has none
-gapless_begins : (n : ℕ) (es more : List Event) → IsGapless n (es ++ more) → IsGapless n es
-gapless_begins n [] more gapless = tt
-gapless_begins n (x ∷ xs) more gapless = (gapless.0, gapless_begins (suc n) xs more gapless.1)
 
 -- a history without its last event
 without_last : (format : Format) (first : ℕ) (before : List Event) (e : Event) → IsWritable format first (before ++ e ∷ []) → IsWritable format first before

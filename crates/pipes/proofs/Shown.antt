@@ -37,8 +37,7 @@ module _ (o : FollowOptions) where
 
       shown : (a b : Bool) (k : ℕ) → cond (a && b) (Some k) None ≡ Some t → (b ≡ true) × (k ≡ t)
       shown true true k e = (refl, cc)
-      shown true false k e = absurd cc
-      shown false b k e = absurd cc
+      shown _ _ k e = absurd cc
 
       by_message : (m : Message) → ready_after o.span (start_of o.span o.start).start (start_of o.span o.start).cursor before m ≡ Some t
           → (row : Row) × (m ≡ messages.Row row) × (is_new (start_of o.span o.start).cursor before row.ts ≡ true) × (row.ts - 1 ≡ t)

@@ -11,8 +11,8 @@ use Rattle.spans.proofs.ReportLimit.{All-reverse}
 use Rattle.script.specs.Transcripts.{transcript_at, transcript_text}
 use Rattle.script.proofs.EventsAgain.{transcript_again}
 use Rattle.script.proofs.Headers.{format_again}
-use Rattle.trace_check.specs.Traces.{IsFirstWrong, IsTrace, position_of_first}
-use Rattle.trace_check.proofs.TraceSteps.{wrong_is_no_trace}
+use Rattle.trace_check.specs.Traces.{IsFirstWrong, IsTrace}
+use Rattle.trace_check.proofs.TraceSteps.{gapless_from_first, wrong_is_no_trace}
 use Rattle.word_lines.specs.Limits.{IsEvent, KeepsLimit}
 use Rattle.jobs.specs.declared.ending.End.TheVariants as ends
 use Rattle.pipes.specs.Texts.{IsWritable, KeepsFormat, SaysYes}
@@ -75,11 +75,6 @@ trace_says text es read trace (ends.No position) out verdict =
     absurd (wrong_is_no_trace es position (subst (λ (xs : List Event). IsFirstWrong xs position) same verdict.2) trace)
 trace_says text es read trace (ends.Faulty line fault) out verdict = absurd (no_fault (transcript_at (format_of text) text) es (record { line = line; fault = fault }) read verdict.0)
 trace_says text es read trace _ out verdict = absurd verdict
-
--- a list without a gap has it from its first position on
-gapless_from_first : (n : ℕ) (es : List Event) → IsGapless n es → IsGapless (position_of_first es) es
-gapless_from_first n [] gapless = tt
-gapless_from_first n (e ∷ es) gapless = subst (λ k. IsGapless k (e ∷ es)) (sym gapless.0) gapless
 
 pub writable_says : (format : Format) (first : ℕ) (es : List Event) → IsWritable format first es → SaysYes (transcript_text format es)
 writable_says format first es w = trace_says (transcript_text format es) es (read_again format first es w) (record { legal = w.history.legal; gapless = gapless_from_first first es w.history.gapless })

@@ -6,11 +6,11 @@ use Rattle.std.proofs.lemmas.Bool.{and_parts}
 use Rattle.text_format.specs.declared.Format.{Format}
 use Rattle.json_lines.specs.Messages.{IsAfter, IsKey}
 use Rattle.spans.specs.declared.calls.commands.Cmd.{Cmd}
-use Rattle.spans.specs.declared.calls.commands.Cmd.TheVariants.{Begin, Get, Scan, Put, Del, Commit, Abort, Close, CloseHard, Protect, Release, Collect, Open, OpenInitial, OpenEvery, OpenInitialEvery, Poll, Cancel, ReadAt, ScanAt}
+use Rattle.spans.specs.declared.calls.commands.Cmd.TheVariants.{Put, Del}
 use Rattle.spans.specs.declared.calls.events.Event.{Event}
 use Rattle.spans.specs.declared.calls.replies.Refusal.TheVariants.{TooLate}
 use Rattle.spans.specs.declared.calls.replies.Reply.{Reply}
-use Rattle.spans.specs.declared.calls.replies.Reply.TheVariants.{Started, Found, Rows, Written, Committed, Aborted, Closed, Protected, Released, Collected, Opened, Messages, Cancelled, Refused}
+use Rattle.spans.specs.declared.calls.replies.Reply.TheVariants.{Written, Refused}
 use Rattle.spans.specs.Effects.{After, Effect, Writes, effect, effects_of}
 use Rattle.spans.specs.Keys.{pairs_of, with_value}
 use Rattle.spans.specs.Newest.{newest}
@@ -31,27 +31,8 @@ module _ (format : Format) where
   effect_keeps : (seat : ℕ) (c : Cmd) (r : Reply) → IsCommand format c → KeepsWrite (effect seat c r)
   unfolding IsCommand
   effect_keeps seat (Put t x v) Written is = (is.1, is.2)
-  effect_keeps seat (Put t x v) (Refused TooLate) is = tt
   effect_keeps seat (Del t x) Written is = (is.1, tt)
-  effect_keeps seat (Del t x) (Refused TooLate) is = tt
-  effect_keeps seat (Begin t) Started is = tt
-  effect_keeps seat (Get t x) (Found v) is = tt
-  effect_keeps seat (Scan t span) (Rows rows) is = tt
-  effect_keeps seat (Commit t) (Committed keys) is = tt
-  effect_keeps seat (Abort t) Aborted is = tt
-  effect_keeps seat (Close to) (Closed at aborted) is = tt
-  effect_keeps seat (CloseHard to) (Closed at aborted) is = tt
-  effect_keeps seat (ReadAt t x) (Found v) is = tt
-  effect_keeps seat (ScanAt t span) (Rows rows) is = tt
-  effect_keeps seat (Protect t) (Protected id) is = tt
-  effect_keeps seat (Release id) Released is = tt
-  effect_keeps seat (Collect to) (Collected horizon removed) is = tt
-  effect_keeps seat (Open span cursor) (Opened f) is = tt
-  effect_keeps seat (OpenInitial span cursor) (Opened f) is = tt
-  effect_keeps seat (OpenEvery span cursor gap) (Opened f) is = tt
-  effect_keeps seat (OpenInitialEvery span cursor gap) (Opened f) is = tt
-  effect_keeps seat (Poll f max) (Messages ms) is = tt
-  effect_keeps seat (Cancel f) Cancelled is = tt
+  effect_keeps seat c (Refused TooLate) is = tt
   effect_keeps seat c r is = tt
 
   -- all writes of a history do whose commands keep them
