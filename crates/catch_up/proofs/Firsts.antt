@@ -1,13 +1,11 @@
 -- The values of a span at a timestamp, gathered key by key.
-use Rattle.std.proofs.Common.{append_assoc, Bool, Bor, List, None, Option, Some, [], ap, arith, false, inl, inr, length, refl, subst, sym, true, ◌&&◌, ℕ, ◌+◌, ◌<◌, ◌≤◌, ◌≡◌, ◌++◌, ◌∷◌, ◌∙◌}
+use Rattle.std.proofs.lemmas.Grind.{common_steps}
+use Rattle.std.proofs.Common.{append_assoc, Bool, Bor, List, None, Option, Some, [], ap, arith, false, length, refl, subst, sym, true, ◌&&◌, ℕ, ◌+◌, ◌<◌, ◌≤◌, ◌≡◌, ◌++◌, ◌∷◌, ◌∙◌}
 use Rattle.std.specs.Prelude.{MatchOption, IfSome, filter, is_some}
 use Rattle.std.specs.Option.{option_copied}
 use Rattle.std.specs.Map.{keys_of}
-use Rattle.std.specs.Ordering.{is_lt}
-use Rattle.std.specs.declared.cmp.Ordering.TheVariants.{Less}
-use Rattle.std.proofs.lemmas.Bool.{and_from, and_parts, both_ways, eq-eqb, or_right}
+use Rattle.std.proofs.lemmas.Bool.{both_ways}
 use Rattle.std.proofs.lemmas.List.{length-append}
-use Rattle.timestamps.specs.Bytes.{key_cmp}
 use Rattle.timestamps.specs.declared.row.Row.{Row}
 use Rattle.spans.specs.Effects.{After}
 use Rattle.spans.specs.Keys.{in_span}
@@ -15,12 +13,12 @@ use Rattle.spans.specs.Newest.{newest}
 use Rattle.spans.specs.declared.span.Span.{Span}
 use Rattle.spans.proofs.Keyed.{IsIn, RisingKeys}
 use Rattle.spans.proofs.Steps.{by_test, newest_only}
-use Rattle.spans.proofs.StreamOrder.{IsRowIn, RisingRows, in_append, rises_append}
+use Rattle.spans.proofs.StreamOrder.{IsRowIn, RisingRows, rises_append}
 use Rattle.spans.proofs.WriteSets.{has, has_in}
 use Rattle.version_chain.specs.declared.chain.Version.{Version}
 use Rattle.version_chain.specs.Chains.{Entry, chain_of, has_versions}
-use Rattle.version_chain.specs.Stores.{Stored, after_of, version_in}
-use Rattle.version_chain.specs.Versions.{IsNewestOf, IsNoneUpTo, version_of}
+use Rattle.version_chain.specs.Stores.{Stored, version_in}
+use Rattle.version_chain.specs.Versions.{IsNewestOf, IsNoneUpTo}
 use Rattle.version_chain.proofs.InSpans.{chain_among, chain_nowhere, rises_filtered}
 use Rattle.catch_up.specs.Firsts.{AreFirstsIn, IsFirstIn, is_past, one_at, one_in, value_in}
 
@@ -46,45 +44,19 @@ record IsOne (t : ℕ) (x : List ℕ) (a : After) (r : Row) : Type 0 where
   found : a ≡ r.after
   value : is_some r.after ≡ true
 
-one_only : (t : ℕ) (x : List ℕ) (a : After) (r : Row) → IsRowIn r (one_at t x a) → IsOne t x a r
-one_only t x None r i = absurd i
-one_only t x (Some v) r i = elim i [
-  | inl here ↦ subst (IsOne t x (Some v)) here (record { at = refl; key = refl; found = refl; value = refl })
-  | inr there ↦ absurd there
-]
-
 first_only : (span : Span) (t : ℕ) (x : List ℕ) (a : After) (r : Row) → IsRowIn r (one_in span t x a) → IsOne t x a r × (in_span span x ≡ true)
-first_only span t x a r i = by_test (in_span span x)
-    (λ inside. let j : IsRowIn r (one_at t x a) = rw inside at i in (one_only t x a r j, inside))
-    (λ outside. let j : IsRowIn r [] = rw outside at i in absurd j)
+first_only span t x a r i = grind (arith, common_steps)
 
 firsts_only : (s : Stored) (span : Span) (t : ℕ) (xs : List (List ℕ)) (r : Row) → IsRowIn r (firsts_at s span t xs) → IsIn r.key xs × IsGiven s span t r
 firsts_only s span t [] r i = absurd i
-firsts_only s span t (x ∷ xs) r i = elim ((in_append r (one_in span t x (found_at s t x)) (firsts_at s span t xs)).0 i) [
-  | inl here ↦ (let o = first_only span t x (found_at s t x) r here in (
-    inl o.0.key,
-    record {
-      at = o.0.at;
-      found = ap (found_at s t) (sym o.0.key) ∙ o.0.found;
-      value = o.0.value;
-      inside = ap (in_span span) (sym o.0.key) ∙ o.1;
-    },
-  ))
-  | inr there ↦ (let m = firsts_only s span t xs r there in (inr m.0, m.1))
-]
+firsts_only s span t (x ∷ xs) r i = grind (arith, common_steps, firsts_only s span t xs r)
 
 abbrev row_at : ℕ → List ℕ → List ℕ → Row
 row_at t x v = record { ts = t; key = x; after = Some v }
 
-one_has : (s : Stored) (span : Span) (t : ℕ) (x v : List ℕ) → in_span span x ≡ true → found_at s t x ≡ Some v → IsRowIn (row_at t x v) (one_in span t x (found_at s t x))
-one_has s span t x v inside found = subst (λ a. IsRowIn (row_at t x v) (one_in span t x a)) (sym found) (rw inside (inl refl))
-
 firsts_has : (s : Stored) (span : Span) (t : ℕ) (xs : List (List ℕ)) (x v : List ℕ) → IsIn x xs → in_span span x ≡ true → found_at s t x ≡ Some v → IsRowIn (row_at t x v) (firsts_at s span t xs)
 firsts_has s span t [] x v i inside found = absurd i
-firsts_has s span t (y ∷ ys) x v i inside found = (in_append (row_at t x v) (one_in span t y (found_at s t y)) (firsts_at s span t ys)).1 (elim i [
-  | inl here ↦ inl (subst (λ z. IsRowIn (row_at t x v) (one_in span t z (found_at s t z))) (sym here) (one_has s span t x v inside found))
-  | inr there ↦ inr (firsts_has s span t ys x v there inside found)
-])
+firsts_has s span t (y ∷ ys) x v i inside found = grind (arith, common_steps, firsts_has s span t ys x v)
 
 one_rises : (span : Span) (t : ℕ) (x : List ℕ) (a : After) → RisingRows (one_in span t x a)
 one_rises span t x a = by_test (in_span span x) (λ inside. rw inside (at_rises a)) (λ outside. rw outside tt)
@@ -99,26 +71,16 @@ firsts_rise s span t (x ∷ xs) rising = rises_append (one_in span t x (found_at
     (λ r q i j.
     let a = (first_only span t x (found_at s t x) r i).0 in
     let b = firsts_only s span t xs q j in
-    let less : key_cmp r.key q.key ≡ Less = subst (λ z. key_cmp z q.key ≡ Less) a.key (rising.0 q.key b.0) in
-    or_right _ _ (and_from _ _ (eq-eqb r.ts q.ts (a.at ∙ sym b.1.at)) (ap is_lt less)))
+    grind (arith, common_steps))
 
 -- of entries that pass, each passes
 pub passed_in : (p : List ℕ → Bool) (x : List ℕ) (es : List Entry) → IsIn x (keys_of (filter (λ (e : Entry). p e.0 && has_versions e.1) es)) → p x ≡ true
 passed_in p x [] i = absurd i
-passed_in p x (e ∷ es) i = by_test (p e.0 && has_versions e.1)
-    (λ on. let j : IsIn x (e.0 ∷ keys_of (filter (λ (d : Entry). p d.0 && has_versions d.1) es)) = rw on at i in elim j [
-      | inl here ↦ subst (λ z. p z ≡ true) here (and_parts _ _ on).0
-      | inr there ↦ passed_in p x es there
-    ])
-    (λ off. let j : IsIn x (keys_of (filter (λ (d : Entry). p d.0 && has_versions d.1) es)) = rw off at i in passed_in p x es j)
+passed_in p x (e ∷ es) i = grind (arith, common_steps, passed_in p x es)
 
 -- a key without versions has no value
 nothing_at : (s : Stored) (t : ℕ) (x : List ℕ) → chain_of s x ≡ [] → found_at s t x ≡ None
-nothing_at s t x none = ap (λ v. v.after) (newest_only (version_in s x) t 0 None (record {
-  at_most = omega arith;
-  gap = λ i l h. ap (λ vs. after_of (version_of vs i)) none;
-  has = inl (refl, refl);
-}))
+nothing_at s t x none = ap (λ v. v.after) (newest_only (version_in s x) t 0 None (grind (arith, common_steps)))
 
 -- what the entries of the narrowed span give is what is asked for
 pub are_firsts : (s : Stored) (span rest : Span) (key : Option (List ℕ)) (t : ℕ) (found : List Entry) → ((x : List ℕ) → in_span span x ≡ true → in_span rest x ≡ is_past key x) → found ≡ filter (λ (e : Entry). in_span rest e.0 && has_versions e.1) s.entries → RisingKeys (keys_of s.entries)
@@ -181,16 +143,8 @@ snap_begins s span rest key t n found rows narrow those rising empty = record {
 
 -- the newest version of a chain is what the store has of its key
 chain_has : (s : Stored) (t m : ℕ) (x : List ℕ) (vs : List Version) (o : Option (Bor Version)) → chain_of s x ≡ vs → m ≡ t → MatchOption o (IsNoneUpTo vs m) (λ v. IsNewestOf vs m v.now) → IfSome (option_copied o) (λ v. 1 ≤ v.ts) → value_in (option_copied o) ≡ found_at s t x
-chain_has s t m x vs None is same none named = sym (ap (λ v. v.after) (newest_only (version_in s x) t 0 None (record {
-  at_most = omega arith;
-  gap = λ i l h. ap (λ us. after_of (version_of us i)) is ∙ ap after_of (none i (omega arith));
-  has = inl (refl, refl);
-})))
-chain_has s t m x vs (Some b) is same new named = sym (ap (λ v. v.after) (newest_only (version_in s x) t b.now.ts b.now.after (record {
-  at_most = omega (arith, new.at_most);
-  gap = λ i l h. ap (λ us. after_of (version_of us i)) is ∙ ap after_of (new.gap i l (omega arith));
-  has = inr (omega (arith, named), ap (λ us. after_of (version_of us b.now.ts)) is ∙ ap after_of new.one);
-})))
+chain_has s t m x vs None is same none named = sym (ap (λ v. v.after) (newest_only (version_in s x) t 0 None (grind (arith, common_steps))))
+chain_has s t m x vs (Some b) is same new named = sym (ap (λ v. v.after) (newest_only (version_in s x) t b.now.ts b.now.after (grind (arith, common_steps))))
 
 one_length : (span : Span) (t : ℕ) (x : List ℕ) (a : After) → length (one_in span t x a) ≤ 1
 one_length span t x a = by_test (in_span span x) (λ inside. rw inside (at_length a)) (λ outside. rw outside (omega arith))
@@ -201,14 +155,4 @@ one_length span t x a = by_test (in_span span x) (λ inside. rw inside (at_lengt
 
 pub snap_goes_on : (s : Stored) (span : Span) (key : Option (List ℕ)) (t m n : ℕ) (x : List ℕ) (vs : List Version) (rest : List Entry) (rows rows' : List Row) (o : Option (Bor Version)) → IsSnapping s span key t n ((x, vs) ∷ rest) rows → length rows < n → m ≡ t
     → MatchOption o (IsNoneUpTo vs m) (λ v. IsNewestOf vs m v.now) → IfSome (option_copied o) (λ v. 1 ≤ v.ts) → rows' ≡ rows ++ one_in span t x (value_in (option_copied o)) → IsSnapping s span key t n rest rows'
-snap_goes_on s span key t m n x vs rest rows rows' o snap low same newest named more =
-    let here : rows' ≡ rows ++ one_in span t x (found_at s t x) = more ∙ ap (λ a. rows ++ one_in span t x a) (chain_has s t m x vs o snap.chains.0 same newest named) in record {
-      all = snap.all;
-      firsts = snap.firsts;
-      told = ap (λ l. l ++ firsts_at s span t (keys_of rest)) here ∙ append_assoc rows (one_in span t x (found_at s t x)) (firsts_at s span t (keys_of rest)) ∙ snap.told;
-      chains = snap.chains.1;
-      few =
-          let l : length rows' ≡ length rows + length (one_in span t x (found_at s t x)) = ap length here ∙ length-append rows (one_in span t x (found_at s t x)) in
-          let one : length (one_in span t x (found_at s t x)) ≤ 1 = one_length span t x (found_at s t x) in
-          omega arith;
-    }
+snap_goes_on s span key t m n x vs rest rows rows' o snap low same newest named more = grind (arith, common_steps, chain_has, length-append, one_length)

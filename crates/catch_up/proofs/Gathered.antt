@@ -1,10 +1,11 @@
 -- The rows that are left, gathered from all versions.
-use Rattle.std.proofs.Common.{Bool, List, None, Option, Some, [], ap, false, inl, inr, refl, subst, sym, true, ℕ, ◌&&◌, ◌==◌, ◌⊎◌, ◌≡◌, ◌++◌, ◌∷◌, ◌∙◌}
+use Rattle.std.proofs.lemmas.Grind.{common_steps}
+use Rattle.std.proofs.Common.{arith}
+use Rattle.std.proofs.Common.{rules}
+use Rattle.std.proofs.Common.{Bool, List, None, Option, Some, [], ap, false, inl, inr, refl, subst, sym, true, ℕ, ◌&&◌, ◌⊎◌, ◌≡◌, ◌++◌, ◌∷◌, ◌∙◌}
 use Rattle.std.specs.Prelude.{if◌then◌else◌, nat_le}
-use Rattle.std.specs.BTreeMap.{is_at}
-use Rattle.std.proofs.lemmas.Bool.{and_from, and_parts, eqb-true, le-leb, leb-true}
+use Rattle.std.proofs.lemmas.Bool.{and_from, and_parts, le-leb, leb-true}
 use Rattle.std.proofs.lemmas.Map.Text.{is_eq-slice_cmp}
-use Rattle.timestamps.specs.Bytes.{key_cmp}
 use Rattle.timestamps.specs.declared.row.Row.{Row}
 use Rattle.spans.specs.Effects.{After}
 use Rattle.spans.specs.Keys.{in_span}
@@ -49,16 +50,11 @@ named_right n (m ∷ ms) ns i = inr (named_right n ms ns i)
 
 in_chain : (x : List ℕ) (t : ℕ) (v : Version) (vs : List Version) → version_of vs t ≡ Some v → IsNamed (x, t) (names_in x vs)
 in_chain x t v [] is = cc
-in_chain x t v (w ∷ vs) is = by_test (w.ts == t)
-    (λ here. inl (ap (λ i. (x, i)) (eqb-true w.ts t here)))
-    (λ off. let more : version_of vs t ≡ Some v = rw off at is in inr (in_chain x t v vs more))
+in_chain x t v (w ∷ vs) is = grind (arith, common_steps, in_chain x t v vs)
 
 found_among : (es : List Entry) (x : List ℕ) (t : ℕ) (v : Version) → version_of (chain_in es x) t ≡ Some v → IsNamed (x, t) (names_among es)
 found_among [] x t v is = cc
-found_among (e ∷ es) x t v is = by_test (is_at (key_cmp x) e.0)
-    (λ here. let at : version_of e.1 t ≡ Some v = rw here at is in let key : x ≡ e.0 = same_key x e.0 (sym (is_eq-slice_cmp x e.0) ∙ here) in
-    named_left (x, t) (names_in e.0 e.1) (names_among es) (subst (λ k. IsNamed (k, t) (names_in e.0 e.1)) (sym key) (in_chain e.0 t v e.1 at)))
-    (λ off. let more : version_of (chain_in es x) t ≡ Some v = rw off at is in named_right (x, t) (names_in e.0 e.1) (names_among es) (found_among es x t v more))
+found_among (e ∷ es) x t v is = search (by_test, same_key, is_eq-slice_cmp, named_left, in_chain, named_right, found_among es x t v, rules, arith)
 
 pub found_named : (s : Stored) (x : List ℕ) (t : ℕ) (v : Version) → found_in s x t ≡ Some v → IsNamed (x, t) (names_of s)
 found_named s x t v is = found_among s.entries x t v is

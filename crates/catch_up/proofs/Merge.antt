@@ -1,4 +1,5 @@
 -- The heads of a span's keys: one is added, and the first is taken.
+use Rattle.std.proofs.lemmas.Grind.{common_steps}
 use Rattle.std.proofs.Common.{Bool, List, None, Option, Some, [], add-one, ap, arith, false, inl, inr, length, length-append, refl, subst, suc, sym, true, zero, ◌&&◌, ℕ, ◌+◌, ◌-◌, ◌<◌, ◌≤◌, ◌⊎◌, ◌≡◌, ◌++◌, ◌∷◌, ◌∙◌}
 use Rattle.std.specs.Prelude.{IfSome, is_some, nat_lt, ◌&&◌, ◌==◌, ◌||◌}
 use Rattle.std.specs.BTreeMap.{BTreeMap, IsOrdered, insert_entry}
@@ -23,7 +24,7 @@ use Rattle.spans.proofs.WriteSets.{has, has_in}
 use Rattle.version_chain.specs.declared.chain.Version.{Version}
 use Rattle.version_chain.specs.Chains.{Entry, chain_of, has_versions}
 use Rattle.version_chain.specs.Following.{IsLeft, is_before}
-use Rattle.version_chain.specs.Stores.{Stored, after_of, is_committed}
+use Rattle.version_chain.specs.Stores.{Stored, is_committed}
 use Rattle.version_chain.specs.Versions.{version_of}
 use Rattle.version_chain.proofs.InSpans.{chain_nowhere}
 use Rattle.catch_up.specs.Heads.{AllHeads, AreBefore, AreHeads, Found, HasHead, IsDue, IsFirstDue, IsHead, IsNoneDue, Spot, spot_cmp}
@@ -208,15 +209,7 @@ module _ (s : Stored) (span : Span) (t : ℕ) (x : List ℕ) (through : ℕ) whe
 
 -- a head is left
 head_left : (s : Stored) (span : Span) (t : ℕ) (x : List ℕ) (through : ℕ) (n : ℕ) (y : List ℕ) (v : Version) (vs : List Version) → IsHead s span t x through n y v vs → IsLeftIn s span t (Some x) through (row_of y v)
-head_left s span t x through n y v vs head =
-    let at : n ≡ v.ts = sym head.at in
-    let left : IsLeft s t (Some x) through y v.ts = subst (IsLeft s t (Some x) through y) at head.left in record {
-      there = ap after_of (ap (λ us. version_of us v.ts) head.chain ∙ subst (λ m. version_of vs m ≡ Some v) at head.one);
-      done = left.committed;
-      inside = head.inside;
-      later = left.later;
-      low = left.low;
-    }
+head_left s span t x through n y v vs head = grind (arith, common_steps)
 
 -- what is left after a later place was left before
 left_back : (s : Stored) (t n i : ℕ) (x y z : List ℕ) (through : ℕ) → is_before t x n y ≡ true → IsLeft s n (Some y) through z i → IsLeft s t (Some x) through z i
@@ -232,14 +225,7 @@ before_later t i j x y before low = later_at t i j (key_lt x y) before low
 none_before : (s : Stored) (span : Span) (t : ℕ) (x : List ℕ) (through : ℕ) (k : Spot) (es : List (Spot × Found)) → AllByRecursion (λ q. spot_cmp k q ≡ Less) (keys_of es) → AllHeads s span t x through es → (q : Row) → HasHead q.key es → IsLeft s t (Some x) through q.key q.ts
     → is_before k.0 k.1.now q.ts q.key ≡ true
 none_before s span t x through k [] above all q i left = absurd i
-none_before s span t x through k (e ∷ es) above all q i left = elim i [
-  | inl here ↦
-      let head : IsHead s span t x through e.0.0 q.key e.1.0.now e.1.1.now = subst (λ y. IsHead s span t x through e.0.0 y e.1.0.now e.1.1.now) here all.0 in
-      let low : e.0.0 ≤ q.ts = head.first q.ts left in
-      let before : is_before k.0 k.1.now e.0.0 q.key ≡ true = subst (λ y. is_before k.0 k.1.now e.0.0 y ≡ true) here (spot_before k e.0 above.0) in
-      before_later k.0 e.0.0 q.ts k.1.now q.key before low
-  | inr there ↦ none_before s span t x through k es above.1 all.1 q there left
-]
+none_before s span t x through k (e ∷ es) above all q i left = grind (arith, common_steps, none_before s span t x through k es above.1 all.1 q)
 
 moved_heads : (s : Stored) (span : Span) (t : ℕ) (x : List ℕ) (through : ℕ) (k : Spot) (es : List (Spot × Found)) → is_before t x k.0 k.1.now ≡ true → AllByRecursion (λ q. spot_cmp k q ≡ Less) (keys_of es) → AllHeads s span t x through es → AllHeads s span k.0 k.1.now through es
 moved_heads s span t x through k [] later above all = tt
@@ -280,10 +266,7 @@ before_first (suc n) i y e (d ∷ es) few before = (before.0, before_first n i y
 
 has_first : (y : List ℕ) (e : Spot × Found) (es : List (Spot × Found)) → HasHead y (es ++ e ∷ []) → HasHead y es ⊎ (e.0.1.now ≡ y)
 has_first y e [] i = elim i [ inl here ↦ inr here | inr there ↦ absurd there ]
-has_first y e (d ∷ es) i = elim i [
-  | inl here ↦ inl (inl here)
-  | inr there ↦ elim (has_first y e es there) [ inl more ↦ inl (inr more) | inr last ↦ inr last ]
-]
+has_first y e (d ∷ es) i = grind (arith, common_steps, has_first y e es)
 
 module _ (s : Stored) (span : Span) (t : ℕ) (x : List ℕ) (through n : ℕ) (ahead : List (List ℕ)) (heads heads' : BTreeMap Spot Found) where
   first_heads : (e : Spot × Found) (es : List (Spot × Found)) → AllHeads s span t x through (es ++ e ∷ []) → AllHeads s span t x through es × AllHeads s span t x through (e ∷ [])
@@ -378,12 +361,7 @@ pub record IsMerged (s : Stored) (span : Span) (ts : ℕ) (key : List ℕ) (thro
   pub are : AreHeads s span t x through missing [] heads
 
 pub merge_begins : (s : Stored) (span : Span) (ts : ℕ) (key : List ℕ) (through n missing : ℕ) (rows : List Row) (heads : BTreeMap Spot Found) → AreHeads s span ts key through n [] heads → rows ≡ [] → n ≡ missing → IsMerged s span ts key through n missing rows heads
-merge_begins s span ts key through n missing rows heads are none all = record {
-  t = ts;
-  x = key;
-  walked = subst (λ m. IsWalked s span ts (Some key) through n ts (Some key) m rows) all (subst (IsWalked s span ts (Some key) through n ts (Some key) n) (sym none) (walk_begins s span ts (Some key) through n));
-  are = subst (λ m. AreHeads s span ts key through m [] heads) all are;
-}
+merge_begins s span ts key through n missing rows heads are none all = grind (arith, common_steps, walk_begins)
 
 pub merge_goes_on : (s : Stored) (span : Span) (ts : ℕ) (key : List ℕ) (through n missing missing' : ℕ) (rows rows' : List Row) (heads taken heads' : BTreeMap Spot Found) (k : Spot) (w : Found) → IsMerged s span ts key through n missing rows heads
     → heads.entries ≡ (k, w) ∷ taken.entries → IsOrdered spot_cmp taken → missing ≡ missing' + 1 → rows' ≡ rows ++ row_of k.1.now w.0.now ∷ []
@@ -411,10 +389,4 @@ some_before (suc n) i y some before = before
 
 pub merge_ends : (s : Stored) (span : Span) (ts : ℕ) (key : List ℕ) (through n missing : ℕ) (rows : List Row) (heads : BTreeMap Spot Found) → IsMerged s span ts key through n missing rows heads → 0 < missing → (0 < length heads.entries → ⊥) → AreNextIn s span ts (Some key) through n rows
 merge_ends s span ts key through n missing rows heads merged some empty = walk_ends s span ts (Some key) through n merged.t (Some merged.x) missing rows merged.walked
-    (λ r h. elim (merged.are.all r.key r.ts h.inside (record { committed = h.done; later = h.later; low = h.low })) [
-      | inl none ↦ absurd none
-      | inr kept ↦ elim (subst (λ es. HasHead r.key es ⊎ AreBefore missing es r.ts r.key) (no_entry heads.entries empty) kept) [
-        | inl head ↦ absurd head
-        | inr before ↦ absurd (some_before missing r.ts r.key some before)
-      ]
-    ])
+    (λ r h. grind (arith, common_steps, no_entry, some_before))

@@ -1,5 +1,7 @@
 -- Rows that are put into their order.
-use Rattle.std.proofs.Common.{List, [], inl, inr, refl, subst, true, ◌⊎◌, ◌≡◌, ◌∷◌}
+use Rattle.std.proofs.lemmas.Grind.{common_steps}
+use Rattle.std.proofs.Common.{arith}
+use Rattle.std.proofs.Common.{List, [], inl, inr, refl, ◌⊎◌, ◌≡◌, ◌∷◌}
 use Rattle.std.specs.Prelude.{if◌then◌else◌}
 use Rattle.timestamps.specs.declared.row.Row.{Row}
 use Rattle.spans.specs.Streams.{row_lt}
@@ -15,22 +17,11 @@ put_row r (s ∷ rows) = if row_lt r s then r ∷ s ∷ rows else (if row_lt s r
 
 pub put_only : (r q : Row) (rows : List Row) → IsRowIn q (put_row r rows) → (r ≡ q) ⊎ IsRowIn q rows
 put_only r q [] i = elim i [ inl here ↦ inl here | inr there ↦ absurd there ]
-put_only r q (s ∷ rows) i = by_test (row_lt r s)
-    (λ low. let j : IsRowIn q (r ∷ s ∷ rows) = rw low at i in elim j [ inl here ↦ inl here | inr there ↦ inr there ])
-    (λ high. by_test (row_lt s r)
-    (λ over. let j : IsRowIn q (s ∷ put_row r rows) = rw (high, over) at i in elim j [
-      | inl here ↦ inr (inl here)
-      | inr there ↦ elim (put_only r q rows there) [ inl is ↦ inl is | inr k ↦ inr (inr k) ]
-    ])
-    (λ same. let j : IsRowIn q (s ∷ rows) = rw (high, same) at i in inr j))
+put_only r q (s ∷ rows) i = grind (arith, common_steps, put_only r q rows)
 
 pub put_stays : (r q : Row) (rows : List Row) → IsRowIn q rows → IsRowIn q (put_row r rows)
 put_stays r q [] i = absurd i
-put_stays r q (s ∷ rows) i = by_test (row_lt r s)
-    (λ low. rw low (inr i))
-    (λ high. by_test (row_lt s r)
-    (λ over. rw (high, over) (elim i [ inl here ↦ inl here | inr there ↦ inr (put_stays r q rows there) ]))
-    (λ same. rw (high, same) i))
+put_stays r q (s ∷ rows) i = grind (arith, common_steps, put_stays r q rows)
 
 -- where a row of the same version is the same row
 pub put_in : (r : Row) (rows : List Row) → ((s : Row) → IsRowIn s rows → r.ts ≡ s.ts → r.key ≡ s.key → s ≡ r) → IsRowIn r (put_row r rows)
@@ -43,8 +34,4 @@ put_in r (s ∷ rows) alike = by_test (row_lt r s)
 
 pub put_rises : (r : Row) (rows : List Row) → RisingRows rows → RisingRows (put_row r rows)
 put_rises r [] h = (λ s i. absurd i, tt)
-put_rises r (s ∷ rows) h = by_test (row_lt r s)
-    (λ low. rw low (λ q i. elim i [ inl here ↦ subst (λ v. row_lt r v ≡ true) here low | inr there ↦ before_trans r.ts s.ts q.ts r.key s.key q.key low (h.0 q there) ], h))
-    (λ high. by_test (row_lt s r)
-    (λ over. rw (high, over) (λ q i. elim (put_only r q rows i) [ inl is ↦ subst (λ v. row_lt s v ≡ true) is over | inr there ↦ h.0 q there ], put_rises r rows h.1))
-    (λ same. rw (high, same) h))
+put_rises r (s ∷ rows) h = grind (arith, common_steps, by_test, before_trans, put_only, put_rises r rows h.1)

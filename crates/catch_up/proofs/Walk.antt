@@ -1,21 +1,23 @@
 -- A walk from version to version, which gathers rows.
+use Rattle.std.proofs.lemmas.Grind.{common_steps}
 use Rattle.std.proofs.Common.{append_assoc, Bor, List, None, Option, Some, [], ap, arith, false, inl, inr, length, refl, subst, sym, take, true, ℕ, ◌+◌, ◌<◌, ◌≤◌, ◌⊎◌, ◌≡◌, ◌++◌, ◌∷◌, ◌∙◌}
 use Rattle.std.proofs.lemmas.Bool.{both_ways}
-use Rattle.std.specs.Prelude.{is_some}
+use Rattle.std.specs.Prelude.{MatchOption, is_some}
 use Rattle.std.specs.Map.Iter.{TakesFirst, deref_pair}
 use Rattle.std.proofs.Math.Seq.{take-append-add}
-use Rattle.std.proofs.lemmas.List.{append-nil, take_at, take_all as first_all, length_push}
+use Rattle.std.proofs.lemmas.List.{take_all as first_all, length_push}
 use Rattle.timestamps.specs.declared.row.Row.{Row}
+use Rattle.spans.specs.Effects.{After}
 use Rattle.spans.specs.Keys.{in_span}
 use Rattle.spans.specs.Streams.{row_lt}
 use Rattle.spans.specs.declared.span.Span.{Span}
 use Rattle.spans.proofs.Steps.{by_test}
 use Rattle.spans.proofs.StreamOrder.{IsRowIn, RisingRows, in_append, rises_append, rises_parts}
 use Rattle.version_chain.specs.declared.chain.Version.{Version}
-use Rattle.version_chain.specs.Chains.{Entry}
-use Rattle.version_chain.specs.Following.{IsFirstAfter, IsLeft, IsNoneAfter, Walk, is_after_place, is_before}
-use Rattle.version_chain.specs.Stores.{Stored}
-use Rattle.catch_up.specs.Left.{AreLeftIn, AreNextIn, IsLeftIn, IsPast}
+use Rattle.version_chain.specs.Chains.{Entry, found_in}
+use Rattle.version_chain.specs.Following.{IsStep, IsToCome, Walk, is_after_place, is_before}
+use Rattle.version_chain.specs.Stores.{IsNewestIn, Stored, after_of, is_committed, is_committed_in, version_in}
+use Rattle.catch_up.specs.Left.{AreLeftIn, AreNextIn, IsLeftIn, IsPast, IsRowAt, IsToldOf}
 use Rattle.version_chain.proofs.Order.{after_trans, before_itself, before_neither}
 use Rattle.catch_up.proofs.Gathered.{are_left}
 
@@ -32,8 +34,13 @@ walk_begins s span ts key through n = let all = are_left s span ts key through i
 abbrev pub row_of : List ℕ → Version → Row
 row_of x v = record { ts = v.ts; key = x; after = v.after }
 
-left_is : (s : Stored) (span : Span) (t : ℕ) (x : Option (List ℕ)) (through : ℕ) (r : Row) → IsLeftIn s span t x through r → IsLeft s t x through r.key r.ts
-left_is s span t x through r h = record { committed = h.done; later = h.later; low = h.low }
+-- what is left has a version, so a walk comes to it
+to_come : (s : Stored) (span : Span) (t : ℕ) (x : Option (List ℕ)) (through : ℕ) (r : Row) → IsLeftIn s span t x through r → IsToCome (record { store = s; ts = t; key = x; through = through }) r.key r.ts
+to_come s span t x through r h = record { there = has (found_in s r.key r.ts) h.done; later = h.later; low = h.low }
+  where
+    has : (o : Option Version) → is_committed o ≡ true → is_some o ≡ true
+    has None e = e
+    has (Some v) done = refl
 
 -- what is left after a later place was left before
 moved_back : (s : Stored) (span : Span) (t i : ℕ) (x : Option (List ℕ)) (y : List ℕ) (through : ℕ) → is_after_place t x y i ≡ true → (r : Row) → IsLeftIn s span i (Some y) through r → IsLeftIn s span t x through r
@@ -41,28 +48,30 @@ moved_back s span t i x y through later r h = record { there = h.there; done = h
 
 -- and what is left but for the least is left after it
 moved_on : (s : Stored) (span : Span) (t i : ℕ) (x : Option (List ℕ)) (y : List ℕ) (through : ℕ) (r : Row) → IsLeftIn s span t x through r → is_before r.ts r.key i y ≡ false → ((i ≡ r.ts) × (y ≡ r.key)) ⊎ IsLeftIn s span i (Some y) through r
-moved_on s span t i x y through r h least = by_test (is_before i y r.ts r.key)
-    (λ on. inr (record { there = h.there; done = h.done; inside = h.inside; later = on; low = h.low }))
-    (λ off. inl (before_neither i r.ts y r.key off least))
+moved_on s span t i x y through r h least = grind (arith, common_steps, by_test, before_neither)
 
 -- a row that is left, and none before it
 pub record IsNext (s : Stored) (span : Span) (t : ℕ) (x : Option (List ℕ)) (through : ℕ) (r : Row) : Type 0 where
   pub left : IsLeftIn s span t x through r
   pub least : (q : Row) → IsLeftIn s span t x through q → row_lt q r ≡ false
 
--- a version outside the span is passed over
-walk_passes : (s : Stored) (span : Span) (ts : ℕ) (key : Option (List ℕ)) (through n t : ℕ) (x : Option (List ℕ)) (missing : ℕ) (rows : List Row) (y : List ℕ) (v : Version) → IsWalked s span ts key through n t x missing rows
-    → IsFirstAfter s t x through y v → in_span span y ≡ false → IsWalked s span ts key through n v.ts (Some y) missing rows
-walk_passes s span ts key through n t x missing rows y v walked first outside = record {
+-- the step of a walk from a place to y at i
+abbrev pub IsStepTo : Stored → ℕ → Option (List ℕ) → ℕ → List ℕ → ℕ → Type 0
+IsStepTo s t x through y i = IsStep (record { store = s; ts = t; key = x; through = through }) i y
+
+-- a version outside the span, or one that isn't committed, is passed over
+walk_passes : (s : Stored) (span : Span) (ts : ℕ) (key : Option (List ℕ)) (through n t : ℕ) (x : Option (List ℕ)) (missing : ℕ) (rows : List Row) (y : List ℕ) (i : ℕ) → IsWalked s span ts key through n t x missing rows
+    → IsStepTo s t x through y i → (in_span span y ≡ true → is_committed_in s y i ≡ false) → IsWalked s span ts key through n i (Some y) missing rows
+walk_passes s span ts key through n t x missing rows y i walked step none = record {
   rest = walked.rest;
   left = record {
     rising = walked.left.rising;
     each = λ r. (
-      λ i. let h = (walked.left.each r).0 i in elim (moved_on s span t v.ts x y through r h (first.first r.key r.ts (left_is s span t x through r h))) [
-        | inl same ↦ absurd (both_ways _ (ap (in_span span) (sym same.1) ∙ outside) h.inside)
+      λ j. let h = (walked.left.each r).0 j in elim (moved_on s span t i x y through r h (step.first r.key r.ts (to_come s span t x through r h))) [
+        | inl same ↦ absurd (both_ways _ (none (ap (in_span span) same.1 ∙ h.inside)) (ap (λ k. is_committed_in s k i) same.1 ∙ ap (is_committed_in s r.key) same.0 ∙ h.done))
         | inr on ↦ on
       ],
-      λ h. (walked.left.each r).1 (moved_back s span t v.ts x y through first.left.later r h),
+      λ h. (walked.left.each r).1 (moved_back s span t i x y through step.one.later r h),
     );
   };
   told = walked.told;
@@ -100,42 +109,22 @@ walk_takes s span ts key through n t x missing missing' rows rows' r walked next
     parts : (rest : List Row) × (walked.rest ≡ r ∷ rest)
     parts = least_first r walked.rest walked.left.rising ((walked.left.each r).1 next.left) (λ q i. next.least q ((walked.left.each q).0 i))
 
--- the first version that is left is the next row, where the span holds its key
-next_is : (s : Stored) (span : Span) (t : ℕ) (x : Option (List ℕ)) (through : ℕ) (y : List ℕ) (v : Version) → IsFirstAfter s t x through y v → in_span span y ≡ true → IsNext s span t x through (row_of y v)
-next_is s span t x through y v first inside = record {
-  left = record { there = first.version; done = first.left.committed; inside = inside; later = first.left.later; low = first.left.low };
-  least = λ q h. first.first q.key q.ts (left_is s span t x through q h);
-}
+-- a row that is told of a step is the next one
+next_is : (s : Stored) (span : Span) (t : ℕ) (x : Option (List ℕ)) (through : ℕ) (y : List ℕ) (i : ℕ) (a : After) → IsStepTo s t x through y i → IsToldOf s span i y (record { ts = i; key = y; after = a }) → IsNext s span t x through (record { ts = i; key = y; after = a })
+next_is s span t x through y i a step told = grind (arith, common_steps)
 
--- of the first version that is left a row was made, or its key is outside the span
-pub record IsTold (span : Span) (y : List ℕ) (v : Version) (missing missing' : ℕ) (rows rows' : List Row) : Type 0 where
-  pub inside : in_span span y ≡ true
-  pub less : missing ≡ missing' + 1
-  pub more : rows' ≡ rows ++ row_of y v ∷ []
+-- the row, where there is one, was added
+abbrev pub IsAdded : Option Row → (missing missing' : ℕ) (rows rows' : List Row) → Type 0
+IsAdded row missing missing' rows rows' = MatchOption row ((missing' ≡ missing) × (rows' ≡ rows)) (λ r. (missing ≡ missing' + 1) × (rows' ≡ rows ++ r ∷ []))
 
-pub record IsOutside (span : Span) (y : List ℕ) (missing missing' : ℕ) (rows rows' : List Row) : Type 0 where
-  pub outside : in_span span y ≡ false
-  pub same : missing' ≡ missing
-  pub rows_same : rows' ≡ rows
-
-walk_steps : (s : Stored) (span : Span) (ts : ℕ) (key : Option (List ℕ)) (through n t : ℕ) (x : Option (List ℕ)) (missing missing' : ℕ) (rows rows' : List Row) (y : List ℕ) (v : Version) → IsWalked s span ts key through n t x missing rows
-    → IsFirstAfter s t x through y v → IsTold span y v missing missing' rows rows' ⊎ IsOutside span y missing missing' rows rows' → IsWalked s span ts key through n v.ts (Some y) missing' rows'
-walk_steps s span ts key through n t x missing missing' rows rows' y v walked first step = elim step [
-  | inl told ↦ walk_takes s span ts key through n t x missing missing' rows rows' (row_of y v) walked (next_is s span t x through y v first told.inside) told.less told.more
-  | inr passed ↦ subst (λ m. IsWalked s span ts key through n v.ts (Some y) m rows') (sym passed.same)
-      (subst (IsWalked s span ts key through n v.ts (Some y) missing) (sym passed.rows_same) (walk_passes s span ts key through n t x missing rows y v walked first passed.outside))
-]
-
-take_whole : (n : ℕ) (xs ys : List Row) → length xs ≡ n → xs ≡ take n (xs ++ ys)
-take_whole n xs ys is = sym (take_at xs ys n is)
+walk_steps : (s : Stored) (span : Span) (ts : ℕ) (key : Option (List ℕ)) (through n t : ℕ) (x : Option (List ℕ)) (missing missing' : ℕ) (rows rows' : List Row) (y : List ℕ) (i : ℕ) (row : Option Row) → IsWalked s span ts key through n t x missing rows
+    → IsStepTo s t x through y i → IsRowAt s span i y row → IsAdded row missing missing' rows rows' → IsWalked s span ts key through n i (Some y) missing' rows'
+walk_steps s span ts key through n t x missing missing' rows rows' y i None walked step none same = grind (arith, common_steps, walk_passes)
+walk_steps s span ts key through n t x missing missing' rows rows' y i (Some r) walked step told more = grind (arith, common_steps, walk_takes, next_is)
 
 -- enough rows
 pub walk_full : (s : Stored) (span : Span) (ts : ℕ) (key : Option (List ℕ)) (through n t : ℕ) (x : Option (List ℕ)) (missing : ℕ) (rows : List Row) → IsWalked s span ts key through n t x missing rows → missing ≤ 0 → AreNextIn s span ts key through n rows
-walk_full s span ts key through n t x missing rows walked none = record {
-  all = rows ++ walked.rest;
-  left = walked.told;
-  first = let c : length rows + missing ≡ n = walked.count in take_whole n rows walked.rest (omega arith);
-}
+walk_full s span ts key through n t x missing rows walked none = grind (arith, common_steps)
 
 pub no_rows : (rows : List Row) → ((r : Row) → IsRowIn r rows → ⊥) → rows ≡ []
 no_rows [] none = refl
@@ -148,15 +137,7 @@ take_all n xs low = sym (first_all n xs low)
 pub walk_ends : (s : Stored) (span : Span) (ts : ℕ) (key : Option (List ℕ)) (through n t : ℕ) (x : Option (List ℕ)) (missing : ℕ) (rows : List Row) → IsWalked s span ts key through n t x missing rows → ((r : Row) → IsLeftIn s span t x through r → ⊥) → AreNextIn s span ts key through n rows
 walk_ends s span ts key through n t x missing rows walked none =
     let empty : walked.rest ≡ [] = no_rows walked.rest (λ r i. none r ((walked.left.each r).0 i)) in
-    let all : rows ++ walked.rest ≡ rows = ap (λ l. rows ++ l) empty ∙ append-nil rows in
-    record {
-      all = rows;
-      left = subst (AreLeftIn s span ts key through) all walked.told;
-      first = let c : length rows + missing ≡ n = walked.count in take_all n rows (omega arith);
-    }
-
-none_is : (s : Stored) (span : Span) (t : ℕ) (x : Option (List ℕ)) (through : ℕ) → IsNoneAfter s t x through → (r : Row) → IsLeftIn s span t x through r → ⊥
-none_is s span t x through none r h = none r.key r.ts (left_is s span t x through r h)
+    grind (arith, common_steps)
 
 -- what is missing is gathered in another way
 pub walk_joins : (s : Stored) (span : Span) (ts : ℕ) (key : Option (List ℕ)) (through n t : ℕ) (x : Option (List ℕ)) (missing : ℕ) (rows rows' more : List Row) → IsWalked s span ts key through n t x missing rows → AreNextIn s span t x through missing more → rows' ≡ rows ++ more → AreNextIn s span ts key through n rows'
@@ -188,13 +169,9 @@ walk_joins s span ts key through n t x missing rows rows' more walked next joine
 
 -- no version is both later and low
 pub none_past : (s : Stored) (span : Span) (ts : ℕ) (key : Option (List ℕ)) (through n : ℕ) (rows : List Row) → IsPast ts key through → rows ≡ [] → AreNextIn s span ts key through n rows
-none_past s span ts key through n rows past empty = record {
-  all = [];
-  left = record { rising = tt; each = λ r. (λ i. absurd i, λ h. absurd (both_ways _ (past r.key r.ts h.low) h.later)) };
-  first = empty ∙ take_all n [] (omega arith);
-}
+none_past s span ts key through n rows past empty = grind (arith, common_steps)
 
--- ---- along the store's committed versions
+-- ---- along the store's versions
 
 -- rows are those before the place of a walk over them
 pub record IsWalking (s : Stored) (span : Span) (ts : ℕ) (key : Option (List ℕ)) (through n : ℕ) (w : Walk) (missing : ℕ) (rows : List Row) : Type 0 where
@@ -209,22 +186,31 @@ begins_walking s span ts key through n = record { store = refl; far = refl; walk
 pub begins_at : (s : Stored) (span : Span) (w : Walk) (through n : ℕ) → w.store ≡ s → w.through ≡ through → IsWalking s span w.ts w.key through n w n []
 begins_at s span w through n store far = record { store = store; far = far; walked = walk_begins s span w.ts w.key through n }
 
-pub goes_on_walking : (s : Stored) (span : Span) (ts : ℕ) (key : Option (List ℕ)) (through n : ℕ) (w w' : Walk) (missing missing' : ℕ) (rows rows' : List Row) (y : List ℕ) (v : Version) → IsWalking s span ts key through n w missing rows
-    → IsFirstAfter w.store w.ts w.key w.through y v → w' ≡ record w { ts = v.ts; key = Some y } → IsTold span y v missing missing' rows rows' ⊎ IsOutside span y missing missing' rows rows' → IsWalking s span ts key through n w' missing' rows'
-goes_on_walking s span ts key through n w w' missing missing' rows rows' y v walking first moved step = record {
+pub goes_on_walking : (s : Stored) (span : Span) (ts : ℕ) (key : Option (List ℕ)) (through n : ℕ) (w w' : Walk) (missing missing' : ℕ) (rows rows' : List Row) (y : List ℕ) (i : ℕ) (row : Option Row) → IsWalking s span ts key through n w missing rows
+    → IsStep w i y → w' ≡ record w { ts = i; key = Some y } → IsRowAt s span i y row → IsAdded row missing missing' rows rows' → IsWalking s span ts key through n w' missing' rows'
+goes_on_walking s span ts key through n w w' missing missing' rows rows' y i row walking step moved at added = record {
   store = ap (λ (u : Walk). u.store) moved ∙ walking.store;
   far = ap (λ (u : Walk). u.through) moved ∙ walking.far;
-  walked = subst (λ (u : Walk). IsWalked s span ts key through n u.ts u.key missing' rows') (sym moved) (walk_steps s span ts key through n w.ts w.key missing missing' rows rows' y v walking.walked here step);
+  walked = subst (λ (u : Walk). IsWalked s span ts key through n u.ts u.key missing' rows') (sym moved) (walk_steps s span ts key through n w.ts w.key missing missing' rows rows' y i row walking.walked here at added);
 }
   where
-    here : IsFirstAfter s w.ts w.key through y v
-    here = subst (λ u. IsFirstAfter u w.ts w.key through y v) walking.store (subst (λ m. IsFirstAfter w.store w.ts w.key m y v) walking.far first)
+    here : IsStepTo s w.ts w.key through y i
+    here = subst (λ u. IsStepTo u w.ts w.key through y i) walking.store (subst (λ m. IsStepTo w.store w.ts w.key m y i) walking.far step)
 
-pub ends_walking : (s : Stored) (span : Span) (ts : ℕ) (key : Option (List ℕ)) (through n : ℕ) (w : Walk) (missing : ℕ) (rows : List Row) → IsWalking s span ts key through n w missing rows → IsNoneAfter w.store w.ts w.key w.through → AreNextIn s span ts key through n rows
-ends_walking s span ts key through n w missing rows walking none = walk_ends s span ts key through n w.ts w.key missing rows walking.walked (none_is s span w.ts w.key through here)
-  where
-    here : IsNoneAfter s w.ts w.key through
-    here = subst (λ u. IsNoneAfter u w.ts w.key through) walking.store (subst (λ m. IsNoneAfter w.store w.ts w.key m) walking.far none)
+pub ends_walking : (s : Stored) (span : Span) (ts : ℕ) (key : Option (List ℕ)) (through n : ℕ) (w : Walk) (missing : ℕ) (rows : List Row) → IsWalking s span ts key through n w missing rows → ((y : List ℕ) (i : ℕ) → IsToCome w y i → ⊥) → AreNextIn s span ts key through n rows
+ends_walking s span ts key through n w missing rows walking none = walk_ends s span ts key through n w.ts w.key missing rows walking.walked
+    (λ r h. grind (arith, common_steps))
+
+has_none : (o : Option Version) → is_some o ≡ true → after_of o ≡ None → ⊥
+has_none None e none = cc
+has_none (Some v) e none = cc
+
+-- the newest version at or below the place of a step is that of the place
+pub step_is : (s : Stored) (w : Walk) (x : List ℕ) (t : ℕ) (v : Version) → w.store ≡ s → IsStep w t x → IsNewestIn s x t v → v.ts ≡ t
+step_is s w x t v store step newest = grind (arith, common_steps)
+
+pub step_has : (s : Stored) (w : Walk) (x : List ℕ) (t : ℕ) → w.store ≡ s → IsStep w t x → ((i : ℕ) → i ≤ t → version_in s x i ≡ None) → ⊥
+step_has s w x t store step none = has_none (found_in s x t) (subst (λ u. is_some (found_in u x t) ≡ true) store step.one.there) (none t (omega arith))
 
 -- each step passes a key
 pub keys_shorten : (es rest : List Entry) (o : Option (Bor (List ℕ) × Bor (List Version))) → TakesFirst deref_pair es o rest → is_some o ≡ true → length rest < length es

@@ -19,17 +19,18 @@
 //! - The chains of the span's keys have the span's versions alone. A wide span has many chains to look at before its
 //!   first row.
 //!
-//! [`next_rows`] walks the index. From its 16th step on it counts a key of the span with each, and turns to the chains
-//! once there is none left. Where nothing can come after the place it searches nothing.
+//! [`next_rows`] walks the index, and searches the chain of a key that the span has, and of no other. From its 16th step on
+//! it counts a key of the span with each, and turns to the chains once there is none left. Where nothing can come after the
+//! place it searches nothing.
 //!
 //! Costs, in searches of the store, each O(log n) for n keys and timestamps:
 //!
 //! - `next_rows`: none where the place is at or above the timestamp. Else three, and one of a chain for each row told, plus
-//!   the smaller of: one of a chain for each version of other spans in between; 16 of these, and two for each key of the
+//!   the smaller of: a look at each version of other spans in between; 16 of these, and two searches for each key of the
 //!   span
 //! - `next_snapshot`: one for the first key, and one of a chain for each key from there to the last that is told, or to
 //!   the span's end where fewer are found than are wanted
-//! - a version that isn't committed: one more, where it is passed
+//! - a version of the span that isn't committed: one more, where it is passed
 //!
 //! Both calls take memory for the rows told. Where `next_rows` turns to the chains, it also takes memory for places in
 //! them: for as many as it still wants rows, and for one more. `next_snapshot` also takes it for a copy of the span. They

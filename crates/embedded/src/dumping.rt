@@ -159,7 +159,7 @@ impl Database {
     {
         match self
             .engine
-            .next_left(place.ts, place.key.as_ref(), end.through)?
+            .next_left(self.alloc, place.ts, place.key.as_ref(), end.through)?
         {
             None => {
                 end.put(text, place.transaction())?;

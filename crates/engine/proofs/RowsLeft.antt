@@ -1,6 +1,7 @@
 -- The first row that a dump has still to write is that of the store's next committed version.
-use Rattle.std.proofs.Common.{Bool, List, None, Option, Some, [], ap, cond, false, inl, inr, not, refl, subst, sym, true, ℕ, ◌&&◌, ◌<◌, ◌==◌, ◌∙◌, ◌∷◌, ◌≡◌, ◌≤◌}
-use Rattle.std.specs.Prelude.{filter, is_some, ◌↔◌}
+use Rattle.std.proofs.Common.{Bool, List, None, Option, Some, [], ap, cond, false, inl, inr, length, not, refl, subst, sym, true, ℕ, ◌&&◌, ◌++◌, ◌<◌, ◌==◌, ◌∙◌, ◌∷◌, ◌≡◌, ◌≤◌}
+use Rattle.std.specs.Option.{option_to_list}
+use Rattle.std.specs.Prelude.{filter, is_some, take, ◌↔◌}
 use Rattle.std.proofs.lemmas.Bool.{and_from, and_parts, both_ways, eqb-true, false_from_ne_true}
 use Rattle.timestamps.specs.declared.row.Row.{Row}
 use Rattle.spans.specs.Collection.{is_dead, version_name}
@@ -14,16 +15,16 @@ use Rattle.spans.proofs.Copies.{AllAllowed}
 use Rattle.spans.proofs.Dead.{committed_is}
 use Rattle.spans.proofs.Legal.{legal_allowed}
 use Rattle.spans.proofs.Steps.{by_test}
-use Rattle.spans.proofs.StreamOrder.{IsRowIn, RisingRows, in_stream, stream_rises}
+use Rattle.spans.proofs.StreamOrder.{IsRowIn, RisingRows, rows_clash, in_stream, stream_rises}
 use Rattle.kept.specs.Finding.{kept_committed}
 use Rattle.kept.specs.StandsFor as keeping
 use Rattle.restarts.specs.Rows.{all_keys, is_left}
 use Rattle.restarts.proofs.Alike.{committed_begun}
-use Rattle.version_chain.specs.Following.{IsFirstAfter, IsLeft, is_after_place}
+use Rattle.version_chain.specs.Following.{is_after_place}
 use Rattle.version_chain.specs.Stores.{Stored, is_committed_in, version_in}
-use Rattle.version_chain.specs.declared.chain.Version.{Version}
+use Rattle.catch_up.specs.Left.{AreLeftIn, AreNextIn}
 use Rattle.mvto_rules.specs.Holding.{versions_of}
-use Rattle.engine.specs.Dumping.{IsNextRow, first_row, next_left}
+use Rattle.engine.specs.Dumping.{IsLeftBehind, IsNextRow, first_row, next_left}
 use Rattle.engine.specs.Layers.{kept_of}
 use Rattle.engine.specs.declared.layers.Layers.{Layers}
 use Rattle.engine.proofs.Versions.{left_is}
@@ -113,30 +114,44 @@ module _ (e : Layers) (h : List Event) (stands : keeping.StandsFor (kept_of e) h
   is_due r = is_left p r && is_after_place ts key r.key r.ts
 
   -- the store has the versions of the rows that are left
-  due_is : (r : Row) → (IsRowIn r rows × (is_due r ≡ true)) ↔ ((version_in s r.key r.ts ≡ Some r.after) × IsLeft s ts key through r.key r.ts)
+  due_is : (r : Row) → (IsRowIn r rows × (is_due r ≡ true)) ↔ IsLeftBehind s ts key through r
   due_is r = (
     λ i. let both = and_parts (is_left p r) _ i.1 in
         let left = (row_left p all through r).0 (i.0, both.0) in
         let here : kept_committed (kept_of e) r.key r.ts ≡ Some r.after = left_is (kept_of e) p all stands.fits r.key r.ts ∙ left.0 in
         let kept = parted (is_committed_in s r.key r.ts) (version_in s r.key r.ts) here in
-        (kept.1, record { committed = kept.0; later = both.1; low = left.1 }),
-    λ i. let here : kept_committed (kept_of e) r.key r.ts ≡ Some r.after = joined (is_committed_in s r.key r.ts) (version_in s r.key r.ts) i.1.committed i.0 in
+        record { there = kept.1; done = kept.0; inside = refl; later = both.1; low = left.1 },
+    λ h. let here : kept_committed (kept_of e) r.key r.ts ≡ Some r.after = joined (is_committed_in s r.key r.ts) (version_in s r.key r.ts) h.done h.there in
         let left : left_version_of p r.key r.ts ≡ Some r.after = sym (left_is (kept_of e) p all stands.fits r.key r.ts) ∙ here in
-        let row = (row_left p all through r).1 (left, i.1.low) in
-        (row.0, and_from _ _ row.1 i.1.later),
+        let row = (row_left p all through r).1 (left, h.low) in
+        (row.0, and_from _ _ row.1 h.later),
   )
 
   pub next_is : (row : Option Row) → IsNextRow s ts key through row → row ≡ next_left p ts key through
   next_is None none = sym (ap first_row (
       filter_twice (is_left p) (λ r. is_after_place ts key r.key r.ts) rows
-      ∙ filter_none is_due rows (λ r i. false_from_ne_true _ (λ is. none r.key r.ts ((due_is r).0 (i, is)).1))))
+      ∙ filter_none is_due rows (λ r i. false_from_ne_true _ (λ is. none r ((due_is r).0 (i, is))))))
   next_is (Some r) first =
-      let here = (due_is r).1 (first.version, first.left) in
+      let here = (due_is r).1 first.0 in
       sym (ap first_row (filter_twice (is_left p) (λ q. is_after_place ts key q.key q.ts) rows)
-      ∙ filter_first is_due rows r (stream_rises p all_keys 0 through) here.0 here.1 (λ q i is. first.first q.key q.ts ((due_is q).0 (i, is)).1))
+      ∙ filter_first is_due rows r (stream_rises p all_keys 0 through) here.0 here.1 (λ q i is. first.1 q ((due_is q).0 (i, is))))
 
--- ---- a copy of what was found
+-- ---- of the rows that are left, the first alone
 
-pub copied : (s : Stored) (ts : ℕ) (key : Option (List ℕ)) (through : ℕ) (x x' : List ℕ) (v : Version) (a : After) → IsFirstAfter s ts key through x v → x' ≡ x → a ≡ v.after
-    → IsNextRow s ts key through (Some (record { ts = v.ts; key = x'; after = a }))
-copied s ts key through x x' v a first same_key same_value = rw (same_key, same_value) (record { left = first.left; version = first.version; committed = refl; first = first.first })
+pub first_left : (s : Stored) (ts : ℕ) (key : Option (List ℕ)) (through : ℕ) (rows : List Row) → AreNextIn s all_keys ts key through 1 rows → IsNextRow s ts key through (first_row rows)
+first_left s ts key through rows next = go next.all next.left next.first
+  where
+    go : (left : List Row) → AreLeftIn s all_keys ts key through left → rows ≡ take 1 left → IsNextRow s ts key through (first_row rows)
+    go [] are is = subst (λ l. IsNextRow s ts key through (first_row l)) (sym is) (λ r h. (are.each r).1 h)
+    go (r ∷ left) are is = subst (λ l. IsNextRow s ts key through (first_row l)) (sym is) (
+      (are.each r).0 (inl refl),
+      λ q h. false_from_ne_true _ (λ before. elim ((are.each q).1 h) [
+        | inl same ↦ rows_clash q r before (subst (λ o. row_lt o q ≡ true) (sym same) (subst (λ o. row_lt q o ≡ true) same before))
+        | inr there ↦ rows_clash q r before (are.rising.0 q there)
+      ]),
+    )
+
+pub first_taken : (rows rest : List Row) (row : Option Row) → rows ≡ option_to_list row ++ rest → (is_some row ≡ false → length rows ≡ 0) → first_row rows ≡ row
+first_taken rows rest (Some r) is none = ap first_row is
+first_taken [] rest None is none = refl
+first_taken (r ∷ rows) rest None is none = (let no : length (r ∷ rows) ≡ 0 = none refl in cc)

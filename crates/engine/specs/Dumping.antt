@@ -1,11 +1,12 @@
 -- The rows that a dump has still to write (this project's own).
-use Rattle.std.specs.Prelude.{List, MatchOption, None, Option, Some, [], filter, true, ℕ, ◌∷◌}
+use Rattle.std.specs.Prelude.{List, MatchOption, None, Option, Some, [], false, filter, ℕ, ◌∷◌, ◌≡◌}
 use Rattle.timestamps.specs.declared.row.Row.{Row}
 use Rattle.spans.specs.Effects.{Effect}
-use Rattle.restarts.specs.Rows.{left_rows}
-use Rattle.version_chain.specs.Following.{IsFirstAfter, IsNoneAfter, is_after_place}
+use Rattle.spans.specs.Streams.{row_lt}
+use Rattle.restarts.specs.Rows.{all_keys, left_rows}
+use Rattle.version_chain.specs.Following.{is_after_place}
 use Rattle.version_chain.specs.Stores.{Stored}
-use Rattle.version_chain.specs.declared.chain.Version.{Version}
+use Rattle.catch_up.specs.Left.{IsLeftIn}
 
 -- the rows that a dump has still to write behind a place, at or below `through`. The place is that of a key at a timestamp;
 -- without a key it is behind all keys of that
@@ -23,10 +24,11 @@ next_left p ts key through = first_row (left_after p ts key through)
 
 -- ---- by the store
 
--- the committed version that a row tells
-abbrev pub version_told : Row → Version
-version_told r = record { ts = r.ts; after = r.after; committed = true }
+-- a committed version behind the place, of any key
+abbrev pub IsLeftBehind : Stored → (ts : ℕ) (key : Option (List ℕ)) → (through : ℕ) → Row → Type 0
+IsLeftBehind s ts key through r = IsLeftIn s all_keys ts key through r
 
--- the row tells the first committed version behind the place; or there is none
+-- the row is the first of those behind the place; or there is none
 abbrev pub IsNextRow : Stored → (ts : ℕ) (key : Option (List ℕ)) → (through : ℕ) → Option Row → Type 0
-IsNextRow s ts key through row = MatchOption row (IsNoneAfter s ts key through) (λ r. IsFirstAfter s ts key through r.key (version_told r))
+IsNextRow s ts key through row = MatchOption row ((r : Row) → IsLeftBehind s ts key through r → ⊥)
+    (λ r. IsLeftBehind s ts key through r × ((q : Row) → IsLeftBehind s ts key through q → row_lt q r ≡ false))

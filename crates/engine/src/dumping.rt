@@ -16,9 +16,12 @@ ghost use Rattle.spans.specs.Effects.{effects_of};
 ghost use Rattle.engine.specs.Dumping.{IsNextRow, next_left};
 
 use crate::Engine;
-use std::alloc::AllocError;
+use catch_up::next_rows;
+use spans::span::Span;
+use std::alloc::{AllocError, Global};
+use std::iter::Iterator;
 use timestamps::key::Key;
-use timestamps::row::{Row, copy_after};
+use timestamps::row::Row;
 use version_chain::Store;
 
 impl Engine {
@@ -28,18 +31,20 @@ impl Engine {
     /// timestamp and then by key. The place is that of `key` at `ts`; without a key it is behind all keys of `ts`.
     pub fn next_left(
         &self,
+        alloc: Global,
         ts: u64,
         key: Option<&Key>,
         through: u64,
     ) -> Result<Option<Row>, AllocError>
         ensures { (h : List Event) → StandsFor self.now h → IfOk result (λ row. row ≡ next_left (effects_of h) ts (option_copied key.entry) through) }
     {
-        next_row(self.layers.rules.versions(), ts, key, through)
+        next_row(alloc, self.layers.rules.versions(), ts, key, through)
     }
 }
 
 /// The first committed version behind a place, as a row. The store has none that is dead.
 fn next_row(
+    alloc: Global,
     store: &Store,
     ts: u64,
     key: Option<&Key>,
@@ -47,15 +52,7 @@ fn next_row(
 ) -> Result<Option<Row>, AllocError>
     ensures { IfOk result (IsNextRow store.now ts (option_copied key.entry) through) }
 {
-    let mut committed = store.committed_after(ts, key, through);
-    let Some((key, version)) = committed.next() else {
-        return Ok(None);
-    };
-    let key = key.copy()?;
-    let after = copy_after(&version.after)?;
-    Ok(Some(Row {
-        ts: version.ts,
-        key,
-        after,
-    }))
+    let all = Span { lo: None, hi: None };
+    let rows = next_rows(alloc, store, &all, ts, key, through, 1)?;
+    Ok(rows.into_iter().next())
 }

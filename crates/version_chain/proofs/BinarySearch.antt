@@ -1,5 +1,5 @@
 -- A search by halves takes at most as many steps as what it searches has binary digits.
-use native.Mathlib.Numerals.{unary_clauses}
+use Rattle.std.proofs.lemmas.Grind.{common_steps}
 use Rattle.std.proofs.Common.{ℕ, zero, suc, ◌+◌, ◌/◌, ◌^◌, ◌<◌, ◌≤◌, arith}
 
 -- what is left to search has as many binary digits as there are steps left
@@ -8,6 +8,4 @@ AreLeft size count start digits = (e : ℕ) × (size < 2 ^ e) × (count + e ≤ 
 
 pub half_is_left : (size half count start digits : ℕ) → 0 < size → half ≤ size / 2 → AreLeft size count start digits → AreLeft half (suc count) start digits
 half_is_left size half count start digits some less (zero, small, room) = absurd (omega arith)
-half_is_left size half count start digits some less (suc e, small, room) =
-    let double = simp unary_clauses at small in
-    (e, omega arith, omega arith)
+half_is_left size half count start digits some less (suc e, small, room) = grind (arith, common_steps)

@@ -1,11 +1,10 @@
 -- What is found by key, where records lie by number: after one changed, one came and one went.
-use Rattle.std.proofs.Common.{◌≡◌, ℕ, ◌<◌, ◌+◌, ◌==◌, true, false, cond, List, [], ◌∷◌, length, Option, Some, None, refl, sym, ◌∙◌, ap, subst, arith, eq-eqb}
+use Rattle.std.proofs.lemmas.Grind.{common_steps}
+use Rattle.std.proofs.Common.{rules}
+use Rattle.std.proofs.Common.{◌≡◌, ℕ, ◌<◌, ◌==◌, true, false, cond, List, [], ◌∷◌, length, Option, Some, None, refl, sym, ◌∙◌, ap, arith, eq-eqb}
 use Rattle.std.specs.Prelude.{◌≢◌, bytes_eq, slice_index_or, slice_set}
-use Rattle.std.specs.BTreeMap.{is_at}
 use Rattle.std.proofs.lemmas.Bool.{both_ways}
-use Rattle.std.proofs.lemmas.Bool.Decides.{nat_tests}
-use Rattle.std.proofs.lemmas.List.{get_or-map, get_or-set_same, get_or-set_other, length-map, length-set, map-set}
-use Rattle.timestamps.specs.Bytes.{key_cmp}
+use Rattle.std.proofs.lemmas.List.{get_or-map, length-map, length-set, map-set}
 use Rattle.spans.proofs.Steps.{by_test, same_key, key_itself}
 use Rattle.key_table.specs.Numbers.{Numbered, number_in, IsNumberedAt, IsOwn}
 use Rattle.read_marks.specs.Readers.{is_kept, readers_of}
@@ -19,30 +18,22 @@ use Rattle.version_chain.specs.ByNumber.{AreLow, IsPlaced, IsPutAt, at_number, c
 
 pub found_is : {A : Type 0} (ns : Numbered) (xs : List (List A)) (none : List A) (x : List ℕ) → at_key (entries_of ns xs) none x ≡ at_number xs none (number_in ns x)
 found_is [] xs none x = refl
-found_is (e ∷ ns) xs none x = by_test (is_at (key_cmp x) e.0)
-    (λ here. rw here refl)
-    (λ there. rw there (found_is ns xs none x))
+found_is (e ∷ ns) xs none x = grind (arith, common_steps, found_is ns xs none x)
 
 -- ---- something is put at a number
 
 pub set_at : {A : Type 0} (xs : List (List A)) (n : ℕ) (v : List A) → n < length xs → IsPutAt xs (slice_set xs n v) n v
-set_at xs n v low m = by_test (n == m)
-    (λ same. let is : n ≡ m = grind (arith, nat_tests) in rw same (ap (λ k. slice_index_or (slice_set xs n v) k []) (sym is) ∙ get_or-set_same xs n v [] low))
-    (λ other. let differs : m ≢ n = (λ e. grind (arith, nat_tests)) in rw other (get_or-set_other xs n m v [] differs))
+set_at xs n v low m = grind (arith, common_steps)
 
 pub at_it : {A : Type 0} (xs ys : List (List A)) (n : ℕ) (v : List A) → IsPutAt xs ys n v → slice_index_or ys n [] ≡ v
 at_it xs ys n v put = let same : (n == n) ≡ true = eq-eqb n n refl in put n ∙ rw same refl
 
 pub at_other : {A : Type 0} (xs ys : List (List A)) (n m : ℕ) (v : List A) → IsPutAt xs ys n v → m ≢ n → slice_index_or ys m [] ≡ slice_index_or xs m []
-at_other xs ys n m v put differs = put m ∙ by_test (n == m)
-    (λ same. absurd (differs (let is : n ≡ m = grind (arith, nat_tests) in sym is)))
-    (λ other. rw other refl)
+at_other xs ys n m v put differs = grind (arith, common_steps)
 
 -- a key that has a number keeps it
 pub numbered_still : (ns : Numbered) (x : List ℕ) (n : ℕ) → number_in ns x ≡ Some n → IsNumberedAt ns ns x (Some n)
-numbered_still ns x n is y = by_test (bytes_eq x y)
-    (λ here. rw here (ap (number_in ns) (sym (same_key x y here)) ∙ is))
-    (λ there. rw there refl)
+numbered_still ns x n is y = search (by_test, same_key, rules, arith)
 
 -- the numbers of two keys differ
 other_number : (ns : Numbered) (x y : List ℕ) (n m : ℕ) → IsOwn ns x n → bytes_eq x y ≡ false → number_in ns y ≡ Some m → m ≢ n
@@ -83,26 +74,10 @@ readers_at rs n r low is = get_or-map (λ (q : Record). readers_of q.readers) rs
 
 -- a record takes the place of one
 pub placed : (rs : List Record) (n : ℕ) (r : Record) → n < length rs → IsPlaced rs (slice_set rs n r) n r
-placed rs n r low =
-    let long = length-set rs n r in
-    let chains : length (chains_in rs) ≡ length rs = length-map rs _ in
-    let readers : length (readers_in rs) ≡ length rs = length-map rs _ in
-    record {
-      chains = subst (λ cs. IsPutAt (chains_in rs) cs n r.chain) (sym (map-set _ rs n r)) (set_at (chains_in rs) n r.chain (omega arith));
-      readers = subst (λ qs. IsPutAt (readers_in rs) qs n (readers_of r.readers)) (sym (map-set _ rs n r)) (set_at (readers_in rs) n (readers_of r.readers) (omega arith));
-      low = omega arith;
-      more = omega arith;
-    }
-
-pub low_still : (ns ms : Numbered) (x : List ℕ) (n : ℕ) (most more : ℕ) → AreLow ns most → IsNumberedAt ns ms x (Some n) → n < more → most < more + 1 → AreLow ms more
-low_still ns ms x n most more low numbered own over y m is = by_test (bytes_eq x y)
-    (λ here. (let one : Some m ≡ Some n = sym is ∙ numbered y ∙ rw here refl in let e : m ≡ n = cc in omega arith))
-    (λ there. (let was : m < most = low y m (sym (numbered y ∙ rw there refl) ∙ is) in omega arith))
+placed rs n r low = grind (arith, common_steps, length-set, length-map, map-set, set_at)
 
 pub low_less : (ns ms : Numbered) (x : List ℕ) (most : ℕ) → AreLow ns most → IsNumberedAt ns ms x None → AreLow ms most
-low_less ns ms x most low numbered y m is = by_test (bytes_eq x y)
-    (λ here. (let no : Some m ≡ None = sym is ∙ numbered y ∙ rw here refl in cc))
-    (λ there. low y m (sym (numbered y ∙ rw there refl) ∙ is))
+low_less ns ms x most low numbered y m is = grind (arith, common_steps)
 
 -- ---- of what is stored
 

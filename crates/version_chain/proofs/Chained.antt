@@ -1,27 +1,23 @@
 -- A chain's versions up to a horizon, and its newest committed one there.
-use Rattle.std.proofs.Common.{◌≡◌, ℕ, zero, suc, ◌+◌, ◌<◌, ◌≤◌, ◌-◌, ◌==◌, Bool, true, false, ◌&&◌, ◌||◌, List, [], ◌∷◌, length, take, drop, get_or, All, Some, None, refl, sym, ◌∙◌, ap, inl, inr, arith, length-drop, get_or-drop}
+use Rattle.std.proofs.lemmas.Grind.{common_steps}
+use Rattle.std.proofs.Common.{◌≡◌, ℕ, zero, suc, ◌<◌, ◌≤◌, ◌-◌, ◌==◌, Bool, true, false, ◌&&◌, ◌||◌, List, [], ◌∷◌, length, take, drop, get_or, All, Some, None, refl, sym, ◌∙◌, ap, inr, arith}
 use Rattle.std.specs.Prelude.{nat_le}
 use Rattle.std.specs.List.{filter}
-use Rattle.std.proofs.lemmas.Bool.{and_right, eqb-true, eqb-false, or_from}
-use Rattle.std.proofs.lemmas.List.{get_or_default}
+use Rattle.std.proofs.lemmas.Bool.{and_right, eqb-true, or_from}
 use Rattle.std.proofs.lemmas.Bool.Decides.{nat_tests}
 use Rattle.spans.proofs.Steps.{by_test, newest_only}
 use Rattle.version_chain.specs.declared.chain.Version.{Version}
 use Rattle.version_chain.specs.Versions.{AreAbove, DoRise, version_of, IsPlaceAbove}
 use Rattle.version_chain.specs.Dead.{after_if_committed, newest_of, is_dead_version, is_dead_at}
-use Rattle.version_chain.proofs.Places.{rises_at, found, same_ts}
+use Rattle.version_chain.proofs.Places.{rises_at, found}
 
 above_filtered : (t : ℕ) (p : Version → Bool) (vs : List Version) → AreAbove t vs → AreAbove t (filter p vs)
 above_filtered t p [] a = tt
-above_filtered t p (v ∷ vs) a = by_test (p v)
-    (λ on. rw on (a.0, above_filtered t p vs a.1))
-    (λ off. rw off (above_filtered t p vs a.1))
+above_filtered t p (v ∷ vs) a = grind (arith, common_steps, above_filtered t p vs a.1)
 
 pub rises_kept : (p : Version → Bool) (vs : List Version) → DoRise vs → DoRise (filter p vs)
 rises_kept p [] r = tt
-rises_kept p (v ∷ vs) r = by_test (p v)
-    (λ on. rw on (above_filtered v.ts p vs r.0, rises_kept p vs r.1))
-    (λ off. rw off (rises_kept p vs r.1))
+rises_kept p (v ∷ vs) r = grind (arith, common_steps, by_test, above_filtered, rises_kept p vs r.1)
 
 -- nothing above a horizon is dead by it
 high_lives : (n top : ℕ) (v : Version) → nat_le v.ts n ≡ false → is_dead_version n top v ≡ false
@@ -29,12 +25,7 @@ high_lives n top v high = by_test v.committed (λ on. rw (on, high) refl) (λ of
 
 -- so those from the place above it on live
 pub live_above : (n top place : ℕ) (vs : List Version) → IsPlaceAbove vs n place → All (λ (v : Version). is_dead_version n top v ≡ false) (drop place vs)
-live_above n top place vs p k d lt =
-    let long = length-drop place vs in
-    let at : get_or (drop place vs) k d ≡ get_or vs (place + k) d = get_or-drop place vs k d in
-    let up : n < (get_or vs (place + k) d).ts = p.above (place + k) d (omega arith) (omega arith) in
-    let high : nat_le (get_or vs (place + k) d).ts n ≡ false = grind (arith, nat_tests) in
-    ap (is_dead_version n top) at ∙ high_lives n top (get_or vs (place + k) d) high
+live_above n top place vs p k d lt = grind (arith, common_steps)
 
 -- what is dead stands before the place
 pub dead_before : (n top place : ℕ) (vs : List Version) (i : ℕ) → IsPlaceAbove vs n place → is_dead_at n top (take place vs) i ≡ is_dead_at n top vs i
@@ -62,23 +53,10 @@ pub record IsTopBelow (vs : List Version) (n place : ℕ) : Type 0 where
   pub undone : (k : ℕ) (d : Version) → place ≤ k → k < length vs → (get_or vs k d).ts ≤ n → (get_or vs k d).committed ≡ false
 
 pub top_from : (vs : List Version) (n place : ℕ) → IsPlaceAbove vs n place → IsTopBelow vs n place
-top_from vs n place p = record {
-  within = p.within;
-  below = p.below;
-  undone = λ k d at lt low. absurd (let up : n < (get_or vs k d).ts = p.above k d at lt in omega arith);
-}
-
-same_done : (vs : List Version) (k : ℕ) (d e : Version) → k < length vs → (get_or vs k d).committed ≡ (get_or vs k e).committed
-same_done vs k d e lt = ap (λ (v : Version). v.committed) (get_or_default vs k d e lt)
+top_from vs n place p = grind (arith, common_steps)
 
 pub top_lower : (vs : List Version) (n place : ℕ) (v : Version) → IsTopBelow vs n place → 0 < place → v ≡ get_or vs (place - 1) v → v.committed ≡ false → IsTopBelow vs n (place - 1)
-top_lower vs n place v p some is off = record {
-  within = omega (arith, p.within);
-  below = λ k d lt. p.below k d (omega arith);
-  undone = λ k d at lt low. by_test (k == place - 1)
-      (λ here. let e : k ≡ place - 1 = eqb-true k _ here in ap (λ j. (get_or vs j d).committed) e ∙ same_done vs (place - 1) d v (omega (arith, p.within)) ∙ sym (ap (λ (w : Version). w.committed) is) ∙ off)
-      (λ there. p.undone k d (let ne = eqb-false k (place - 1) there in grind (arith, ne)) lt low);
-}
+top_lower vs n place v p some is off = grind (arith, common_steps)
 
 undone_at : (vs : List Version) (i : ℕ) → ((k : ℕ) (d : Version) → k < length vs → (get_or vs k d).ts ≡ i → (get_or vs k d).committed ≡ false) → after_if_committed (version_of vs i) ≡ None
 undone_at [] i h = refl
@@ -87,11 +65,7 @@ undone_at (v ∷ vs) i h = by_test (v.ts == i)
     (λ there. rw there (undone_at vs i (λ k d lt same. h (suc k) d (omega arith) same)))
 
 pub top_none : (vs : List Version) (n place : ℕ) → IsTopBelow vs n place → place ≡ 0 → newest_of vs n ≡ 0
-top_none vs n place p none = ap (λ m. m.ts) (newest_only (λ i. after_if_committed (version_of vs i)) n 0 None (record {
-  at_most = omega arith;
-  gap = λ i low high. undone_at vs i (λ k d lt same. p.undone k d (omega arith) lt (omega arith));
-  has = inl (refl, refl);
-}))
+top_none vs n place p none = ap (λ m. m.ts) (newest_only (λ i. after_if_committed (version_of vs i)) n 0 None (grind (arith, common_steps, undone_at)))
 
 pub top_is : (vs : List Version) (n place : ℕ) (v : Version) → DoRise vs → IsTopBelow vs n place → 0 < place → v ≡ get_or vs (place - 1) v → v.committed ≡ true → 0 < v.ts → newest_of vs n ≡ v.ts
 top_is vs n place v r p some is on pos =
@@ -102,9 +76,6 @@ top_is vs n place v r p some is on pos =
       at_most = (let low : (get_or vs (place - 1) v).ts ≤ n = p.below (place - 1) v (omega arith) in omega arith);
       gap = λ i low high. undone_at vs i (λ k d l same.
           let before : k < place - 1 → (get_or vs k d).ts < (get_or vs (place - 1) d).ts = λ m. rises_at vs k (place - 1) d r m lt in
-          let at : k ≡ place - 1 → (get_or vs k d).ts ≡ (get_or vs (place - 1) d).ts = λ m. ap (λ j. (get_or vs j d).ts) m in
-          let other : (get_or vs (place - 1) d).ts ≡ (get_or vs (place - 1) v).ts = same_ts vs (place - 1) d v lt in
-          let from : place ≤ k = grind (arith, before, at) in
-          p.undone k d from l (omega arith));
+          grind (arith, common_steps));
       has = inr (pos, ap after_if_committed one ∙ rw on refl);
     }))

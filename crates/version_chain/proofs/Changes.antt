@@ -1,9 +1,11 @@
 -- What is found in the chains of all keys after one of them changed.
-use Rattle.std.proofs.Common.{◌≡◌, ℕ, ◌==◌, Bool, cond, false, List, [], ◌∷◌, Option, Some, None, Result, Ok, Err, true, refl, sym, ◌∙◌, ap, subst, eq-eqb}
-use Rattle.std.specs.Prelude.{option_map, bytes_eq, is_none, OnOk, OnErr}
+use Rattle.std.proofs.Common.{arith}
+use Rattle.std.proofs.Common.{rules}
+use Rattle.std.proofs.Common.{◌≡◌, ℕ, ◌==◌, Bool, cond, false, List, [], ◌∷◌, Option, Some, None, Result, Ok, Err, true, refl, sym, ◌∙◌, ap, subst}
+use Rattle.std.specs.Prelude.{is_none, OnOk, OnErr}
 use Rattle.spans.proofs.Steps.{by_test, same_key}
 use Rattle.version_chain.specs.declared.chain.Version.{Version}
-use Rattle.version_chain.specs.Versions.{version_of, as_committed}
+use Rattle.version_chain.specs.Versions.{version_of}
 use Rattle.version_chain.specs.declared.chains.Placed.{Placed}
 use Rattle.version_chain.specs.declared.chains.Placed.TheVariants.{New, Over}
 use Rattle.version_chain.specs.Marking.{IsCrossedIn}
@@ -15,11 +17,7 @@ abbrev pub IsEdited : List Version → List Version → ℕ → (Option Version 
 IsEdited vs ws t f = (i : ℕ) → version_of ws i ≡ cond (t == i) (f (version_of vs i)) (version_of vs i)
 
 pub changed : (es fs : Stored) (x : List ℕ) (ws : List Version) (t : ℕ) (f : Option Version → Option Version) → IsPut es fs x ws → IsEdited (chain_of es x) ws t f → IsChangedAt es fs x t f
-changed es fs x ws t f put edit y i = ap (λ us. version_of us i) (put y) ∙ by_test (bytes_eq x y)
-    (λ here.
-    let one : version_of ws i ≡ cond (t == i) (f (found_in es y i)) (found_in es y i) = subst (λ z. version_of ws i ≡ cond (t == i) (f (found_in es z i)) (found_in es z i)) (same_key x y here) (edit i) in
-    rw here (one ∙ by_test (t == i) (λ same. rw same refl) (λ other. rw other refl)))
-    (λ there. rw there (by_test (t == i) (λ same. rw same refl) (λ other. rw other refl)))
+changed es fs x ws t f put edit y i = search (by_test, same_key, rules, arith)
 
 -- a chain of one version, where there was none
 pub edited_one : (vs ws : List Version) (v : Version) → vs ≡ [] → ws ≡ v ∷ [] → IsEdited vs ws v.ts (λ _. Some v)
@@ -33,19 +31,6 @@ none_first ws v one none = (let no : [] ≡ v ∷ [] = sym none ∙ one in cc)
 none_empty : (vs : List Version) (i : ℕ) (v : Version) → version_of vs i ≡ Some v → vs ≡ [] → ⊥
 none_empty vs i v some none = (let no : None ≡ Some v = sym (ap (λ us. version_of us i) none) ∙ some in cc)
 
-pub filled_write : {A E : Type 0} (r : Result A E) (vs ws : List Version) (v : Version) → (vs ≡ [] → ⊥) → OnOk r (IsEdited vs ws v.ts (λ _. Some v)) → OnErr r (ws ≡ vs) → ws ≡ [] → ⊥
-filled_write (Ok x) vs ws v some ok err = none_empty ws v.ts v (ok v.ts ∙ (let e : (v.ts == v.ts) ≡ true = eq-eqb _ _ refl in rw e refl))
-filled_write (Err x) vs ws v some ok err = λ none. some (sym err ∙ none)
-
-pub filled_commit : (vs ws : List Version) (t : ℕ) → (vs ≡ [] → ⊥) → IsEdited vs ws t (option_map as_committed) → ws ≡ [] → ⊥
-filled_commit [] ws t some edit = λ none. some refl
-filled_commit (v ∷ vs) ws t some edit =
-    let e : (v.ts == v.ts) ≡ true = eq-eqb _ _ refl in
-    let one : version_of (v ∷ vs) v.ts ≡ Some v = rw e refl in
-    by_test (t == v.ts)
-    (λ same. none_empty ws v.ts (as_committed v) (edit v.ts ∙ rw (same, e) refl))
-    (λ other. none_empty ws v.ts v (edit v.ts ∙ rw (other, e) refl))
-
 -- ---- the same chains
 
 pub found_alike : (s s' : Stored) → HaveSameChains s s' → (y : List ℕ) (i : ℕ) → found_in s' y i ≡ found_in s y i
@@ -56,19 +41,11 @@ changed_alike s m s' x t f change same y i = found_alike m s' same y i ∙ chang
 
 -- where x has no version, a change of what is there changes nothing
 pub unchanged : (s : Stored) (x : List ℕ) (t : ℕ) (f : Option Version → Option Version) → chain_of s x ≡ [] → f None ≡ None → IsChangedAt s s x t f
-unchanged s x t f none keeps = changed s s x [] t f
-    (λ y. by_test (bytes_eq x y)
-    (λ here. rw here (subst (λ z. chain_of s z ≡ []) (same_key x y here) none))
-    (λ there. rw there refl))
-    (λ i.
-    let same : None ≡ cond (t == i) (f None) None = by_test (t == i) (λ here. rw here (sym keeps)) (λ there. rw there refl) in
-    same ∙ ap (λ vs. cond (t == i) (f (version_of vs i)) (version_of vs i)) (sym none))
+unchanged s x t f none keeps = search (changed, by_test, same_key, rules, arith)
 
 -- a chain without a version is put where there was none
 pub put_nothing : (s s' : Stored) (x : List ℕ) (vs : List Version) → vs ≡ [] → chain_of s x ≡ [] → IsPut s s' x vs → HaveSameChains s s'
-put_nothing s s' x vs empty none put y = put y ∙ by_test (bytes_eq x y)
-    (λ here. rw here (empty ∙ sym (subst (λ z. chain_of s z ≡ []) (same_key x y here) none)))
-    (λ there. rw there refl)
+put_nothing s s' x vs empty none put y = search (by_test, same_key, rules, arith)
 
 pub by_result : {A E P : Type 0} (r : Result A E) → OnOk r P → OnErr r P → P
 by_result (Ok x) ok err = ok

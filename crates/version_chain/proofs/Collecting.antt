@@ -1,4 +1,5 @@
 -- A collection: from key to key, and from timestamp to timestamp.
+use Rattle.std.proofs.lemmas.Grind.{common_steps}
 use Rattle.std.proofs.Common.{◌≡◌, ℕ, ◌<◌, ◌+◌, ◌-◌, ◌≤◌, ◌⊎◌, ◌==◌, Bool, true, false, cond, ◌&&◌, List, [], ◌∷◌, length, Option, Some, None, refl, sym, ◌∙◌, ap, inl, inr, arith}
 use Rattle.std.specs.Prelude.{bytes_eq, is_some, not}
 use Rattle.std.specs.List.{filter}
@@ -17,7 +18,7 @@ use Rattle.version_chain.specs.Dead.{is_dead_in, is_dropped_in, newest_of, ArePa
 use Rattle.version_chain.specs.Indexes.{is_listed, AreTakenAlike, IsFilled, IsFirstBetween, IsIndexOf, IsNoneBetween, IsSound, IsTakenAlone}
 use Rattle.version_chain.proofs.Dead.{top_above}
 use Rattle.version_chain.proofs.Indexes.{next_or_rest}
-use Rattle.version_chain.proofs.Thinning.{done_some, found_before, partly_more, partly_next, partly_none, partly_one, settled_here, settled_partly, settled_still}
+use Rattle.version_chain.proofs.Thinning.{done_some, found_before, partly_more, partly_next, partly_one, settled_here, settled_partly, settled_still}
 
 -- ---- the keys of one timestamp
 
@@ -32,14 +33,7 @@ pub record IsThinning (es fs : Stored) (index : Index) (t n count from : ℕ) (r
 
 pub thinning_first : (es : Stored) (index index' : Index) (t n count from : ℕ) (keys : List (List ℕ)) → IsSound es index count from → ((y : List ℕ) → has y keys ≡ is_listed index y t)
     → ((y : List ℕ) (i : ℕ) → is_listed index' y i ≡ cond (t == i) false (is_listed index y i)) → IsTakenAlone index' t → IsThinning es es index' t n count from keys
-thinning_first es index index' t n count from keys sound among others taken = record {
-  partly = partly_none es n;
-  settled = λ y some. inr (among y ∙ sound.indexed y t ∙ some);
-  before = sound.settled;
-  counted = sound.counted;
-  listed = λ y i. others y i ∙ ap (cond (t == i) false) (sound.indexed y i);
-  taken = taken;
-}
+thinning_first es index index' t n count from keys sound among others taken = grind (arith, common_steps)
 
 pub thinning_next : (es fs gs : Stored) (index index' : Index) (t n count from r : ℕ) (x : List ℕ) (rest more : List (List ℕ)) → rest ≡ x ∷ more → IsThinnedAt fs gs x n → HaveSameMarks fs gs → ((m : ℕ) → IsCountOf fs m → (r ≤ m) × IsCountOf gs (m - r))
     → ((y : List ℕ) (i : ℕ) → is_listed index' y i ≡ cond (bytes_eq x y && is_dead_in fs n y i) false (is_listed index y i)) → AreTakenAlike index index'
@@ -66,10 +60,7 @@ thinning_next es fs gs index index' t n count from r x rest more is thin marks f
 
 -- where none is left, nothing is dead of the keys with a version at t
 pub thinning_ends : (es fs : Stored) (index : Index) (t n count from : ℕ) (rest : List (List ℕ)) → [] ≡ rest → IsThinning es fs index t n count from rest → (y : List ℕ) (i : ℕ) → is_some (found_in fs y t) ≡ true → is_dead_in fs n y i ≡ false
-thinning_ends es fs index t n count from rest none s y i some = elim (s.settled y (ap is_some (sym (found_before es fs n s.partly y t some)) ∙ some)) [
-  | inl settled ↦ settled i
-  | inr any ↦ absurd (let no : false ≡ true = ap (has y) none ∙ any in (let f : false ≡ true = no in cc))
-]
+thinning_ends es fs index t n count from rest none s y i some = grind (arith, common_steps)
 
 -- those of the keys that still have a version at t were put back
 pub thinning_sound : (es fs : Stored) (index index' index'' : Index) (t n count from : ℕ) (keys kept : List (List ℕ)) (rest : List (List ℕ)) → IsIndexOf es index → ((y : List ℕ) → has y keys ≡ is_listed index y t)

@@ -1,4 +1,6 @@
 -- How many versions there are after some came or went.
+use Rattle.std.proofs.lemmas.Grind.{common_steps}
+use Rattle.std.proofs.Common.{rules}
 use Rattle.std.proofs.Common.{◌≡◌, ℕ, ◌<◌, ◌≤◌, ◌-◌, ◌+◌, ◌==◌, Bool, true, false, ◌&&◌, List, [], ◌∷◌, length, map, cond, Option, Some, None, refl, sym, ◌∙◌, ap, subst, inl, inr, arith, eq-eqb}
 use Rattle.std.specs.Prelude.{bytes_eq, is_some, is_none, not, ◌↔◌}
 use Rattle.std.specs.List.{filter}
@@ -23,11 +25,7 @@ abbrev is_named : List ℕ → ℕ → VersionName → Bool
 is_named x t v = (t == v.ts) && bytes_eq x v.key
 
 named : (x : List ℕ) (t : ℕ) (v : VersionName) → is_named x t v ≡ true → version_name x t ≡ v
-named x t v e =
-    let both = and_parts (t == v.ts) (bytes_eq x v.key) e in
-    let at : t ≡ v.ts = eqb-true t v.ts both.0 in
-    let key : x ≡ v.key = same_key x v.key both.1 in
-    ap (λ y. version_name y t) key ∙ ap (version_name v.key) at
+named x t v e = search (and_parts, eqb-true, same_key, rules, arith)
 
 name_itself : (x : List ℕ) (t : ℕ) → is_named x t (version_name x t) ≡ true
 name_itself x t = let at : (t == t) ≡ true = eq-eqb t t refl in let key : bytes_eq x x ≡ true = key_itself x in rw (at, key) refl
@@ -47,17 +45,7 @@ counted_more es fs x t n a h none c = record {
   versions = version_name x t ∷ c.versions;
   all = record {
     distinct = (λ i. (let no : false ≡ true = sym (none_more (found_in es x t) none) ∙ (c.all.each (version_name x t)).0 i in cc), c.all.distinct);
-    each = λ v. (
-      λ i. by_test (is_named x t v)
-          (λ here. there_at es fs x t (λ _. Some a) v h here)
-          (λ off. elim i [
-            | inl e ↦ (let no : true ≡ false = sym (name_itself x t) ∙ ap (is_named x t) e ∙ off in cc)
-            | inr k ↦ there_off es fs x t (λ _. Some a) v h off ∙ (c.all.each v).0 k
-          ]),
-      λ there. by_test (is_named x t v)
-          (λ here. inl (named x t v here))
-          (λ off. inr ((c.all.each v).1 (sym (there_off es fs x t (λ _. Some a) v h off) ∙ there))),
-    );
+    each = λ v. grind (arith, common_steps, by_test, there_at, name_itself, there_off, named);
   };
   count = (let before : length c.versions ≡ n = c.count in omega arith);
 }
@@ -90,11 +78,7 @@ abbrev pub AreWrittenAt : Stored → ℕ → List (List ℕ) → Type 0
 AreWrittenAt es t keys = (y : List ℕ) → has y keys ≡ is_some (found_in es y t)
 
 has_key : (es : Stored) (t : ℕ) (keys : List (List ℕ)) → AreWrittenAt es t keys → (x : List ℕ) → Has x keys ↔ (is_some (version_in es x t) ≡ true)
-has_key es t keys written x =
-    let there : is_some (version_in es x t) ≡ has x keys = after_there (found_in es x t) ∙ sym (written x) in (
-      λ i. there ∙ (has_in x keys).0 (has_is x keys i),
-      λ e. in_has x keys ((has_in x keys).1 (sym there ∙ e)),
-    )
+has_key es t keys written x = grind (arith, common_steps, has, after_there, has_in, has_is, in_has)
 
 -- they are counted
 pub count_at : (es : Stored) (t n : ℕ) (keys : List (List ℕ)) → RisingKeys keys → AreWrittenAt es t keys → n ≡ length keys → IsCountAt es t n
@@ -106,16 +90,7 @@ names_at t keys = map (λ x. version_name x t) keys
 
 has_name : (t : ℕ) (v : VersionName) (keys : List (List ℕ)) → Has v (names_at t keys) ↔ ((t ≡ v.ts) × Has v.key keys)
 has_name t v [] = (λ i. absurd i, λ e. e.1)
-has_name t v (x ∷ keys) = let rest = has_name t v keys in (
-  λ i. elim i [
-    | inl here ↦ (ap (λ (u : VersionName). u.ts) here, inl (ap (λ (u : VersionName). u.key) here))
-    | inr there ↦ (let r = rest.0 there in (r.0, inr r.1))
-  ],
-  λ e. elim e.1 [
-    | inl here ↦ inl (ap (λ y. version_name y t) here ∙ ap (version_name v.key) e.0)
-    | inr there ↦ inr (rest.1 (e.0, there))
-  ],
-)
+has_name t v (x ∷ keys) = grind (arith, common_steps, has_name t v keys)
 
 distinct_at : (t : ℕ) (keys : List (List ℕ)) → AreDistinct keys → AreDistinct (names_at t keys)
 distinct_at t [] d = tt
@@ -168,12 +143,7 @@ names_of x vs = map (λ (v : Version). version_name x v.ts) vs
 
 named_high : (x : List ℕ) (t : ℕ) (q : Version → Bool) (vs : List Version) (v : VersionName) → AreAbove t vs → Has v (names_of x (filter q vs)) → t < v.ts
 named_high x t q [] v a i = absurd i
-named_high x t q (w ∷ vs) v a i = by_test (q w)
-    (λ on. elim (subst (λ b. Has v (names_of x (cond b (w ∷ filter q vs) (filter q vs)))) on i) [
-      | inl here ↦ subst (λ (u : VersionName). t < u.ts) here a.0
-      | inr there ↦ named_high x t q vs v a.1 there
-    ])
-    (λ off. named_high x t q vs v a.1 (subst (λ b. Has v (names_of x (cond b (w ∷ filter q vs) (filter q vs)))) off i))
+named_high x t q (w ∷ vs) v a i = grind (arith, common_steps, named_high x t q vs v a.1)
 
 distinct_names : (x : List ℕ) (q : Version → Bool) (vs : List Version) → DoRise vs → AreDistinct (names_of x (filter q vs))
 distinct_names x q [] r = tt

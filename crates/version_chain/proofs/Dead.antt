@@ -1,14 +1,15 @@
 -- What is dead by a horizon, and what is so after a change.
+use Rattle.std.proofs.lemmas.Grind.{common_steps}
 use Rattle.std.proofs.Common.{◌≡◌, ℕ, ◌<◌, ◌≤◌, ◌⊎◌, ◌==◌, Bool, true, false, cond, ◌&&◌, ◌||◌, List, [], ◌∷◌, Option, Some, None, refl, sym, ◌∙◌, ap, subst, inl, inr, arith}
 use Rattle.std.specs.Prelude.{is_none, not, nat_le, nat_lt}
 use Rattle.std.specs.List.{filter}
-use Rattle.std.proofs.lemmas.Bool.{and_parts, and_from, or_cases, or_left, or_right, eqb-true, leb-true, le-leb, ltb-true, lt-ltb, ne_eqb, both_ways, false_from_ne_true}
+use Rattle.std.proofs.lemmas.Bool.{and_from, or_left, or_right, eqb-true, le-leb, ltb-true, lt-ltb, both_ways, false_from_ne_true}
 use Rattle.std.proofs.lemmas.Bool.Decides.{nat_tests}
 use Rattle.std.proofs.Math.Bool.{or-false}
 use Rattle.spans.specs.Effects.{After}
 use Rattle.spans.specs.Collection.{is_delete}
 use Rattle.spans.specs.Newest.{newest}
-use Rattle.spans.proofs.Steps.{by_test, newest_is, newest_reaches, newest_same, newest_fewer, newest_rises}
+use Rattle.spans.proofs.Steps.{by_test, newest_is, newest_reaches, newest_fewer, newest_rises}
 use Rattle.version_chain.specs.declared.chain.Version.{Version}
 use Rattle.version_chain.specs.Versions.{AreAbove, DoRise, version_of}
 use Rattle.version_chain.specs.Stores.{after_of, is_committed}
@@ -36,12 +37,7 @@ pub record IsDead (f : ℕ → Option Version) (n t : ℕ) : Type 0 where
   pub why : (is_delete (after_of (f t)) ≡ true) ⊎ (t < (newest (λ i. after_if_committed (f i)) n).ts)
 
 pub dead_parts : (f : ℕ → Option Version) (n t : ℕ) → is_dead_of f n t ≡ true → IsDead f n t
-dead_parts f n t is =
-    let a = and_parts _ _ is in let b = and_parts _ _ a.1 in record {
-      done = a.0;
-      low = leb-true _ _ b.0;
-      why = elim (or_cases _ _ b.1) [ inl d ↦ inl d | inr s ↦ inr (ltb-true _ _ s) ];
-    }
+dead_parts f n t is = grind (arith, common_steps)
 
 pub dead_from : (f : ℕ → Option Version) (n t : ℕ) → IsDead f n t → is_dead_of f n t ≡ true
 dead_from f n t s = and_from _ _ s.done (and_from _ _ (le-leb t n s.low) (elim s.why [ inl d ↦ or_left _ _ d | inr l ↦ or_right _ _ (lt-ltb _ _ l) ]))
@@ -69,17 +65,10 @@ live_fewer f g n fewer none t = false_from_ne_true _ (λ is. both_ways _ (none t
 
 -- what is dead stays so by a higher horizon
 pub live_lower : (f : ℕ → Option Version) (m n : ℕ) → m ≤ n → ((t : ℕ) → is_dead_of f n t ≡ false) → (t : ℕ) → is_dead_of f m t ≡ false
-live_lower f m n low none t = false_from_ne_true _ (λ is.
-    let s = dead_parts f m t is in
-    let up : (newest (λ i. after_if_committed (f i)) m).ts ≤ (newest (λ i. after_if_committed (f i)) n).ts = newest_rises (λ i. after_if_committed (f i)) m n low in
-    let l : t ≤ m = s.low in
-    both_ways _ (none t) (dead_from f n t (record { done = s.done; low = omega arith; why = elim s.why [ inl d ↦ inl d | inr l ↦ inr (omega arith) ] })))
+live_lower f m n low none t = grind (arith, common_steps, false_from_ne_true, dead_parts, newest_rises, both_ways, dead_from)
 
 pub same_dead : (f g : ℕ → Option Version) (n t : ℕ) → ((i : ℕ) → g i ≡ f i) → is_dead_of g n t ≡ is_dead_of f n t
-same_dead f g n t same =
-    let top : newest (λ i. after_if_committed (g i)) n ≡ newest (λ i. after_if_committed (f i)) n = newest_same (λ i. after_if_committed (g i)) (λ i. after_if_committed (f i)) n (λ i low. ap after_if_committed (same i)) in
-    ap (λ o. is_committed o && (nat_le t n && (is_delete (after_of o) || nat_lt t (newest (λ i. after_if_committed (g i)) n).ts))) (same t)
-    ∙ ap (λ m. is_committed (f t) && (nat_le t n && (is_delete (after_of (f t)) || nat_lt t m.ts))) top
+same_dead f g n t same = grind (arith, common_steps)
 
 -- once what is dead has gone nothing is dead
 pub live_left : (f g : ℕ → Option Version) (n : ℕ) → ((i : ℕ) → g i ≡ cond (is_dead_of f n i) None (f i)) → (t : ℕ) → is_dead_of g n t ≡ false
@@ -127,9 +116,7 @@ top_above f m n t none is =
 -- the version of a timestamp has it
 pub of_its_ts : (vs : List Version) (i : ℕ) (v : Version) → version_of vs i ≡ Some v → v.ts ≡ i
 of_its_ts [] i v e = (let no : None ≡ Some v = e in cc)
-of_its_ts (w ∷ vs) i v e = by_test (w.ts == i)
-    (λ here. let same : Some w ≡ Some v = rw here at e in let one : w ≡ v = cc in ap (λ (u : Version). u.ts) (sym one) ∙ eqb-true w.ts i here)
-    (λ there. of_its_ts vs i v (rw there at e))
+of_its_ts (w ∷ vs) i v e = grind (arith, common_steps, of_its_ts vs i v)
 
 abbrev pub holds : ℕ → ℕ → Option Version → Bool
 holds n top None = false
@@ -137,18 +124,11 @@ holds n top (Some v) = is_dead_version n top v
 
 none_above : (n top t : ℕ) (vs : List Version) → AreAbove t vs → (is_dead_at n top vs t ≡ false) × (version_of vs t ≡ None)
 none_above n top t [] a = (refl, refl)
-none_above n top t (v ∷ vs) a =
-    let up : t < v.ts = a.0 in
-    let off : (v.ts == t) ≡ false = ne_eqb v.ts t (λ same. omega arith) in
-    let more = none_above n top t vs a.1 in (rw off more.0, rw off more.1)
+none_above n top t (v ∷ vs) a = grind (arith, common_steps, none_above n top t vs a.1)
 
 pub at_found : (n top : ℕ) (vs : List Version) (i : ℕ) → DoRise vs → is_dead_at n top vs i ≡ holds n top (version_of vs i)
 at_found n top [] i r = refl
-at_found n top (v ∷ vs) i r = by_test (v.ts == i)
-    (λ here.
-    let rest : is_dead_at n top vs i ≡ false = subst (λ t. is_dead_at n top vs t ≡ false) (eqb-true v.ts i here) (none_above n top v.ts vs r.0).0 in
-    rw (here, rest) (or-false (is_dead_version n top v)))
-    (λ there. rw there (at_found n top vs i r.1))
+at_found n top (v ∷ vs) i r = grind (arith, common_steps, by_test, eqb-true, none_above, or-false, at_found n top vs i r.1)
 
 dead_found : (n i : ℕ) (top : ℕ) (o : Option Version) → ((v : Version) → o ≡ Some v → v.ts ≡ i) → (is_committed o && (nat_le i n && (is_delete (after_of o) || nat_lt i top))) ≡ holds n top o
 dead_found n i top None its = refl
@@ -166,6 +146,4 @@ left_filtered n top (v ∷ vs) i r = by_test (is_dead_version n top v)
     let none : version_of vs i ≡ None = subst (λ t. version_of vs t ≡ None) (eqb-true v.ts i here) (none_above n top v.ts vs r.0).1 in
     rw (on, here) (rw on (left_filtered n top vs i r.1 ∙ ap (λ o. cond (holds n top o) None o) none)))
     (λ there. rw (on, there) (left_filtered n top vs i r.1)))
-    (λ off. by_test (v.ts == i)
-    (λ here. rw (off, here) (rw off refl))
-    (λ there. rw (off, there) (left_filtered n top vs i r.1)))
+    (λ off. grind (arith, common_steps, left_filtered n top vs i r.1))

@@ -1,8 +1,10 @@
 -- What a chain has after a version was put in, replaced, marked or taken out.
+use Rattle.std.proofs.lemmas.Grind.{common_steps}
+use Rattle.std.proofs.Common.{rules}
 use Rattle.std.proofs.Common.{◌≡◌, ℕ, zero, suc, ◌<◌, ◌≤◌, ◌-◌, ◌==◌, false, cond, List, [], ◌∷◌, length, get_or, set, Option, Some, None, refl, sym, ◌∙◌, ap, arith, subst}
 use Rattle.std.specs.List.{insert, remove}
 use Rattle.std.specs.Prelude.{option_map}
-use Rattle.std.proofs.lemmas.Bool.{eqb-true, ne_eqb}
+use Rattle.std.proofs.lemmas.Bool.{eqb-true}
 use Rattle.spans.proofs.Steps.{by_test}
 use Rattle.version_chain.specs.declared.chain.Version.{Version}
 use Rattle.version_chain.specs.Versions.{AreAbove, DoRise, version_of, as_committed, IsPlaceAbove, IsPlaceOf, IsFreePlace}
@@ -11,38 +13,16 @@ use Rattle.version_chain.proofs.Places.{above_at, rises_at, found, none_at, same
 -- ---- the place of a timestamp
 
 pub free_at_start : (vs : List Version) (t n : ℕ) → IsPlaceAbove vs t n → n ≡ 0 → IsFreePlace vs t 0
-free_at_start vs t n p start = record {
-  within = omega arith;
-  below = λ k d lt. absurd (omega arith);
-  above = λ k d at lt. p.above k d (omega arith) lt;
-}
+free_at_start vs t n p start = grind (arith, common_steps)
 
 pub free_after : (vs : List Version) (t n : ℕ) (v : Version) → DoRise vs → IsPlaceAbove vs t n → 0 < n → v ≡ get_or vs (n - 1) v → (v.ts ≡ t → ⊥) → IsFreePlace vs t n
-free_after vs t n v r p some is other =
-    let lt : n - 1 < length vs = omega (arith, p.within) in
-    let here : v.ts ≡ (get_or vs (n - 1) v).ts = ap (λ w. w.ts) is in
-    let top : (get_or vs (n - 1) v).ts ≤ t = p.below (n - 1) v (omega arith) in
-    let less : v.ts < t = grind (arith, other) in
-    record {
-      within = p.within;
-      below = λ k d m.
-          let before : k < n - 1 → (get_or vs k d).ts < (get_or vs (n - 1) d).ts = λ l. rises_at vs k (n - 1) d r l lt in
-          let at : k ≡ n - 1 → (get_or vs k d).ts ≡ (get_or vs (n - 1) d).ts = λ e. ap (λ j. (get_or vs j d).ts) e in
-          let same : (get_or vs (n - 1) d).ts ≡ (get_or vs (n - 1) v).ts = same_ts vs (n - 1) d v lt in
-          grind (arith, before, at);
-      above = p.above;
-    }
+free_after vs t n v r p some is other = search (rises_at, same_ts, rules, arith)
 
 pub place_is : (vs : List Version) (t n : ℕ) (v : Version) → IsPlaceAbove vs t n → 0 < n → v ≡ get_or vs (n - 1) v → v.ts ≡ t → IsPlaceOf vs t (n - 1)
-place_is vs t n v p some is here =
-    let lt : n - 1 < length vs = omega (arith, p.within) in
-    record { within = lt; here = λ d. same_ts vs (n - 1) d v lt ∙ sym (ap (λ w. w.ts) is) ∙ here }
+place_is vs t n v p some is here = grind (arith, common_steps)
 
 pub none_free : (vs : List Version) (t n : ℕ) → IsFreePlace vs t n → version_of vs t ≡ None
-none_free vs t n p = none_at vs t (λ k d lt same.
-    let before : k < n → (get_or vs k d).ts < t = λ m. p.below k d m in
-    let after : n ≤ k → t < (get_or vs k d).ts = λ m. p.above k d m lt in
-    grind (arith, before, after))
+none_free vs t n p = grind (arith, common_steps, none_at)
 
 pub some_placed : (vs : List Version) (t k : ℕ) (d : Version) → DoRise vs → IsPlaceOf vs t k → version_of vs t ≡ Some (get_or vs k d)
 some_placed vs t k d r p = ap (version_of vs) (sym (p.here d)) ∙ found vs k d r p.within
@@ -80,10 +60,7 @@ rises_set [] k v r p = tt
 rises_set (w ∷ vs) zero v r p = (subst (λ t. AreAbove t vs) (p.here v) r.0, r.1)
 rises_set (w ∷ vs) (suc k) v r p =
     let lt : k < length vs = omega (arith, p.within) in
-    let up : w.ts < (get_or vs k v).ts = above_at vs w.ts k v r.0 lt in (
-      above_set vs w.ts k v r.0 (let here : (get_or vs k v).ts ≡ v.ts = p.here v in omega arith),
-      rises_set vs k v r.1 (record { within = lt; here = λ d. p.here d }),
-    )
+    let up : w.ts < (get_or vs k v).ts = above_at vs w.ts k v r.0 lt in grind (arith, common_steps, above_set, rises_set vs k v r.1)
 
 -- one to read a list by where there is none
 pub some_version : Version
@@ -108,9 +85,7 @@ rises_remove (w ∷ vs) (suc k) r = (above_remove vs w.ts k r.0, rises_remove vs
 
 -- a version that stands behind one of another timestamp
 behind : (w : Version) (i t : ℕ) (o x y : Option Version) → (w.ts ≡ t → ⊥) → x ≡ cond (t == i) o y → cond (w.ts == i) (Some w) x ≡ cond (t == i) o (cond (w.ts == i) (Some w) y)
-behind w i t o x y apart e = by_test (w.ts == i)
-    (λ here. let off : (t == i) ≡ false = ne_eqb t i (λ same. apart (eqb-true w.ts i here ∙ sym same)) in rw (here, off) refl)
-    (λ there. rw there e)
+behind w i t o x y apart e = grind (arith, common_steps)
 
 pub insert_finds : (vs : List Version) (k : ℕ) (v : Version) (i : ℕ) → IsFreePlace vs v.ts k → version_of (insert vs k v) i ≡ cond (v.ts == i) (Some v) (version_of vs i)
 insert_finds vs zero v i p = refl
@@ -127,49 +102,29 @@ pub set_finds : (vs : List Version) (k : ℕ) (v : Version) (i : ℕ) → DoRise
 set_finds [] k v i r p = absurd (omega (arith, p.within))
 set_finds (w ∷ vs) zero v i r p =
     let here : w.ts ≡ v.ts = p.here v in
-    by_test (v.ts == i)
-    (λ same. rw same refl)
-    (λ other. let off : (w.ts == i) ≡ false = ap (λ t. t == i) here ∙ other in rw (other, off) refl)
+    grind (arith, common_steps)
 set_finds (w ∷ vs) (suc k) v i r p =
     let lt : k < length vs = omega (arith, p.within) in
     let up : w.ts < (get_or vs k v).ts = above_at vs w.ts k v r.0 lt in
-    let here : (get_or vs k v).ts ≡ v.ts = p.here v in
-    behind w i v.ts (Some v) (version_of (set vs k v) i) (version_of vs i) (λ same. omega arith)
-    (set_finds vs k v i r.1 (record { within = lt; here = λ d. p.here d }))
+    grind (arith, common_steps, set_finds vs k v i r.1)
 
 pub commit_finds : (vs : List Version) (k : ℕ) (v : Version) (t i : ℕ) → DoRise vs → IsPlaceOf vs t k → v ≡ get_or vs k v
     → version_of (set vs k (as_committed v)) i ≡ cond (t == i) (option_map as_committed (version_of vs i)) (version_of vs i)
-commit_finds vs k v t i r p is =
-    let here : v.ts ≡ t = ap (λ w. w.ts) is ∙ p.here v in
-    let place : IsPlaceOf vs (as_committed v).ts k = record { within = p.within; here = λ d. p.here d ∙ sym here } in
-    set_finds vs k (as_committed v) i r place ∙ ap (λ n. cond (n == i) (Some (as_committed v)) (version_of vs i)) here ∙ by_test (t == i)
-    (λ same. let one : version_of vs i ≡ Some v = ap (version_of vs) (sym (eqb-true t i same)) ∙ some_placed vs t k v r p ∙ ap Some (sym is) in rw (same, one) refl)
-    (λ other. rw other refl)
+commit_finds vs k v t i r p is = grind (arith, common_steps, set_finds, by_test, eqb-true, some_placed)
 
 pub remove_finds : (vs : List Version) (k t i : ℕ) → DoRise vs → IsPlaceOf vs t k → version_of (remove vs k) i ≡ cond (t == i) None (version_of vs i)
 remove_finds [] k t i r p = absurd (omega (arith, p.within))
 remove_finds (w ∷ vs) zero t i r p =
     let here : w.ts ≡ t = p.here w in
-    by_test (t == i)
-    (λ same. rw same (none_at vs i (λ j d lt e.
-    let up : w.ts < (get_or vs j d).ts = above_at vs w.ts j d r.0 lt in
-    let now : t ≡ i = eqb-true t i same in
-    omega arith)))
-    (λ other. let off : (w.ts == i) ≡ false = ap (λ n. n == i) here ∙ other in rw (other, off) refl)
+    grind (arith, common_steps, by_test, none_at, above_at, eqb-true)
 remove_finds (w ∷ vs) (suc k) t i r p =
     let lt : k < length vs = omega (arith, p.within) in
     let up : w.ts < (get_or vs k w).ts = above_at vs w.ts k w r.0 lt in
-    let here : (get_or vs k w).ts ≡ t = p.here w in
-    behind w i t None (version_of (remove vs k) i) (version_of vs i) (λ same. omega arith)
-    (remove_finds vs k t i r.1 (record { within = lt; here = λ d. p.here d }))
+    grind (arith, common_steps, remove_finds vs k t i r.1)
 
 -- no version of t, and so nothing to mark or to take out
 pub unmarked : (vs : List Version) (t i : ℕ) → version_of vs t ≡ None → version_of vs i ≡ cond (t == i) (option_map as_committed (version_of vs i)) (version_of vs i)
-unmarked vs t i none = by_test (t == i)
-    (λ same. let e : version_of vs i ≡ None = ap (version_of vs) (sym (eqb-true t i same)) ∙ none in rw (same, e) refl)
-    (λ other. rw other refl)
+unmarked vs t i none = grind (arith, common_steps)
 
 pub untaken : (vs : List Version) (t i : ℕ) → version_of vs t ≡ None → version_of vs i ≡ cond (t == i) None (version_of vs i)
-untaken vs t i none = by_test (t == i)
-    (λ same. let e : version_of vs i ≡ None = ap (version_of vs) (sym (eqb-true t i same)) ∙ none in rw (same, e) refl)
-    (λ other. rw other refl)
+untaken vs t i none = grind (arith, common_steps)

@@ -1,5 +1,6 @@
 -- Readers of a key and its versions: which reader crosses a write, and the gap of a read.
-use Rattle.std.proofs.Common.{◌≡◌, ℕ, ◌<◌, ◌≤◌, ◌==◌, Bool, true, false, List, [], ◌∷◌, Option, Some, None, Result, Ok, Err, refl, sym, ◌∙◌, ap, subst, inl, inr, arith, max, lt-ltb, ltb-true, nat_lt, option_map}
+use Rattle.std.proofs.lemmas.Grind.{common_steps}
+use Rattle.std.proofs.Common.{◌≡◌, ℕ, ◌<◌, ◌≤◌, ◌==◌, Bool, true, false, List, [], ◌∷◌, Option, Some, None, Result, Ok, Err, refl, sym, ◌∙◌, ap, inl, inr, arith, max, lt-ltb, ltb-true, nat_lt, option_map}
 use Rattle.std.specs.Prelude.{◌↔◌, IfSome, IsTrue, MatchOption, OnErr, OnOk, is_some}
 use Rattle.std.specs.Borrow.{Bor}
 use Rattle.std.specs.Option.{option_copied}
@@ -25,38 +26,14 @@ ts-of o = option_map (λ (v : Version). v.ts) o
 -- the next version, by what it left
 pub next_of : (vs : List Version) (t : ℕ) (o : Option Version) → MatchOption o (IsNoneAbove vs t) (λ v. IsLeastAbove vs t v) → IsNextAbove (afters_of vs) t (ts-of o)
 next_of vs t None none = λ n over. ap (option_map (λ (v : Version). v.after)) (none n over)
-next_of vs t (Some v) least = (
-  least.above,
-  ap (λ o. is_some (option_map (λ (v : Version). v.after) o)) least.one,
-  λ n over low. ap (option_map (λ (v : Version). v.after)) (least.gap n over low),
-)
+next_of vs t (Some v) least = grind (arith, common_steps)
 
 -- the newest one
 pub newest_of : (vs : List Version) (t : ℕ) (o : Option Version) → IfSome o (λ v. 1 ≤ v.ts) → MatchOption o (IsNoneUpTo vs t) (λ v. IsNewestOf vs t v) → (newest (afters_of vs) t).ts ≡ ts_or o 0
-newest_of vs t None some none = ap (λ v. v.ts) (newest_only (afters_of vs) t 0 None (record {
-  at_most = omega arith;
-  gap = λ i over low. ap (option_map (λ (v : Version). v.after)) (none i low);
-  has = inl (refl, refl);
-}))
-newest_of vs t (Some v) some one = ap (λ v. v.ts) (newest_only (afters_of vs) t v.ts v.after (record {
-  at_most = one.at_most;
-  gap = λ i over low. ap (option_map (λ (v : Version). v.after)) (one.gap i over low);
-  has = inr (some, ap (option_map (λ (v : Version). v.after)) one.one);
-}))
+newest_of vs t None some none = ap (λ v. v.ts) (newest_only (afters_of vs) t 0 None (grind (arith, common_steps)))
+newest_of vs t (Some v) some one = ap (λ v. v.ts) (newest_only (afters_of vs) t v.ts v.after (grind (arith, common_steps)))
 
 -- ---- readers
-
--- where some are forgotten
-pub between_kept : (f : ℕ) (xs : List ℕ) (t : ℕ) (to : Option ℕ) → IsBetween (is_reader xs) (max t f) to ↔ IsBetween (is_kept f xs) t to
-between_kept f xs t to = (
-  λ b. let over : max t f < b.reader = b.higher in
-      let late : f < b.reader = omega arith in
-      record { reader = b.reader; mark = rw (lt-ltb f b.reader late) b.mark; higher = omega arith; low = b.low },
-  λ b. let both = and_parts (nat_lt f b.reader) (is_reader xs b.reader) b.mark in
-      let late : f < b.reader = ltb-true f b.reader both.0 in
-      let over : t < b.reader = b.higher in
-      record { reader = b.reader; mark = both.1; higher = omega arith; low = b.low },
-)
 
 module _ (m : ℕ → Bool) (g : ℕ → Option After) (t : ℕ) where
   below-next : (next : Option ℕ) → IsNextAbove g t next → (r n : ℕ) → AtMost next r → t < n → n < r → g n ≡ None
@@ -92,38 +69,15 @@ until_next (Some v) = refl
 
 pub noted_on : (vs : List Version) (m m' : ℕ → Bool) (t above high : ℕ) (first next : Option Version) → MatchOption first (IsNoneUpTo vs t) (λ v. IsNewestOf vs t v) → IfSome first (λ v. 1 ≤ v.ts) → MatchOption next (IsNoneAbove vs t) (λ v. IsLeastAbove vs t v)
     → above ≡ ts_or first 0 → high ≡ ts_or next 18446744073709551615 → (above ≡ t → (j : ℕ) → m' j ≡ m j) → ((above == t) ≡ false → IsPiece m m' t above high) → IsNotedOn (afters_of vs) m m' t
-noted_on vs m m' t above high first next one some least at end own other =
-    let ts : (newest (afters_of vs) t).ts ≡ above = newest_of vs t first some one ∙ sym at in
-    record {
-      next = ts-of next;
-      is_next = next_of vs t next least;
-      own = λ same. own (sym ts ∙ same);
-      other = λ differs.
-          let piece : IsPiece m m' t above high = other (ap (λ n. n == t) (sym ts) ∙ differs) in
-          subst (λ n. IsPiece m m' t n (until (ts-of next))) (sym ts) (subst (IsPiece m m' t above) (end ∙ sym (until_next next)) piece);
-    }
+noted_on vs m m' t above high first next one some least at end own other = grind (arith, common_steps, newest_of, next_of, until_next)
 
 -- ---- readers that are the same
 
 pub piece_alike : (m n m' n' : ℕ → Bool) (t above high : ℕ) → ((j : ℕ) → m j ≡ n j) → ((j : ℕ) → m' j ≡ n' j) → IsPiece m m' t above high → IsPiece n n' t above high
-piece_alike m n m' n' t above high old new p = record {
-  top = p.top;
-  marked = sym (new p.top) ∙ p.marked;
-  is = (elim p.is [ inl e ↦ inl e | inr h ↦ inr (sym (old p.top) ∙ h) ]);
-  least = p.least;
-  most = p.most;
-  greatest = λ i h. p.greatest i (old i ∙ h);
-  outside = λ i out. sym (new i) ∙ p.outside i out ∙ old i;
-  inside = λ i over up h. p.inside i over up (new i ∙ h);
-}
+piece_alike m n m' n' t above high old new p = grind (arith, common_steps)
 
 pub noted_alike : (g h : ℕ → Option After) (m n m' n' : ℕ → Bool) (t : ℕ) → g ≡ h → ((j : ℕ) → m j ≡ n j) → ((j : ℕ) → m' j ≡ n' j) → IsNotedOn g m m' t → IsNotedOn h n n' t
-noted_alike g h m n m' n' t same old new p = subst (λ f. IsNotedOn f n n' t) same (record {
-  next = p.next;
-  is_next = p.is_next;
-  own = λ is j. sym (new j) ∙ p.own is j ∙ old j;
-  other = λ differs. piece_alike m n m' n' t _ _ old new (p.other differs);
-})
+noted_alike g h m n m' n' t same old new p = grind (arith, common_steps)
 
 -- where there was room a note is made
 pub room_there : {A E P R : Type 0} (r : Result A E) → OnOk r P → OnErr r (R → ⊥) → R → P
@@ -133,22 +87,15 @@ room_there (Err e) ok full room = absurd (full room)
 -- ---- what the test of a write answers
 
 pub crosses : (xs : List ℕ) (f : ℕ) (g : ℕ → Option After) (t : ℕ) (next : Option ℕ) (above : ℕ) (b : Bool) → above ≡ max t f → IsNextAbove g t next → IsTrue b ↔ IsBetween (is_reader xs) above next → IsTrue b ↔ IsCrossed (is_kept f xs) g t
-crosses xs f g t next above b at is found =
-    both_ways_to found (both_ways_to (subst (λ n. IsBetween (is_reader xs) n next ↔ IsBetween (is_kept f xs) t next) (sym at) (between_kept f xs t next)) (crossed_by (is_kept f xs) g t next is))
+crosses xs f g t next above b at is found = grind (arith, common_steps)
 
 -- where no reader at all is above it
 pub crosses_not : (xs : List ℕ) (f : ℕ) (g : ℕ → Option After) (t above : ℕ) (b : Bool) → above ≡ max t f → b ≡ false → IsTrue b ↔ IsBetween (is_reader xs) above None → IsTrue false ↔ IsCrossed (is_kept f xs) g t
-crosses_not xs f g t above b at off found = (
-  λ on. (let f : false ≡ true = on in cc),
-  λ c. subst IsTrue off (found.1 (subst (λ n. IsBetween (is_reader xs) n None) (sym at) ((between_kept f xs t None).1 (record { reader = c.reader; mark = c.mark; higher = c.above; low = tt })))),
-)
+crosses_not xs f g t above b at off found = grind (arith, common_steps)
 
 -- by the versions and the readers that the record of a key has
 pub crossed_like : (s : Stored) (x : List ℕ) (t f : ℕ) (vs : List Version) (xs : List ℕ) → chain_of s x ≡ vs → ((j : ℕ) → marked_in s x j ≡ is_kept f xs j) → IsCrossed (is_kept f xs) (afters_of vs) t ↔ IsCrossedIn s x t
-crossed_like s x t f vs xs chain marks = (
-  λ c. record { reader = c.reader; mark = marks c.reader ∙ c.mark; above = c.above; none = λ n over under. ap (λ us. afters_of us n) chain ∙ c.none n over under },
-  λ c. record { reader = c.reader; mark = sym (marks c.reader) ∙ c.mark; above = c.above; none = λ n over under. sym (ap (λ us. afters_of us n) chain) ∙ c.none n over under },
-)
+crossed_like s x t f vs xs chain marks = grind (arith, common_steps)
 
 -- where there is no version, a lone reader crosses what is below it, unless it is forgotten
 pub lone_crosses : (latest t f : ℕ) → max t f < latest → IsCrossed (is_kept f (latest ∷ [])) (afters_of []) t

@@ -1,11 +1,13 @@
 -- Versions in blocks: which block has a place, and what an edit of one block makes of all versions.
-use Rattle.std.proofs.Common.{◌≡◌, ℕ, zero, suc, ◌+◌, ◌-◌, ◌^◌, ◌<◌, ◌≤◌, ◌==◌, Bool, true, false, List, [], ◌∷◌, ◌++◌, length, take, drop, get_or, set, All, filter, insert, remove, not, refl, sym, ap, ap₂, subst, ◌∙◌, append_assoc, append-nil, arith, length-append, length-drop, length-set, length-take, length-take-le, take-append-drop, take-take, take_all, get_or-drop, get_or-append-add, get_or-set_same, get_or-set_other, drop-drop, drop-set-lt}
+use Rattle.std.proofs.lemmas.Grind.{common_steps}
+use Rattle.std.proofs.Common.{rules}
+use Rattle.std.proofs.Common.{◌≡◌, ℕ, zero, suc, ◌+◌, ◌-◌, ◌^◌, ◌<◌, ◌≤◌, ◌==◌, Bool, true, false, List, [], ◌∷◌, ◌++◌, length, take, drop, get_or, set, All, filter, insert, remove, not, refl, sym, ap, subst, ◌∙◌, append_assoc, append-nil, arith, length-append, length-drop, length-set, take-append-drop, take_all, get_or-drop, get_or-append-add, get_or-set_same, get_or-set_other, drop-drop, drop-set-lt}
 use Rattle.std.specs.Prelude.{nat_le}
 use Rattle.std.specs.List.Sorted.{IsPartitionedBy, IsPartitionPoint}
 use Rattle.std.proofs.lemmas.Bool.{eqb-false, eqb-true}
 use Rattle.std.proofs.lemmas.Bool.Decides.{nat_tests}
 use Rattle.spans.proofs.Steps.{by_test}
-use Rattle.std.proofs.lemmas.List.{take_more, take_more_set, get_or-take, get_or-append_right, get_or_append_left, get_or_default, set-append_left, set-append_right, set_split}
+use Rattle.std.proofs.lemmas.List.{take_more, take_more_set, get_or-append_right, get_or_append_left, get_or_default, set-append_left, set-append_right, set_split}
 use Rattle.std.proofs.lemmas.List.Edits.{insert-append_left, insert-append_right, remove-append_left, remove-append_right}
 use Rattle.std.proofs.lemmas.List.Elements.{filter-append}
 use Rattle.std.proofs.lemmas.List.Filters.{length-filter_both}
@@ -36,30 +38,18 @@ parted_set bs k b lt = ap all_in (set_split bs k b lt) ∙ all_append (take k bs
 pub all_next : (bs : List Block) (k : ℕ) (d : Block) → k < length bs → length (all_in (take (suc k) bs)) ≡ length (all_in (take k bs)) + length (get_or bs k d).versions.items
 all_next [] k d lt = absurd (omega arith)
 all_next (b ∷ bs) zero d lt = let same = ap length (append-nil b.versions.items) in omega arith
-all_next (b ∷ bs) (suc k) d lt =
-    let next = all_next bs k d (omega arith) in
-    let more = length-append b.versions.items (all_in (take (suc k) bs)) in
-    let here = length-append b.versions.items (all_in (take k bs)) in
-    omega arith
+all_next (b ∷ bs) (suc k) d lt = grind (arith, common_steps, all_next bs k d)
 
 all_longer : (bs : List Block) (i j : ℕ) → i ≤ j → length (all_in (take i bs)) ≤ length (all_in (take j bs))
 all_longer bs zero j le = omega arith
 all_longer [] (suc i) j le = omega arith
 all_longer (b ∷ bs) (suc i) zero le = absurd (omega arith)
-all_longer (b ∷ bs) (suc i) (suc j) le =
-    let less = all_longer bs i j (omega arith) in
-    let low = length-append b.versions.items (all_in (take i bs)) in
-    let high = length-append b.versions.items (all_in (take j bs)) in
-    omega arith
+all_longer (b ∷ bs) (suc i) (suc j) le = grind (arith, common_steps, all_longer bs i j)
 
 -- ---- which block has a place
 
 pub starts_rise : (bs : List Block) (place : ℕ) → AreNumbered bs → IsPartitionedBy (λ (b : Block). nat_le b.start place) bs
-starts_rise bs place numbered i j d le lt low =
-    let here = numbered j d lt in
-    let before = numbered i d (omega arith) in
-    let less = all_longer bs i j le in
-    grind (arith, nat_tests)
+starts_rise bs place numbered i j d le lt low = grind (arith, common_steps, all_longer)
 
 pub is_block : (bs : List Block) (place p : ℕ) → 0 < length bs → p ≤ length bs → AreNumbered bs → place ≤ length (all_in bs)
     → IsPartitionPoint (λ (b : Block). nat_le b.start place ≡ true) (λ (b : Block). nat_le b.start place ≡ false) bs p → (0 < p) × IsBlockOf bs place (p - 1)
@@ -98,12 +88,7 @@ is_block (b ∷ bs) place p some bound numbered low at = (
 
 -- behind the last block stand all
 pub last_ends : (bs : List Block) (d : Block) → 0 < length bs → AreNumbered bs → (get_or bs (length bs - 1) d).start + length (get_or bs (length bs - 1) d).versions.items ≡ length (all_in bs)
-last_ends bs d some numbered =
-    let here = numbered (length bs - 1) d (omega arith) in
-    let next = all_next bs (length bs - 1) d (omega arith) in
-    let end : suc (length bs - 1) ≡ length bs = omega arith in
-    let all = ap (λ n. length (all_in (take n bs))) end ∙ ap (λ cs. length (all_in cs)) (take_all (length bs) bs (omega arith)) in
-    omega arith
+last_ends bs d some numbered = grind (arith, common_steps, all_next)
 
 -- ---- what an edit of one block makes of all versions
 
@@ -117,18 +102,7 @@ pub record HasPlace (bs : List Block) (place k : ℕ) (b : Block) : Type 0 where
   pub inside : place < length (all_in bs) → place < b.start + length b.versions.items
 
 pub has_place : (bs ds : List Block) (place k : ℕ) (b : Block) → AreNumbered bs → ds ≡ bs → IsBlockOf ds place k → b ≡ get_or bs k b → HasPlace bs place k b
-has_place bs ds place k b numbered same at is =
-    let here : IsBlockOf bs place k = subst (λ cs. IsBlockOf cs place k) same at in
-    let first = ap (λ c. c.start) is in
-    let long = ap (λ c. length c.versions.items) is in
-    record {
-      numbered = numbered;
-      within = here.within;
-      is = is;
-      start = (let low = here.start b in omega arith);
-      end = (let high = here.end b in omega arith);
-      inside = λ lt. (let high = here.inside b lt in omega arith);
-    }
+has_place bs ds place k b numbered same at is = grind (arith, common_steps)
 
 pub before_is : (bs : List Block) (place k : ℕ) (b : Block) → HasPlace bs place k b → length (all_in (take k bs)) ≡ b.start
 before_is bs place k b at = sym (ap (λ c. c.start) at.is ∙ at.numbered k b at.within)
@@ -167,16 +141,8 @@ remove_part bs place k b c at lt edit =
 pub long_set : (bs : List Block) (k n : ℕ) (b c : Block) → k < length bs → b ≡ get_or bs k b → length c.versions.items ≡ length b.versions.items → length (all_in (take n (set bs k c))) ≡ length (all_in (take n bs))
 long_set bs k zero b c lt is long = refl
 long_set [] k (suc n) b c lt is long = absurd (omega arith)
-long_set (a ∷ bs) zero (suc n) b c lt is long =
-    let one = length-append c.versions.items (all_in (take n bs)) in
-    let other = length-append a.versions.items (all_in (take n bs)) in
-    let same = ap (λ d. length d.versions.items) is in
-    omega arith
-long_set (a ∷ bs) (suc k) (suc n) b c lt is long =
-    let one = length-append a.versions.items (all_in (take n (set bs k c))) in
-    let other = length-append a.versions.items (all_in (take n bs)) in
-    let same = long_set bs k n b c (omega arith) is long in
-    omega arith
+long_set (a ∷ bs) zero (suc n) b c lt is long = grind (arith, common_steps)
+long_set (a ∷ bs) (suc k) (suc n) b c lt is long = grind (arith, common_steps, long_set bs k n b c)
 
 pub numbered_set : (bs : List Block) (k : ℕ) (b c : Block) → AreNumbered bs → k < length bs → b ≡ get_or bs k b → c.start ≡ b.start → length c.versions.items ≡ length b.versions.items → AreNumbered (set bs k c)
 numbered_set bs k b c numbered lt is start long j d within =
@@ -198,8 +164,7 @@ set_sound bs place k b c v sound at lt start edit = record {
 
 -- and so does a block that is as it was
 pub same_part : (bs : List Block) (place k : ℕ) (b c : Block) → HasPlace bs place k b → c.versions.items ≡ b.versions.items → all_in (set bs k c) ≡ all_in bs
-same_part bs place k b c at same =
-    parted_set bs k c at.within ∙ ap (λ vs. all_in (take k bs) ++ (vs ++ all_in (drop (suc k) bs))) same ∙ sym (parted bs k b at.within at.is)
+same_part bs place k b c at same = grind (arith, common_steps, parted_set, parted)
 
 pub same_sound : (bs : List Block) (place k : ℕ) (b c : Block) → IsSound bs → HasPlace bs place k b → c.start ≡ b.start → c.versions.items ≡ b.versions.items → IsSound (set bs k c)
 same_sound bs place k b c sound at start same = record {
@@ -212,10 +177,7 @@ same_sound bs place k b c sound at start same = record {
 
 -- the first of blocks that are numbered are so too
 pub numbered_take : (bs : List Block) (n : ℕ) → AreNumbered bs → AreNumbered (take n bs)
-numbered_take bs n numbered k d lt =
-    let long = length-take n bs in
-    let low : k < n = omega arith in
-    ap (λ b. b.start) (get_or-take n bs k d low) ∙ numbered k d (omega arith) ∙ ap (λ cs. length (all_in cs)) (sym (take-take k n bs (omega arith)))
+numbered_take bs n numbered k d lt = grind (arith, common_steps)
 
 -- the first i blocks of bs, which have the versions of os, are numbered, and so many versions stand in them
 pub record IsNumberedTo (os bs : List Block) (start i : ℕ) : Type 0 where
@@ -227,8 +189,7 @@ pub record IsNumberedTo (os bs : List Block) (start i : ℕ) : Type 0 where
 pub numbered_fits : (os bs : List Block) (start i : ℕ) → IsNumberedTo os bs start i → start ≤ length (all_in os)
 numbered_fits os bs start i p =
     let all = ap length (sym p.same ∙ all_split bs i) in
-    let both = length-append (all_in (take i bs)) (all_in (drop i bs)) in
-    omega (arith, p.sum)
+    grind (arith, common_steps)
 
 -- block i is c now, which has the versions of b
 pub numbered_next : (os bs : List Block) (start i n : ℕ) (b c : Block) → i < length bs → b ≡ get_or bs i b → c.start ≡ start → c.versions.items ≡ b.versions.items → n ≡ length c.versions.items → IsNumberedTo os bs start i → IsNumberedTo os (set bs i c) (start + n) (i + 1)
@@ -315,34 +276,23 @@ place_within [] place k numbered at = absurd (omega (arith, at.within))
 place_within (b ∷ bs) place k numbered at =
     let here = numbered k b at.within in
     let next = all_next (b ∷ bs) k b at.within in
-    let one : k + 1 ≡ suc k = omega arith in
-    let all = ap (λ n. length (all_in (take n (b ∷ bs)))) one in
-    omega (arith, at.end b)
+    search (rules, arith)
 
 fewer : (p : Version → Bool) (vs : List Version) → length (filter p vs) ≤ length vs
 fewer p vs = let both = length-filter_both p (λ v. not (p v)) (λ v. refl) vs in omega arith
 
 pub thinned_end : (p : Version → Bool) (os bs : List Block) (i m : ℕ) → i ≡ m → IsThinnedTo p os bs i → all_in bs ≡ filter p (all_in (take m os)) ++ all_in (drop m os)
-thinned_end p os bs i m end t =
-    all_split bs i ∙ ap₂ (λ us vs. us ++ vs) t.before (ap all_in t.behind) ∙ ap (λ n. filter p (all_in (take n os)) ++ all_in (drop n os)) end
+thinned_end p os bs i m end t = grind (arith, common_steps, all_split)
 
 pub empty_more : (bs : List Block) (n : ℕ) (b : Block) → n < length bs → b ≡ get_or bs n b → b.versions.items ≡ [] → all_in (take n bs) ≡ [] → all_in (take (n + 1) bs) ≡ []
-empty_more bs n b lt is none before =
-    ap all_in (take_more bs n b lt) ∙ all_append (take n bs) (get_or bs n b ∷ []) ∙ ap (λ vs. vs ++ ((get_or bs n b).versions.items ++ [])) before
-    ∙ append-nil (get_or bs n b).versions.items ∙ ap (λ c. c.versions.items) (sym is) ∙ none
+empty_more bs n b lt is none before = grind (arith, common_steps, take_more, all_append)
 
 gone_ahead : (bs : List Block) (n : ℕ) → all_in (take n bs) ≡ [] → all_in (drop n bs) ≡ all_in bs
 gone_ahead bs n none = sym (all_split bs n ∙ ap (λ vs. vs ++ all_in (drop n bs)) none)
 
 -- the first blocks are empty, and gone
 ahead_same : (bs ds cs : List Block) (n last : ℕ) → last < length bs → ds ≡ bs → n ≤ length (take last ds) → all_in (take n (take last ds)) ≡ [] → cs ≡ drop n bs → (all_in cs ≡ all_in bs) × (0 < length cs)
-ahead_same bs ds cs n last lt read within none left =
-    let long = length-take-le last bs (omega arith) in
-    let few : n ≤ length (take last bs) = subst (λ es. n ≤ length (take last es)) read within in
-    let empty : all_in (take n bs) ≡ [] = ap all_in (sym (take-take n last bs (omega arith))) ∙ ap (λ es. all_in (take n (take last es))) (sym read) ∙ none in
-    let rest = length-drop n bs in
-    let size = ap length left in
-    (ap all_in left ∙ gone_ahead bs n empty, omega arith)
+ahead_same bs ds cs n last lt read within none left = grind (arith, common_steps, gone_ahead)
 
 -- what a collection leaves in cs: es are the blocks once what is dead has gone from those up to block k
 pub record IsCollectedTo (n top : ℕ) (bs cs : List Block) : Type 0 where
@@ -357,6 +307,4 @@ collected n top place k m bs cs ds es fs sound same found live less long read wi
     let at = subst (λ gs. IsBlockOf gs place k) same found in
     let ahead = ahead_same es fs cs m k (omega (arith, at.within)) read within none rest in
     let left = ahead.0 ∙ less ∙ thinned n top place (k + 1) bs (place_within bs place k sound.numbered at) live in
-    let size = ap length left in
-    let smaller = fewer (λ (v : Version). not (is_dead_version n top v)) (all_in bs) in
-    record { left = left; some = ahead.1; few = omega (arith, sound.few) }
+    grind (arith, common_steps, fewer)

@@ -1,7 +1,9 @@
 -- The keys of a span are those of a range, up to the first one that is not below its end.
+use Rattle.std.proofs.lemmas.Grind.{common_steps}
+use Rattle.std.proofs.Common.{arith}
 use Rattle.timestamps.specs.declared.key.TheConstants.{MAX_KEY_BYTES}
 use Rattle.std.proofs.Common.{◌≡◌, ℕ, ◌≤◌, Bool, true, false, ◌&&◌, cond, List, [], ◌∷◌, ◌++◌, length, Option, Some, refl, sym, ◌∙◌, ap, subst, inl, inr}
-use Rattle.std.specs.Prelude.{slice_index_or, unwrap_or}
+use Rattle.std.specs.Prelude.{unwrap_or}
 use Rattle.std.specs.List.{filter}
 use Rattle.std.specs.Map.{keys_of, lookup}
 use Rattle.std.specs.BTreeMap.{is_at}
@@ -117,21 +119,14 @@ numbers_found span ns rest are =
 -- ---- one step
 
 pub step_inside : (span : Span) (e : List ℕ × ℕ) (ns : Numbered) → AreAhead span.lo (e ∷ ns) → length e.0 ≤ MAX_KEY_BYTES → below_high span.hi e.0 ≡ true → numbered_in span (e ∷ ns) ≡ e ∷ numbered_in span ns
-step_inside span e ns a short below =
-    let from : from_low span.lo e.0 ≡ true = a.behind.0 short in
-    rw (from, below) refl
+step_inside span e ns a short below = grind (arith, common_steps)
 
 none_inside : (span : Span) (x : List ℕ) (ns : Numbered) → below_high span.hi x ≡ false → ((y : List ℕ) → IsIn y (keys_of ns) → key_cmp x y ≡ Less) → numbered_in span ns ≡ []
 none_inside span x [] past above = refl
-none_inside span x (e ∷ ns) past above =
-    let off : below_high span.hi e.0 ≡ false = stays_above span.hi x e.0 past (above e.0 (inl refl)) in
-    rw (off, and-false (from_low span.lo e.0)) (none_inside span x ns past (λ y i. above y (inr i)))
+none_inside span x (e ∷ ns) past above = grind (arith, common_steps, stays_above, and-false, none_inside span x ns past)
 
 pub step_past : (span : Span) (e : List ℕ × ℕ) (ns : Numbered) → AreAhead span.lo (e ∷ ns) → below_high span.hi e.0 ≡ false → (numbered_in span (e ∷ ns) ≡ []) × (numbered_in span ns ≡ [])
-step_past span e ns a past = (
-  rw (past, and-false (from_low span.lo e.0)) (none_inside span e.0 ns past a.rising.0),
-  none_inside span e.0 ns past a.rising.0,
-)
+step_past span e ns a past = grind (arith, common_steps, and-false, none_inside)
 
 -- ---- the same by number
 
@@ -139,22 +134,14 @@ pub keys_numbered : {A : Type 0} (ns : Numbered) (xs : List (List A)) → keys_o
 keys_numbered [] xs = refl
 keys_numbered (e ∷ ns) xs = ap (λ ks. e.0 ∷ ks) (keys_numbered ns xs)
 
-some_versions : (vs : List Version) → has_versions vs ≡ true → vs ≡ [] → ⊥
-some_versions [] some none = cc
-some_versions (v ∷ vs) some none = cc
-
 filled_are : (p : List ℕ → Bool) (es : List Entry) → AreFilled (filter (λ (e : Entry). p e.0 && has_versions e.1) es)
 filled_are p [] = tt
-filled_are p (e ∷ es) = by_test (p e.0 && has_versions e.1)
-    (λ on. rw on (some_versions e.1 (and_parts _ _ on).1, filled_are p es))
-    (λ off. rw off (filled_are p es))
+filled_are p (e ∷ es) = grind (arith, common_steps, filled_are p es)
 
 -- those of the span that have a version, by the numbers of the span
 filled_in : (span : Span) (ns : Numbered) (cs : List (List Version)) → filled (entries_of (numbered_in span ns) cs) ≡ filter (λ (e : Entry). in_span span e.0 && has_versions e.1) (entries_of ns cs)
 filled_in span [] cs = refl
-filled_in span (e ∷ ns) cs = by_test (in_span span e.0)
-    (λ on. rw on (ap (λ ds. cond (has_versions (slice_index_or cs e.1 [])) ((e.0, slice_index_or cs e.1 []) ∷ ds) ds) (filled_in span ns cs)))
-    (λ off. rw off (filled_in span ns cs))
+filled_in span (e ∷ ns) cs = grind (arith, common_steps, filled_in span ns cs)
 
 pub are_found : (span : Span) (ns ms : Numbered) (cs : List (List Version)) (found : List Entry) → RisingKeys (keys_of ns) → ms ≡ numbered_in span ns → found ≡ filled (entries_of ms cs) → AreFound span (entries_of ns cs) found
 are_found span ns ms cs found r those is =

@@ -1,5 +1,7 @@
 -- What is listed after the keys of one timestamp changed, and the tie of an index to the chains.
-use Rattle.std.proofs.Common.{◌≡◌, ℕ, ◌<◌, ◌≤◌, ◌⊎◌, inl, inr, ◌==◌, true, false, cond, ◌&&◌, ◌||◌, List, [], ◌∷◌, Option, Some, eq-eqb, refl, sym, ◌∙◌, ap, subst, arith}
+use Rattle.std.proofs.lemmas.Grind.{common_steps}
+use Rattle.std.proofs.Common.{rules}
+use Rattle.std.proofs.Common.{◌≡◌, ℕ, ◌<◌, ◌≤◌, ◌⊎◌, ◌==◌, true, false, cond, ◌&&◌, ◌||◌, List, [], ◌∷◌, Option, Some, refl, sym, ◌∙◌, ap, subst, arith}
 use Rattle.std.specs.Prelude.{bytes_eq, ◌↔◌}
 use Rattle.std.specs.List.{filter}
 use Rattle.std.specs.Map.{lookup}
@@ -22,32 +24,25 @@ Keyed = List (ℕ × List (List ℕ))
 abbrev pub ArePutAt : Keyed → Keyed → ℕ → Option (List (List ℕ)) → Type 0
 ArePutAt es fs t w = (q : ℕ) → lookup (is_at (nat_cmp q)) fs ≡ cond (is_at (nat_cmp t) q) w (lookup (is_at (nat_cmp q)) es)
 
-is_at_number : (t i : ℕ) → is_at (nat_cmp t) i ≡ (t == i)
+pub is_at_number : (t i : ℕ) → is_at (nat_cmp t) i ≡ (t == i)
 is_at_number t i = grind (arith, nat_tests)
 
 -- two changes of the same timestamp in turn
 pub put_at_twice : (es fs gs : Keyed) (t : ℕ) (v w : Option (List (List ℕ))) → ArePutAt es fs t v → ArePutAt fs gs t w → ArePutAt es gs t w
-put_at_twice es fs gs t v w first second q = second q ∙ by_test (is_at (nat_cmp t) q)
-    (λ here. rw here refl)
-    (λ there. rw there (first q ∙ rw there refl))
+put_at_twice es fs gs t v w first second q = grind (arith, common_steps)
 
 pub listed_more : (es fs : Keyed) (x : List ℕ) (t : ℕ) (w : Option (List (List ℕ))) → ArePutAt es fs t w → ((y : List ℕ) → is_among w y ≡ (bytes_eq x y || listed_in es y t))
     → (y : List ℕ) (i : ℕ) → listed_in fs y i ≡ (((t == i) && bytes_eq x y) || listed_in es y i)
-listed_more es fs x t w put among y i = ap (λ o. is_among o y) (put i) ∙ by_test (t == i)
-    (λ here. rw (is_at_number t i, here) (among y ∙ ap (λ n. bytes_eq x y || listed_in es y n) (eqb-true t i here)))
-    (λ there. rw (is_at_number t i, there) refl)
+listed_more es fs x t w put among y i = grind (arith, common_steps)
 
 -- the same of a map that is the one after a write
 pub listed_put : (m n k : BTreeMap ℕ (List (List ℕ))) (x z : List ℕ) (t : ℕ) (w : Option (List (List ℕ))) → n ≡ k → z ≡ x → ArePutAt m.entries k.entries t w → ((y : List ℕ) → is_among w y ≡ (bytes_eq z y || listed_in m.entries y t))
     → (y : List ℕ) (i : ℕ) → listed_in n.entries y i ≡ (((t == i) && bytes_eq x y) || listed_in m.entries y i)
-listed_put m n k x z t w is key put among = subst (λ l. (y : List ℕ) (i : ℕ) → listed_in l.entries y i ≡ (((t == i) && bytes_eq x y) || listed_in m.entries y i)) (sym is)
-    (listed_more m.entries k.entries x t w put (subst (λ u. (y : List ℕ) → is_among w y ≡ (bytes_eq u y || listed_in m.entries y t)) key among))
+listed_put m n k x z t w is key put among = grind (arith, common_steps)
 
 pub listed_less : (es fs : Keyed) (x : List ℕ) (t : ℕ) (w : Option (List (List ℕ))) → ArePutAt es fs t w → ((y : List ℕ) → is_among w y ≡ cond (bytes_eq x y) false (listed_in es y t))
     → (y : List ℕ) (i : ℕ) → listed_in fs y i ≡ cond ((t == i) && bytes_eq x y) false (listed_in es y i)
-listed_less es fs x t w put among y i = ap (λ o. is_among o y) (put i) ∙ by_test (t == i)
-    (λ here. rw (is_at_number t i, here) (among y ∙ ap (λ n. cond (bytes_eq x y) false (listed_in es y n)) (eqb-true t i here)))
-    (λ there. rw (is_at_number t i, there) refl)
+listed_less es fs x t w put among y i = grind (arith, common_steps)
 
 -- a key came to the others, or went from them
 pub one_more : (x y : List ℕ) (keys : List (List ℕ)) → has y (insert_key x keys) ≡ (bytes_eq x y || has y keys)
@@ -76,24 +71,17 @@ listed_between a b es y i above low = ap (λ o. is_among o y) (same es)
 
 -- the first of what is listed, and the rest
 pub listed_first : (t : ℕ) (keys : List (List ℕ)) (es : Keyed) (y : List ℕ) (i : ℕ) → listed_in ((t, keys) ∷ es) y i ≡ true → ((i ≡ t) × (has y keys ≡ true)) ⊎ (listed_in es y i ≡ true)
-listed_first t keys es y i is = by_test (is_at (nat_cmp i) t)
-    (λ here. inl (eqb-true i t (sym (is_at_number i t) ∙ here), rw here at is))
-    (λ there. inr (rw there at is))
+listed_first t keys es y i is = grind (arith, common_steps)
 
 -- ---- keys that are taken, and put back
 
 -- the key that is next, or one of the rest
 pub next_or_rest : (x y : List ℕ) (xs rest : List (List ℕ)) → xs ≡ x ∷ rest → has y xs ≡ true → (y ≡ x) ⊎ (has y rest ≡ true)
-next_or_rest x y xs rest is any = elim (or_cases (bytes_eq x y) (has y rest) (ap (has y) (sym is) ∙ any)) [
-  | inl here ↦ inl (sym (same_key x y here))
-  | inr there ↦ inr there
-]
+next_or_rest x y xs rest is any = search (or_cases, has, same_key, rules, arith)
 
 -- what is listed after the keys of t became w
 pub listed_where : (es fs : Keyed) (t : ℕ) (w : Option (List (List ℕ))) → ArePutAt es fs t w → (y : List ℕ) (i : ℕ) → listed_in fs y i ≡ cond (t == i) (is_among w y) (listed_in es y i)
-listed_where es fs t w put y i = ap (λ o. is_among o y) (put i) ∙ by_test (t == i)
-    (λ here. rw (is_at_number t i, here) refl)
-    (λ there. rw (is_at_number t i, there) refl)
+listed_where es fs t w put y i = grind (arith, common_steps)
 
 -- the entry of t has no keys
 abbrev pub IsTakenIn : Keyed → ℕ → Type 0
@@ -108,18 +96,11 @@ put_there es fs t i w put there = put i ∙ rw (is_at_number t i, there) refl
 
 -- the same entries are without keys
 pub taken_alike : (es fs : Keyed) (t : ℕ) (w : Option (List (List ℕ))) → ArePutAt es fs t w → IsTakenIn es t ↔ (w ≡ Some []) → (i : ℕ) → IsTakenIn es i ↔ IsTakenIn fs i
-taken_alike es fs t w put same i = by_test (t == i)
-    (λ here. subst (λ j. IsTakenIn es j ↔ IsTakenIn fs j) (eqb-true t i here) (
-      λ is. put_here es fs t t w put (eq-eqb t t refl) ∙ same.0 is,
-      λ is. same.1 (sym (put_here es fs t t w put (eq-eqb t t refl)) ∙ is),
-    ))
-    (λ there. (λ is. put_there es fs t i w put there ∙ is, λ is. sym (put_there es fs t i w put there) ∙ is))
+taken_alike es fs t w put same i = grind (arith, common_steps)
 
 -- no entry is without keys, where t's has some and no other was
 pub filled_put : (es fs : Keyed) (t : ℕ) (w : Option (List (List ℕ))) → ArePutAt es fs t w → (w ≡ Some [] → ⊥) → ((i : ℕ) → (t == i) ≡ false → IsTakenIn es i → ⊥) → (i : ℕ) → IsTakenIn fs i → ⊥
-filled_put es fs t w put some others i is = by_test (t == i)
-    (λ here. some (sym (put_here es fs t i w put here) ∙ is))
-    (λ there. others i there (sym (put_there es fs t i w put there) ∙ is))
+filled_put es fs t w put some others i is = grind (arith, common_steps)
 
 -- the same of a map that is the one after a write
 pub filled_after : (m n k : BTreeMap ℕ (List (List ℕ))) (t : ℕ) (keys : List (List ℕ)) → n ≡ k → ArePutAt m.entries k.entries t (Some keys) → (keys ≡ [] → ⊥) → ((i : ℕ) → IsTakenIn m.entries i → ⊥) → (i : ℕ) → IsTakenIn n.entries i → ⊥
@@ -127,12 +108,7 @@ filled_after m n k t keys is put some filled i taken = filled_put m.entries k.en
 
 -- t's alone is, where it is and no other was
 pub taken_alone : (es fs : Keyed) (t : ℕ) (keys : List (List ℕ)) → ArePutAt es fs t (Some keys) → keys ≡ [] → ((i : ℕ) → IsTakenIn es i → ⊥) → (i : ℕ) → IsTakenIn fs i ↔ (t ≡ i)
-taken_alone es fs t keys put none filled i = (
-  λ is. by_test (t == i)
-      (λ here. eqb-true t i here)
-      (λ there. absurd (filled i (sym (put_there es fs t i (Some keys) put there) ∙ is))),
-  λ here. put_here es fs t i (Some keys) put (eq-eqb t i here) ∙ ap Some none,
-)
+taken_alone es fs t keys put none filled i = grind (arith, common_steps)
 
 -- from no keys none is taken
 pub none_taken : (es : Keyed) (t : ℕ) (keys : List (List ℕ)) → lookup (is_at (nat_cmp t)) es ≡ Some keys → IsTakenIn es t → keys ≡ []

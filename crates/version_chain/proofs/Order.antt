@@ -1,24 +1,21 @@
 -- The order of places, by timestamp and then by key.
-use Rattle.std.proofs.Common.{List, Option, Some, None, ap, arith, false, inl, inr, refl, sym, true, ℕ, ◌<◌, ◌≤◌, ◌&&◌, ◌==◌, ◌⊎◌, ◌≡◌, ◌∙◌}
+use Rattle.std.proofs.lemmas.Grind.{common_steps}
+use Rattle.std.proofs.Common.{List, Option, Some, None, ap, arith, false, refl, sym, true, ℕ, ◌<◌, ◌≤◌, ◌&&◌, ◌==◌, ◌⊎◌, ◌≡◌, ◌∙◌}
 use Rattle.std.specs.Prelude.{nat_lt}
 use Rattle.std.specs.Ordering.{is_eq, is_lt, ordering_reverse}
 use Rattle.std.specs.declared.cmp.Ordering.{Ordering}
 use Rattle.std.specs.declared.cmp.Ordering.TheVariants.{Less, Equal, Greater}
-use Rattle.std.proofs.lemmas.Bool.{and_from, and_left, and_parts, and_right, both_ways, eq-eqb, eqb-true, le-ltb, lt-ltb, ltb-true, ne_eqb, or_cases, or_from, or_left, or_right}
+use Rattle.std.proofs.lemmas.Bool.{and_from, and_left, and_right, both_ways, eq-eqb, le-ltb, lt-ltb, ne_eqb, or_from, or_left, or_right}
 use Rattle.std.proofs.lemmas.Bool.Decides.{nat_tests}
 use Rattle.std.proofs.lemmas.Cmp.{nat_list_cmp_total, tied_itself}
 use Rattle.std.proofs.lemmas.Map.Text.{is_eq-slice_cmp}
 use Rattle.timestamps.specs.Bytes.{key_cmp}
 use Rattle.spans.specs.KeyOrder.{key_lt}
 use Rattle.spans.proofs.Steps.{same_key}
-use Rattle.spans.proofs.KeyOrder.{less_is}
 use Rattle.version_chain.specs.Following.{is_after_place, is_before}
 
 parts : (t i : ℕ) (x y : List ℕ) → is_before t x i y ≡ true → (t < i) ⊎ ((t ≡ i) × (key_cmp x y ≡ Less))
-parts t i x y e = elim (or_cases _ _ e) [
-  | inl l ↦ inl (ltb-true t i l)
-  | inr b ↦ (let both = and_parts _ _ b in inr (eqb-true t i both.0, less_is _ both.1))
-]
+parts t i x y e = grind (arith, common_steps)
 
 pub from_less : (t i : ℕ) (x y : List ℕ) → t < i → is_before t x i y ≡ true
 from_less t i x y l = or_left (nat_lt t i) ((t == i) && key_lt x y) (lt-ltb t i l)
@@ -27,19 +24,10 @@ from_same : (t i : ℕ) (x y : List ℕ) → t ≡ i → key_cmp x y ≡ Less �
 from_same t i x y e l = or_right (nat_lt t i) ((t == i) && key_lt x y) (and_from (t == i) (key_lt x y) (eq-eqb t i e) (ap is_lt l))
 
 pub before_trans : (t i j : ℕ) (x y z : List ℕ) → is_before t x i y ≡ true → is_before i y j z ≡ true → is_before t x j z ≡ true
-before_trans t i j x y z first second = elim (parts t i x y first) [
-  | inl l ↦ elim (parts i j y z second) [ inl m ↦ from_less t j x z (omega arith) | inr m ↦ (let e : i ≡ j = m.0 in from_less t j x z (omega arith)) ]
-  | inr l ↦ (let d : t ≡ i = l.0 in elim (parts i j y z second) [
-    | inl m ↦ from_less t j x z (omega arith)
-    | inr m ↦ from_same t j x z (d ∙ m.0) (nat_list_cmp_total.trans x y z l.1 m.1)
-  ])
-]
+before_trans t i j x y z first second = grind (arith, common_steps, parts, from_less, from_same, nat_list_cmp_total)
 
 pub before_itself : (t : ℕ) (x : List ℕ) → is_before t x t x ≡ true → ⊥
-before_itself t x e = elim (parts t t x x e) [
-  | inl l ↦ omega arith
-  | inr b ↦ (let tied : key_cmp x x ≡ Equal = tied_itself nat_list_cmp_total x in let no' : Less ≡ Equal = sym b.1 ∙ tied in cc)
-]
+before_itself t x e = grind (arith, common_steps, parts, tied_itself, nat_list_cmp_total)
 
 -- two places of which neither is before the other are the same
 pub before_neither : (t i : ℕ) (x y : List ℕ) → is_before t x i y ≡ false → is_before i y t x ≡ false → (t ≡ i) × (x ≡ y)
@@ -54,10 +42,7 @@ before_neither t i x y a b =
 
 -- what comes after a place that is after another comes after that
 pub after_trans : (ts : ℕ) (key : Option (List ℕ)) (t i : ℕ) (x y : List ℕ) → is_after_place ts key x t ≡ true → is_before t x i y ≡ true → is_after_place ts key y i ≡ true
-after_trans ts None t i x y later before = let l : ts < t = ltb-true ts t later in elim (parts t i x y before) [
-  | inl m ↦ lt-ltb ts i (omega arith)
-  | inr m ↦ (let e : t ≡ i = m.0 in lt-ltb ts i (omega arith))
-]
+after_trans ts None t i x y later before = grind (arith, common_steps)
 after_trans ts (Some key) t i x y later before = before_trans ts t i key x y later before
 
 pub later_is_not_before : (i : ℕ) (y : List ℕ) (t : ℕ) (x : List ℕ) → t < i → is_before i y t x ≡ false
@@ -71,10 +56,7 @@ higher_is_not_below x y less = ap is_lt (nat_list_cmp_total.antisymm y x ∙ ap 
 
 -- at its own timestamp, what comes after a place with a key is above that key
 pub at_place : (ts : ℕ) (key x : List ℕ) (i : ℕ) → is_after_place ts (Some key) x i ≡ true → i ≤ ts → (i ≡ ts) × (key_lt key x ≡ true)
-at_place ts key x i later low = elim (or_cases (nat_lt ts i) ((ts == i) && key_lt key x) later) [
-  | inl above ↦ (let lt : ts < i = ltb-true ts i above in absurd (omega arith))
-  | inr beside ↦ (let both = and_parts (ts == i) (key_lt key x) beside in (sym (eqb-true ts i both.0), both.1))
-]
+at_place ts key x i later low = grind (arith, common_steps)
 
 pub after_beside : (ts : ℕ) (key x : List ℕ) → key_lt key x ≡ true → is_after_place ts (Some key) x ts ≡ true
 after_beside ts key x high = grind (arith, nat_tests)

@@ -1,4 +1,6 @@
 -- Versions by their places, and by their timestamps.
+use Rattle.std.proofs.lemmas.Grind.{common_steps}
+use Rattle.std.proofs.Common.{rules}
 use Rattle.std.proofs.Common.{◌≡◌, ℕ, zero, suc, ◌<◌, ◌≤◌, ◌-◌, ◌==◌, true, false, List, [], ◌∷◌, length, get_or, Some, None, refl, sym, ◌∙◌, ap, arith, eq-eqb}
 use Rattle.std.proofs.lemmas.Bool.{ne_eqb}
 use Rattle.std.proofs.lemmas.List.{get_or_default}
@@ -17,19 +19,13 @@ rises_at (v ∷ vs) zero (suc j) d r l lt = above_at vs v.ts j d r.0 (omega arit
 rises_at (v ∷ vs) (suc i) (suc j) d r l lt = rises_at vs i j d r.1 (omega arith) (omega arith)
 
 pub up_to : (vs : List Version) (i j : ℕ) (d : Version) → DoRise vs → i ≤ j → j < length vs → (get_or vs i d).ts ≤ (get_or vs j d).ts
-up_to vs i j d r l lt =
-    let below : i < j → (get_or vs i d).ts < (get_or vs j d).ts = λ m. rises_at vs i j d r m lt in
-    let at : i ≡ j → (get_or vs i d).ts ≡ (get_or vs j d).ts = λ m. ap (λ n. (get_or vs n d).ts) m in
-    grind (arith, below, at)
+up_to vs i j d r l lt = search (rises_at, rules, arith)
 
 -- each version is found by its timestamp
 pub found : (vs : List Version) (k : ℕ) (d : Version) → DoRise vs → k < length vs → version_of vs (get_or vs k d).ts ≡ Some (get_or vs k d)
 found [] k d r lt = absurd (omega arith)
 found (v ∷ vs) zero d r lt = let e : (v.ts == v.ts) ≡ true = eq-eqb _ _ refl in rw e refl
-found (v ∷ vs) (suc k) d r lt =
-    let l : v.ts < (get_or vs k d).ts = above_at vs v.ts k d r.0 (omega arith) in
-    let e : (v.ts == (get_or vs k d).ts) ≡ false = ne_eqb _ _ (λ same. omega arith) in
-    rw e (found vs k d r.1 (omega arith))
+found (v ∷ vs) (suc k) d r lt = grind (arith, common_steps, above_at, ne_eqb, found vs k d r.1)
 
 pub none_at : (vs : List Version) (i : ℕ) → ((k : ℕ) (d : Version) → k < length vs → (get_or vs k d).ts ≡ i → ⊥) → version_of vs i ≡ None
 none_at [] i h = refl
@@ -47,9 +43,7 @@ all_below vs t n v r end is low = record {
   within = omega arith;
   below = λ k d lt.
       let up : (get_or vs k d).ts ≤ (get_or vs (n - 1) d).ts = up_to vs k (n - 1) d r (omega arith) (omega arith) in
-      let last : (get_or vs (n - 1) d).ts ≡ (get_or vs (n - 1) v).ts = same_ts vs (n - 1) d v (omega arith) in
-      let here : v.ts ≡ (get_or vs (n - 1) v).ts = ap (λ w. w.ts) is in
-      omega arith;
+      grind (arith, common_steps);
   above = λ k d at lt. absurd (omega arith);
 }
 
@@ -65,10 +59,7 @@ is_newest vs t n v r p some is =
       one = ap (version_of vs) here ∙ found vs (n - 1) v r lt ∙ ap Some (sym is);
       gap = λ i low high. none_at vs i (λ k d l same.
           let below : k < n - 1 → (get_or vs k d).ts < (get_or vs (n - 1) d).ts = λ m. rises_at vs k (n - 1) d r m lt in
-          let at : k ≡ n - 1 → (get_or vs k d).ts ≡ (get_or vs (n - 1) d).ts = λ m. ap (λ j. (get_or vs j d).ts) m in
-          let above : n ≤ k → t < (get_or vs k d).ts = λ m. p.above k d m l in
-          let other : (get_or vs (n - 1) d).ts ≡ (get_or vs (n - 1) v).ts = same_ts vs (n - 1) d v lt in
-          grind (arith, below, at, above));
+          grind (arith, common_steps));
     }
 
 pub none_above : (vs : List Version) (t n : ℕ) → IsPlaceAbove vs t n → length vs ≤ n → IsNoneAbove vs t
@@ -83,7 +74,5 @@ is_least vs t n v r p lt is =
       gap = λ i low high. none_at vs i (λ k d l same.
           let below : k < n → (get_or vs k d).ts ≤ t = λ m. p.below k d m in
           let at : k ≡ n → (get_or vs k d).ts ≡ (get_or vs n d).ts = λ m. ap (λ j. (get_or vs j d).ts) m in
-          let above : n < k → (get_or vs n d).ts < (get_or vs k d).ts = λ m. rises_at vs n k d r m l in
-          let other : (get_or vs n d).ts ≡ (get_or vs n v).ts = same_ts vs n d v lt in
-          grind (arith, below, at, above));
+          grind (arith, common_steps, rises_at, same_ts));
     }

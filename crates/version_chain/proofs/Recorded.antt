@@ -1,4 +1,6 @@
 -- What a store is seen as after one record changed, one came, and one went.
+use Rattle.std.proofs.lemmas.Grind.{common_steps}
+use Rattle.std.proofs.Common.{rules}
 use Rattle.std.proofs.Common.{◌≡◌, ℕ, ◌<◌, ◌≤◌, ◌==◌, Bool, true, false, cond, ◌&&◌, List, [], ◌∷◌, length, Option, Some, None, refl, sym, ◌∙◌, ap, subst, arith, nat_lt, lt-ltb, ltb-true, max}
 use Rattle.std.specs.Prelude.{◌↔◌, IsTrue, bytes_eq, slice_index_or, slice_set}
 use Rattle.std.proofs.lemmas.Bool.{and_parts, both_ways, false_from_ne_true}
@@ -86,9 +88,7 @@ module _ (ns ms : Numbered) (rs ss : List Record) (spans : SpanMarks) (f : ℕ) 
 
 -- where x has the readers that it had
 pub marks_alike : (s s' : Stored) (x : List ℕ) (m : ℕ → Bool) → ((y : List ℕ) (j : ℕ) → marked_in s' y j ≡ cond (bytes_eq x y) (m j) (marked_in s y j)) → ((j : ℕ) → m j ≡ marked_in s x j) → HaveSameMarks s s'
-marks_alike s s' x m put same y j = put y j ∙ by_test (bytes_eq x y)
-    (λ here. rw here (same j ∙ ap (λ z. marked_in s z j) (same_key x y here)))
-    (λ there. rw there refl)
+marks_alike s s' x m put same y j = search (by_test, same_key, rules, arith)
 
 -- a record stays where it is
 module _ (ns : Numbered) (rs : List Record) (spans : SpanMarks) (f : ℕ) (x : List ℕ) (n : ℕ) (r q : Record) (h : IsHere ns rs x n r) where
@@ -151,9 +151,7 @@ module _ (ns ms : Numbered) (rs : List Record) (spans : SpanMarks) (f : ℕ) (x 
 
 -- where a record takes another's place that has no reader, no record has another reader
 pub fewer_readers : (rs : List Record) (n : ℕ) (q : Record) → n < length rs → readers_of q.readers ≡ [] → (m j : ℕ) → is_reader (slice_index_or (readers_in (slice_set rs n q)) m []) j ≡ true → is_reader (slice_index_or (readers_in rs) m []) j ≡ true
-fewer_readers rs n q low empty m j is = by_test (n == m)
-    (λ same. absurd (let none : slice_index_or (readers_in (slice_set rs n q)) m [] ≡ [] = (placed rs n q low).readers m ∙ (rw same empty) in let no : false ≡ true = sym (ap (λ qs. is_reader qs j) none) ∙ is in (let f : false ≡ true = no in cc)))
-    (λ other. sym (ap (λ qs. is_reader qs j) ((placed rs n q low).readers m ∙ (rw other refl))) ∙ is)
+fewer_readers rs n q low empty m j is = grind (arith, common_steps, by_test, placed)
 
 -- ---- the first reader of a record is the latest of the spans
 

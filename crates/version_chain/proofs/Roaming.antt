@@ -1,5 +1,7 @@
 -- A walk over the records of a span: room is made in each, or a read is noted in each.
-use Rattle.std.proofs.Common.{◌≡◌, ℕ, ◌<◌, ◌==◌, Bool, true, false, ◌||◌, ◌⊎◌, inl, inr, List, [], ◌∷◌, length, Some, refl, sym, ◌∙◌, ap, subst, arith}
+use Rattle.std.proofs.lemmas.Grind.{common_steps}
+use Rattle.std.proofs.Common.{rules}
+use Rattle.std.proofs.Common.{◌≡◌, ℕ, ◌<◌, Bool, true, false, ◌||◌, ◌⊎◌, inl, inr, List, [], ◌∷◌, length, Some, refl, sym, ◌∙◌, ap, subst, arith}
 use Rattle.std.specs.Prelude.{◌≢◌, bytes_eq, slice_index_or, slice_set}
 use Rattle.std.specs.List.{AllByRecursion}
 use Rattle.std.specs.Map.{keys_of}
@@ -7,7 +9,6 @@ use Rattle.std.specs.BTreeMap.{is_at}
 use Rattle.std.specs.Ordering.{is_eq}
 use Rattle.std.specs.declared.cmp.Ordering.TheVariants.{Less}
 use Rattle.std.proofs.lemmas.Bool.{both_ways, or_cases, or_right, false_from_ne_true}
-use Rattle.std.proofs.lemmas.Bool.Decides.{nat_tests}
 use Rattle.std.proofs.lemmas.List.{get_or-set_same, get_or-set_other, length-map, map-set}
 use Rattle.std.proofs.Math.Seq.{map-set_same}
 use Rattle.std.proofs.lemmas.Map.Text.{is_eq-slice_cmp}
@@ -64,17 +65,7 @@ all_those span ns r = from ns r (λ x n is. is)
 
 all_left : (span : Span) (ns : Numbered) (x : List ℕ) (n : ℕ) → number_in ns x ≡ Some n → in_span span x ≡ true → is_left x (numbered_in span ns) ≡ true
 all_left span [] x n is inside = cc
-all_left span (e ∷ ns) x n is inside = by_test (is_at (key_cmp x) e.0)
-    (λ here.
-    let key : x ≡ e.0 = same_key x e.0 (sym (is_eq-slice_cmp x e.0) ∙ here) in
-    let on : in_span span e.0 ≡ true = subst (λ y. in_span span y ≡ true) key inside in
-    let same : bytes_eq e.0 x ≡ true = subst (λ y. bytes_eq y x ≡ true) key (key_itself x) in
-    rw on (ap (λ b. b || is_left x (numbered_in span ns)) same))
-    (λ there.
-    let rest : is_left x (numbered_in span ns) ≡ true = all_left span ns x n (sym (rw there refl) ∙ is) inside in
-    by_test (in_span span e.0)
-    (λ on. rw on (or_right (bytes_eq e.0 x) (is_left x (numbered_in span ns)) rest))
-    (λ off. rw off rest))
+all_left span (e ∷ ns) x n is inside = search (by_test, same_key, is_eq-slice_cmp, key_itself, or_right, all_left span ns x n, rules, arith)
 
 none-later : (e : List ℕ × ℕ) (rest : Numbered) → RisingKeys (keys_of (e ∷ rest)) → is_left e.0 rest ≡ false
 none-later e rest r = false_from_ne_true _ (λ on.
@@ -91,17 +82,10 @@ pub record IsRooming (ns : Numbered) (os rs : List Record) (span : Span) (rest :
   pub room : (x : List ℕ) (n : ℕ) (d : Record) → number_in ns x ≡ Some n → in_span span x ≡ true → is_left x rest ≡ false → has_room (slice_index_or rs n d).readers
 
 pub rooming_first : (ns : Numbered) (os : List Record) (span : Span) (rest : Numbered) → RisingKeys (keys_of ns) → rest ≡ numbered_in span ns → IsRooming ns os os span rest
-rooming_first ns os span rest r is = record {
-  chains = refl;
-  readers = refl;
-  those = subst (AreThose ns span) (sym is) (all_those span ns r);
-  room = λ x n d at inside gone. absurd (both_ways _ gone (ap (is_left x) is ∙ all_left span ns x n at inside));
-}
+rooming_first ns os span rest r is = search (all_those, both_ways, all_left, rules, arith)
 
 set-cases : (rs : List Record) (m n : ℕ) (q d : Record) (P : Record → Type 0) → m < length rs → P q → P (slice_index_or rs n d) → P (slice_index_or (slice_set rs m q) n d)
-set-cases rs m n q d P low here there = by_test (m == n)
-    (λ same. let is : m ≡ n = grind (arith, nat_tests) in subst P (sym (ap (λ k. slice_index_or (slice_set rs m q) k d) (sym is) ∙ get_or-set_same rs m q d low)) here)
-    (λ other. let differs : n ≢ m = (λ e. grind (arith, nat_tests)) in subst P (sym (get_or-set_other rs m n q d differs)) there)
+set-cases rs m n q d P low here there = grind (arith, common_steps)
 
 pub left_low : (ns : Numbered) (os rs : List Record) (span : Span) (e : List ℕ × ℕ) (left rest : Numbered) → AreLow ns (length os) → chains_in rs ≡ chains_in os → AreThose ns span left → left ≡ e ∷ rest → e.1 < length rs
 left_low ns os rs span e left rest low same those is = (let at : e.1 < length os = low e.0 e.1 (subst (AreThose ns span) is those).0.0 in let count : length rs ≡ length os = same_count os rs same in omega arith)
@@ -127,10 +111,7 @@ module _ (ns : Numbered) (os rs : List Record) (span : Span) (e : List ℕ × �
 -- what is left where memory runs out
 pub rooming_stops : (ns : Numbered) (os rs : List Record) (n : ℕ) (r q : Record) → r ≡ slice_index_or rs n r → q.chain ≡ r.chain → readers_of q.readers ≡ readers_of r.readers → chains_in rs ≡ chains_in os → readers_in rs ≡ readers_in os
     → (chains_in (slice_set rs n q) ≡ chains_in os) × (readers_in (slice_set rs n q) ≡ readers_in os)
-rooming_stops ns os rs n r q at chain readers cs qs = (
-  map-set_same (λ (k : Record). k.chain) rs n q r (chain ∙ ap (λ (k : Record). k.chain) at) ∙ cs,
-  map-set_same (λ (k : Record). readers_of k.readers) rs n q r (readers ∙ ap (λ (k : Record). readers_of k.readers) at) ∙ qs,
-)
+rooming_stops ns os rs n r q at chain readers cs qs = grind (arith, common_steps, map-set_same)
 
 pub rooming_ends : (ns : Numbered) (os rs : List Record) (span : Span) (rest : Numbered) → [] ≡ rest → IsRooming ns os rs span rest → HaveRoom ns rs span
 rooming_ends ns os rs span rest end s x n d is inside = s.room x n d is inside (ap (is_left x) (sym end))
@@ -232,14 +213,8 @@ module _ (ns : Numbered) (os rs : List Record) (span : Span) (t f : ℕ) (e : Li
           (subst (λ qs. IsNotedOn (afters_of r.chain) (is_kept f (readers_of r.readers)) (is_kept f qs) t) (sym after) noted))
 
 pub noting_ends : (ns : Numbered) (os rs : List Record) (span : Span) (t f : ℕ) (rest : Numbered) → [] ≡ rest → IsNoting ns os rs span t f rest → AreNoted ns os rs span t f
-noting_ends ns os rs span t f rest end s = record {
-  chains = s.chains;
-  noted = λ x n at inside. s.noted x n at inside (ap (is_left x) (sym end));
-  others = λ x n at off. s.same x n at (inl off);
-}
+noting_ends ns os rs span t f rest end s = grind (arith, common_steps)
 
 -- there is room for the next one
 pub room_next : (ns : Numbered) (os rs : List Record) (span : Span) (t f : ℕ) (e : List ℕ × ℕ) (left rest : Numbered) (r : Record) → left ≡ e ∷ rest → r ≡ slice_index_or rs e.1 r → IsNoting ns os rs span t f left → has_room r.readers
-room_next ns os rs span t f e left rest r is at s =
-    let those : AreThose ns span (e ∷ rest) = subst (AreThose ns span) is s.those in
-    subst (λ (k : Record). has_room k.readers) (sym at) (s.room e.0 e.1 r those.0.0 (ap (is_left e.0) is ∙ ap (λ b. b || is_left e.0 rest) (key_itself e.0)))
+room_next ns os rs span t f e left rest r is at s = grind (arith, common_steps, key_itself)

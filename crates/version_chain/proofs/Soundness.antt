@@ -1,8 +1,9 @@
 -- The count and the index after one place of the chains changed, or all of one timestamp.
+use Rattle.std.proofs.lemmas.Grind.{common_steps}
+use Rattle.std.proofs.Common.{rules}
 use Rattle.std.proofs.Common.{◌≡◌, ℕ, ◌<◌, ◌≤◌, ◌-◌, ◌==◌, Bool, true, false, cond, ◌&&◌, ◌||◌, List, length, Option, Some, None, refl, sym, ◌∙◌, ap, subst, arith}
-use Rattle.std.specs.Prelude.{bytes_eq, is_some, is_none, max, nat_le, option_map}
-use Rattle.std.proofs.lemmas.Bool.Decides.{nat_tests}
-use Rattle.std.proofs.lemmas.Bool.{and_parts, both_ways, eqb-true, ne_eqb}
+use Rattle.std.specs.Prelude.{bytes_eq, is_some, is_none, max, option_map}
+use Rattle.std.proofs.lemmas.Bool.{and_parts, eqb-true, ne_eqb}
 use Rattle.spans.proofs.Keyed.{RisingKeys}
 use Rattle.spans.proofs.Steps.{by_test, same_key}
 use Rattle.spans.proofs.WriteSets.{has}
@@ -18,19 +19,11 @@ use Rattle.version_chain.proofs.Dead.{live_lower}
 use Rattle.version_chain.proofs.Thinning.{settled_fewer}
 
 at_place : (es : Stored) (x : List ℕ) (t : ℕ) (y : List ℕ) (i : ℕ) → ((t == i) && bytes_eq x y) ≡ true → found_in es x t ≡ found_in es y i
-at_place es x t y i here =
-    let both = and_parts (t == i) (bytes_eq x y) here in
-    ap (λ z. found_in es z t) (same_key x y both.1) ∙ ap (found_in es y) (eqb-true t i both.0)
+at_place es x t y i here = search (and_parts, same_key, eqb-true, rules, arith)
 
 -- a version came
 pub indexed_more : (es fs : Stored) (index index' : Index) (x : List ℕ) (t : ℕ) (a : Version) → IsChangedAt es fs x t (λ _. Some a) → ((y : List ℕ) (i : ℕ) → is_listed index' y i ≡ (((t == i) && bytes_eq x y) || is_listed index y i)) → IsIndexOf es index → IsIndexOf fs index'
-indexed_more es fs index index' x t a h more is y i = more y i ∙ by_test ((t == i) && bytes_eq x y)
-    (λ here. let found : found_in fs y i ≡ Some a = h y i ∙ (rw here refl) in rw here (ap is_some (sym found)))
-    (λ there. let found : found_in fs y i ≡ found_in es y i = h y i ∙ (rw there refl) in rw there (is y i ∙ ap is_some (sym found)))
-
--- the index is as it was
-pub indexed_alike : (es : Stored) (index index' : Index) → ((y : List ℕ) (i : ℕ) → is_listed index' y i ≡ is_listed index y i) → IsIndexOf es index → IsIndexOf es index'
-indexed_alike es index index' same is y i = same y i ∙ is y i
+indexed_more es fs index index' x t a h more is y i = grind (arith, common_steps)
 
 -- a version took the place of one
 pub indexed_replaced : (es fs : Stored) (index : Index) (x : List ℕ) (t : ℕ) (a : Version) → IsChangedAt es fs x t (λ _. Some a) → is_none (found_in es x t) ≡ false → IsIndexOf es index → IsIndexOf fs index
@@ -51,9 +44,7 @@ AreSettled es n = (x : List ℕ) (t : ℕ) → is_dead_in es n x t ≡ false
 
 -- an undecided version came, or took the place of one
 pub settled_write : (es fs : Stored) (x : List ℕ) (t n : ℕ) (a : Version) → a.committed ≡ false → IsChangedAt es fs x t (λ _. Some a) → AreSettled es n → AreSettled fs n
-settled_write es fs x t n a open' h none = settled_fewer es fs n (λ y i low done. by_test ((t == i) && bytes_eq x y)
-    (λ here. let found : found_in fs y i ≡ Some a = h y i ∙ (rw here refl) in absurd (both_ways _ open' (ap is_committed (sym found) ∙ done)))
-    (λ there. h y i ∙ (rw there refl))) none
+settled_write es fs x t n a open' h none = settled_fewer es fs n (λ y i low done. grind (arith, common_steps)) none
 
 -- versions above a lower horizon changed
 pub settled_above : (es fs : Stored) (t m n : ℕ) → ((y : List ℕ) (i : ℕ) → (t == i) ≡ false → found_in fs y i ≡ found_in es y i) → m ≤ n → m < t → AreSettled es n → AreSettled fs m
@@ -70,12 +61,7 @@ sound_alike es fs index n horizon same s = record {
 
 -- the same chains, and an index that lists the same
 pub sound_index : (es : Stored) (index index' : Index) (n horizon : ℕ) → ((y : List ℕ) (i : ℕ) → is_listed index' y i ≡ is_listed index y i) → (IsFilled index → IsFilled index') → IsSound es index n horizon → IsSound es index' n horizon
-sound_index es index index' n horizon same still s = record {
-  counted = s.counted;
-  indexed = indexed_alike es index index' same s.indexed;
-  filled = still s.filled;
-  settled = s.settled;
-}
+sound_index es index index' n horizon same still s = grind (arith, common_steps)
 
 -- a version that came where there was none goes again
 pub went_again : (es fs gs : Stored) (x : List ℕ) (t : ℕ) (a : Version) → is_none (found_in es x t) ≡ true → IsChangedAt es fs x t (λ _. Some a) → IsChangedAt fs gs x t (λ _. None) → (y : List ℕ) (i : ℕ) → found_in gs y i ≡ found_in es y i
@@ -148,6 +134,4 @@ sound_drop es fs index index' keys t n horizon h rising listed less still s = (
     stood false p o e done = e
 
 pub settled_max : (es : Stored) (a b : ℕ) → AreSettled es a → AreSettled es b → AreSettled es (max a b)
-settled_max es a b first second = by_test (nat_le a b)
-    (λ on. let e : max a b ≡ b = grind (arith, nat_tests) in subst (AreSettled es) (sym e) second)
-    (λ off. let e : max a b ≡ a = grind (arith, nat_tests) in subst (AreSettled es) (sym e) first)
+settled_max es a b first second = grind (arith, common_steps)

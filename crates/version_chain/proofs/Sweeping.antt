@@ -1,10 +1,10 @@
 -- What a sweep leaves: readers that are forgotten go, and no key's marks change.
-use Rattle.std.proofs.Common.{◌≡◌, ℕ, ◌<◌, ◌≤◌, ◌+◌, ◌==◌, Bool, true, false, cond, ◌&&◌, ◌⊎◌, inl, inr, List, [], ◌∷◌, length, Option, Some, None, refl, sym, ◌∙◌, ap, arith, nat_le, nat_lt, leb-false, leb-true, lt-ltb, ltb-true}
+use Rattle.std.proofs.lemmas.Grind.{common_steps}
+use Rattle.std.proofs.Common.{◌≡◌, ℕ, ◌<◌, ◌≤◌, ◌+◌, ◌==◌, Bool, true, false, cond, ◌&&◌, ◌⊎◌, List, [], ◌∷◌, length, Option, Some, None, refl, sym, ◌∙◌, ap, arith, nat_le, nat_lt, ltb-true}
 use Rattle.std.specs.Prelude.{slice_index_or, slice_set}
 use Rattle.std.specs.List.{filter}
-use Rattle.std.proofs.lemmas.Bool.{and_parts, cases_lt}
+use Rattle.std.proofs.lemmas.Bool.{and_parts}
 use Rattle.std.proofs.lemmas.Bool.Decides.{nat_tests}
-use Rattle.std.proofs.lemmas.List.{get_or_past, length-map}
 use Rattle.std.proofs.Math.Seq.{map-set_same}
 use Rattle.spans.proofs.Steps.{by_test}
 use Rattle.key_table.specs.Numbers.{Numbered, number_in}
@@ -19,7 +19,6 @@ use Rattle.version_chain.specs.Chains.{HaveSameChains, HaveSameMarks}
 use Rattle.version_chain.specs.ByNumber.{at_number, chains_in, readers_in, stored}
 use Rattle.version_chain.specs.Records.{AreSwept, stored_of}
 use Rattle.version_chain.proofs.ByNumber.{chain_is, marked_is, placed, readers_at}
-use Rattle.version_chain.proofs.Recorded.{none_kept}
 
 -- ---- what leaves the marks of all keys alone
 
@@ -39,19 +38,13 @@ module _ (ns : Numbered) (rs ss : List Record) (spans spans' : SpanMarks) (f f' 
 -- ---- of the spans
 
 forgotten-latest : (f l l' : ℕ) → l' ≡ cond (nat_le l f) 0 l → (j : ℕ) → is_kept f (l' ∷ []) j ≡ is_kept f (l ∷ []) j
-forgotten-latest f l l' is j = by_test (nat_le l f)
-    (λ low.
-    let none : l' ≡ 0 = is ∙ rw low refl in
-    none_kept f l' j (omega arith) ∙ sym (none_kept f l j (leb-true l f low)))
-    (λ high. let same : l' ≡ l = is ∙ rw high refl in ap (λ k. is_kept f (k ∷ []) j) same)
+forgotten-latest f l l' is j = grind (arith, common_steps)
 
 pub spans_forgotten : (ns : Numbered) (rs : List Record) (spans spans' : SpanMarks) (f : ℕ) → ((x : List ℕ) → latest_in spans' x ≡ cond (nat_le (latest_in spans x) f) 0 (latest_in spans x)) → HaveSameMarks (stored ns rs spans f) (stored ns rs spans' f)
 spans_forgotten ns rs spans spans' f is = marks_stay ns rs rs spans spans' f f (λ n j. refl) (λ x. forgotten-latest f (latest_in spans x) (latest_in spans' x) (is x))
 
 pub latest_left : (f l l' : ℕ) → l' ≡ cond (nat_le l f) 0 l → (l' ≡ 0) ⊎ (f < l')
-latest_left f l l' is = by_test (nat_le l f)
-    (λ low. inl (is ∙ rw low refl))
-    (λ high. let same : l' ≡ l = is ∙ rw high refl in let over : f < l = leb-false l f high in inr (omega arith))
+latest_left f l l' is = grind (arith, common_steps)
 
 -- ---- of one record
 
@@ -79,12 +72,7 @@ module _ (ns : Numbered) (rs : List Record) (spans : SpanMarks) (f n : ℕ) (r q
 -- ---- of all records
 
 pub all_swept : (rs : List Record) (n f : ℕ) → length rs ≤ n → ((m j : ℕ) → m < n → is_reader (slice_index_or (readers_in rs) m []) j ≡ true → f < j) → (m j : ℕ) → is_reader (slice_index_or (readers_in rs) m []) j ≡ true → f < j
-all_swept rs n f all swept m j is = elim (cases_lt m n) [
-  | inl under ↦ swept m j under is
-  | inr over ↦ (let count : length (readers_in rs) ≡ length rs = length-map rs _ in
-      let none : slice_index_or (readers_in rs) m [] ≡ [] = get_or_past (readers_in rs) m [] (omega arith) in
-      let f' : false ≡ true = sym (ap (λ qs. is_reader qs j) none) ∙ is in cc)
-]
+all_swept rs n f all swept m j is = grind (arith, common_steps)
 
 -- then more may count
 lowered-test : (f f' j : ℕ) (b : Bool) → f' ≤ f → (b ≡ true → f < j) → (nat_lt f' j && b) ≡ (nat_lt f j && b)
@@ -93,9 +81,7 @@ lowered-test f f' j false low above = and-nothing (nat_lt f' j) ∙ sym (and-not
     and-nothing : (b : Bool) → (b && false) ≡ false
     and-nothing true = refl
     and-nothing false = refl
-lowered-test f f' j true low above =
-    let over : f < j = above refl in
-    rw (lt-ltb f j over, lt-ltb f' j (omega arith)) refl
+lowered-test f f' j true low above = grind (arith, common_steps)
 
 pub lone-reader : (l j : ℕ) → is_reader (l ∷ []) j ≡ true → j ≡ l
 lone-reader l j is = grind (arith, nat_tests, is)
@@ -103,7 +89,4 @@ lone-reader l j is = grind (arith, nat_tests, is)
 pub lowered : (c : Chains) (f' : ℕ) → AreSwept c → f' ≤ c.forgotten → HaveSameMarks (stored_of c) (stored c.keys c.records.items c.spans f')
 lowered c f' swept low = marks_stay c.keys c.records.items c.records.items c.spans c.spans c.forgotten f'
     (λ n j. lowered-test c.forgotten f' j (is_reader (slice_index_or (readers_in c.records.items) n []) j) low (swept.records n j))
-    (λ x j. elim (swept.spans x) [
-      | inl none ↦ none_kept f' (latest_in c.spans x) j (omega arith) ∙ sym (none_kept c.forgotten (latest_in c.spans x) j (omega arith))
-      | inr over ↦ lowered-test c.forgotten f' j (is_reader (latest_in c.spans x ∷ []) j) low (λ is. let same : j ≡ latest_in c.spans x = lone-reader (latest_in c.spans x) j is in omega arith)
-    ])
+    (λ x j. grind (arith, common_steps))

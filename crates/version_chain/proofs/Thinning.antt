@@ -1,4 +1,7 @@
 -- What a store has after the dead versions of a key went, and after those of some keys.
+use Rattle.std.proofs.lemmas.Grind.{common_steps}
+use Rattle.std.proofs.Common.{arith}
+use Rattle.std.proofs.Common.{rules}
 use Rattle.std.proofs.Common.{◌≡◌, ℕ, ◌-◌, ◌≤◌, Bool, true, false, cond, ◌&&◌, List, [], length, Option, Some, None, refl, sym, ◌∙◌, ap, subst}
 use Rattle.std.specs.Prelude.{bytes_eq, is_some, not}
 use Rattle.std.specs.List.{filter}
@@ -32,9 +35,7 @@ thinned_put es fs x ws n put vs chain left rises y i = ap (λ us. version_of us 
 
 -- where there is none, none is dead
 dead_nowhere : (es : Stored) (x y : List ℕ) (n i : ℕ) → chain_of es x ≡ [] → (bytes_eq x y && is_dead_in es n y i) ≡ false
-dead_nowhere es x y n i none = by_test (bytes_eq x y)
-    (λ here. rw here (sym (dead_of_chain es x y [] n i none here)))
-    (λ there. rw there refl)
+dead_nowhere es x y n i none = search (by_test, dead_of_chain, rules, arith)
 
 pub thinned_none : (es : Stored) (x : List ℕ) (n : ℕ) → chain_of es x ≡ [] → IsThinnedAt es es x n
 thinned_none es x n none y i = ap (λ b. cond b None (found_in es y i)) (sym (dead_nowhere es x y n i none))
@@ -71,9 +72,6 @@ counted_left es fs x vs r n chain rises thin is m c = counted_thinned es fs x (i
 never : (b : Bool) (o : Option Version) → o ≡ cond (b && not b) None o
 never true o = refl
 never false o = refl
-
-pub partly_none : (es : Stored) (n : ℕ) → ArePartlyThinned es es n
-partly_none es n = record { marks = λ y j. refl; found = λ y i. never (is_dead_in es n y i) (found_in es y i); fewer = λ y i dead. dead }
 
 -- nothing is dead of a key that lost what was
 pub settled_here : (es fs : Stored) (x : List ℕ) (n : ℕ) → IsThinnedAt es fs x n → (i : ℕ) → is_dead_in fs n x i ≡ false
@@ -120,9 +118,7 @@ settled_still es fs n thin y i none = false_from_ne_true _ (λ dead. both_ways _
 
 -- what is there was there
 pub found_before : (es fs : Stored) (n : ℕ) → ArePartlyThinned es fs n → (y : List ℕ) (i : ℕ) → is_some (found_in fs y i) ≡ true → found_in fs y i ≡ found_in es y i
-found_before es fs n thin y i some = by_test (is_dead_in es n y i && not (is_dead_in fs n y i))
-    (λ on. absurd (let gone : found_in fs y i ≡ None = thin.found y i ∙ (rw on refl) in let no : false ≡ true = ap is_some (sym gone) ∙ some in (let f : false ≡ true = no in cc)))
-    (λ off. thin.found y i ∙ (rw off refl))
+found_before es fs n thin y i some = grind (arith, common_steps)
 
 -- fewer versions: nothing more is dead
 pub settled_fewer : (es fs : Stored) (n : ℕ) → ((y : List ℕ) (i : ℕ) → i ≤ n → is_committed (found_in fs y i) ≡ true → found_in fs y i ≡ found_in es y i) → ((y : List ℕ) (i : ℕ) → is_dead_in es n y i ≡ false) → (y : List ℕ) (i : ℕ) → is_dead_in fs n y i ≡ false

@@ -1,9 +1,9 @@
--- The committed versions after a place, the first of them, and a walk through all.
-use Rattle.std.specs.Prelude.{ℕ, List, Bool, true, false, ◌≡◌, ◌≤◌, ◌==◌, ◌&&◌, ◌||◌, nat_lt, MatchOption, Option, Some, None}
+-- The committed versions after a place, and a walk from version to version.
+use Rattle.std.specs.Prelude.{ℕ, List, Bool, true, false, ◌≡◌, ◌≤◌, ◌==◌, ◌&&◌, ◌||◌, nat_lt, is_some, MatchOption, Option, Some, None}
 use Rattle.std.specs.Borrow.{Bor}
 use Rattle.spans.specs.KeyOrder.{key_lt}
-use Rattle.version_chain.specs.declared.chain.Version.{Version}
-use Rattle.version_chain.specs.Stores.{Stored, version_in, is_committed_in}
+use Rattle.version_chain.specs.Chains.{found_in}
+use Rattle.version_chain.specs.Stores.{Stored, is_committed_in}
 
 -- x at t is before y at i: by timestamp and then by key, as rows are ordered
 abbrev pub is_before : ℕ → List ℕ → ℕ → List ℕ → Bool
@@ -20,28 +20,28 @@ pub record IsLeft (s : Stored) (ts : ℕ) (key : Option (List ℕ)) (through : �
   pub later : is_after_place ts key x i ≡ true
   pub low : i ≤ through
 
--- no committed version is left
-abbrev pub IsNoneAfter : Stored → ℕ → Option (List ℕ) → ℕ → Type 0
-IsNoneAfter s ts key through = (y : List ℕ) (i : ℕ) → IsLeft s ts key through y i → ⊥
-
--- v is a version of x, and the first of those that are left
-pub record IsFirstAfter (s : Stored) (ts : ℕ) (key : Option (List ℕ)) (through : ℕ) (x : List ℕ) (v : Version) : Type 0 where
-  pub left : IsLeft s ts key through x v.ts
-  pub version : version_in s x v.ts ≡ Some v.after
-  pub committed : v.committed ≡ true
-  pub first : (y : List ℕ) (i : ℕ) → IsLeft s ts key through y i → is_before i y v.ts x ≡ false
-
--- what was found, a key and its version, is the first that is left, or nothing is
-abbrev pub IsFirstFound : Stored → ℕ → Option (List ℕ) → ℕ → Option (Bor (List ℕ) × Bor Version) → Type 0
-IsFirstFound s ts key through found = MatchOption found (IsNoneAfter s ts key through) (λ f. IsFirstAfter s ts key through f.0.now f.1.now)
-
--- a walk from one to the next: behind which place of a store it is, and how far it goes
+-- a walk from version to version, committed or not: behind which place of a store it is, and how far it goes
 pub record Walk : Type 0 where
   pub store : Stored
   pub ts : ℕ
   pub key : Option (List ℕ)
   pub through : ℕ
 
+-- x has a version at i, after the walk's place and not above where it ends
+pub record IsToCome (w : Walk) (x : List ℕ) (i : ℕ) : Type 0 where
+  pub there : is_some (found_in w.store x i) ≡ true
+  pub later : is_after_place w.ts w.key x i ≡ true
+  pub low : i ≤ w.through
+
+-- x at t is the first that is to come
+pub record IsStep (w : Walk) (t : ℕ) (x : List ℕ) : Type 0 where
+  pub one : IsToCome w x t
+  pub first : (y : List ℕ) (i : ℕ) → IsToCome w y i → is_before i y t x ≡ false
+
+-- what was found, a timestamp and a key, is the first that is to come; or nothing is
+abbrev pub IsNextFound : Walk → Option (ℕ × Bor (List ℕ)) → Type 0
+IsNextFound w found = MatchOption found ((y : List ℕ) (i : ℕ) → IsToCome w y i → ⊥) (λ f. IsStep w f.0 f.1.now)
+
 -- it went to what was found, or stays where nothing was
-abbrev pub IsWalkedTo : Walk → Walk → Option (Bor (List ℕ) × Bor Version) → Type 0
-IsWalkedTo w w' found = MatchOption found (w' ≡ w) (λ f. w' ≡ record w { ts = f.1.now.ts; key = Some f.0.now })
+abbrev pub IsWalkedTo : Walk → Walk → Option (ℕ × Bor (List ℕ)) → Type 0
+IsWalkedTo w w' found = MatchOption found (w' ≡ w) (λ f. w' ≡ record w { ts = f.0; key = Some f.1.now })

@@ -1,5 +1,5 @@
 -- What a store means: which version each key has at each timestamp, and whether it is committed.
-use Rattle.std.specs.Prelude.{ℕ, List, Bool, false, ◌≡◌, ◌<◌, ◌≤◌, ◌==◌, ◌&&◌, ◌||◌, if◌then◌else◌, bytes_eq, Option, Some, None, option_map, is_some, length}
+use Rattle.std.specs.Prelude.{ℕ, List, Bool, false, true, ◌≡◌, ◌<◌, ◌≤◌, ◌==◌, ◌&&◌, ◌||◌, if◌then◌else◌, bytes_eq, Option, Some, None, option_map, is_some, length}
 use Rattle.spans.specs.Effects.{After}
 use Rattle.spans.specs.Collection.{VersionName}
 use Rattle.kept.specs.Lists.{AreThose, IsNumberOf}
@@ -38,6 +38,12 @@ pub record IsNewestIn (s : Stored) (x : List ℕ) (t : ℕ) (v : Version) : Type
   pub version : version_in s x v.ts ≡ Some v.after
   pub committed : is_committed_in s x v.ts ≡ v.committed
   pub gap : (i : ℕ) → v.ts < i → i ≤ t → version_in s x i ≡ None
+
+-- v is the version of x at t, and it is committed
+pub record IsCommittedAt (s : Stored) (x : List ℕ) (t : ℕ) (v : Version) : Type 0 where
+  pub at : v.ts ≡ t
+  pub found : found_in s x t ≡ Some v
+  pub done : v.committed ≡ true
 
 -- the store means what it did
 pub record IsAsBefore (s s' : Stored) : Type 0 where

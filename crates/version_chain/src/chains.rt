@@ -10,9 +10,8 @@ ghost use Rattle.version_chain.specs.declared.chain.Version.{Version};
 ghost use Rattle.version_chain.specs.declared.record.Record.{Record};
 ghost use Rattle.version_chain.specs.Versions.{as_committed, IsNoneUpTo, IsNewestOf, IsNoneAbove, IsLeastAbove};
 ghost use Rattle.version_chain.specs.Chains.{found_in, chain_of, AreChangedAt, HaveSameChains, HaveSameMarks, IsChangedAt, marked_in};
-ghost use Rattle.version_chain.specs.Stores.{is_committed_in, version_in, IsCountOf};
+ghost use Rattle.version_chain.specs.Stores.{is_committed_in, version_in, IsCommittedAt, IsCountOf};
 ghost use Rattle.version_chain.specs.Marking.{AreMarkedAt, IsCrossedIn, IsMarkedAt};
-ghost use Rattle.version_chain.specs.Walking.{IsCommittedAt, IsFirstAmong, IsNoneAmong, keys_ahead};
 ghost use Rattle.version_chain.specs.ByNumber.{AreLow, IsPlaced};
 ghost use Rattle.version_chain.specs.InSpans.{AreFound};
 ghost use Rattle.version_chain.specs.Dead.{is_dead_in, IsThinnedAt};
@@ -145,7 +144,7 @@ impl Chains {
     }
 
     /// The version of the key at `ts`, where it is committed.
-    fn committed_at(&self, key: &Key, ts: u64) -> Option<&Version>
+    pub(crate) fn committed_at(&self, key: &Key, ts: u64) -> Option<&Version>
         ensures { MatchOption result (is_committed_in (stored_of self.now) key.now ts ≡ false) (λ v. IsCommittedAt (stored_of self.now) key.now ts v.now) }
     {
         let version = self.newest_at(key, ts)?;
@@ -153,27 +152,6 @@ impl Chains {
             return None;
         }
         Some(version)
-    }
-
-    /// The first of the keys with a committed version at `ts`, with that version. The keys up to it are taken.
-    pub(crate) fn first_committed<'a>(
-        &'a self,
-        keys: &mut Option<Keys<'a>>,
-        ts: u64,
-    ) -> Option<(&'a Key, &'a Version)>
-        requires { RisingKeys (keys_ahead keys.old) }
-        ensures first { MatchOption result (IsNoneAmong (stored_of self.now) (keys_ahead keys.old) ts)
-            (λ found. IsFirstAmong (stored_of self.now) (keys_ahead keys.old) ts found.0.now found.1.now) }
-        ensures rest { MatchOption result (keys_ahead keys.new ≡ [])
-            (λ found. keys_ahead keys.new ≡ filter (key_lt found.0.now) (keys_ahead keys.old)) }
-    {
-        let ahead = keys.as_mut()?;
-        while let Some(key) = ahead.next() {
-            if let Some(version) = self.committed_at(key, ts) {
-                return Some((key, version));
-            }
-        }
-        None
     }
 
     /// The keys of the span that have a version, rising, each with its chain. It goes straight to the first.

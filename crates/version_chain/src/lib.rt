@@ -4,8 +4,8 @@
 //! A [`Store`] is a table that numbers keys, a list with the record of each number, the latest reader by spans for keys without
 //! a record, and beside them an index from timestamps to keys. A record is a [`Chain`](chain::Chain) of versions, which is a
 //! list, or a list of blocks where it is long, and its readers. A transaction's version is undecided until it commits. The keys
-//! of a timestamp in the index are what its transaction wrote, so no other set of them is kept. `committed_after` begins a
-//! [`CommittedAfter`], which goes from one committed version to the next.
+//! of a timestamp in the index are what its transaction wrote, so no other set of them is kept. `versions_after` begins a
+//! [`VersionsAfter`], which goes from one version to the next by the index alone.
 //!
 //! 1. A key has a record where it has a version, or was read by itself, or was read while it had one. Any other key has no
 //!    version, and of its readers only the latest can refuse a write, so that one stands for all.
@@ -29,7 +29,7 @@
 //! Costs, with k keys, v versions of one of them in b blocks, and n of all. A key is found in O(1), or in O(log k) where
 //! no hint of the table leads to it:
 //!
-//! - `newest_at`, `next_above`, `around`: O(log v log b), and at most as many timestamps as v has binary digits
+//! - `newest_at`, `next_above`, `around`, `committed_at`: O(log v log b), and at most as many timestamps as v has binary digits
 //! - `write`: the same, O(log k) for a key that had no record, and O(log n) in the index. It looks at the end of the chain
 //!   first. The versions above its own in its block move, and the starts of the blocks behind it rise. Where a reader is
 //!   above it, it searches readers and chain before that, and ends there where it is crossed
@@ -39,7 +39,7 @@
 //! - `commit`: O(log n) in the index, and O(log v log b) for each key written at its timestamp
 //! - `abort`: the same, O(log k) where the last version of a key goes, and what a write moves
 //! - `written_at`: O(log n)
-//! - `committed_after`: O(log n), and then a search for each version that is listed from there on, as it is asked for
+//! - `versions_after`: O(log n), and then O(1) for each version that is asked for
 //! - `in_span`: O(log k), and then each key as it is asked for
 //! - `drop_dead`: O(log n) for each version that was written since the horizon that the store keeps, up to its own, and
 //!   for each that goes; and for each key that it meets the starts of all blocks
@@ -65,7 +65,6 @@ mod block;
 mod blocks;
 pub mod chain;
 mod chains;
-mod committed_after;
 pub mod in_span;
 mod index;
 mod noting;
@@ -74,8 +73,9 @@ mod spot;
 mod steps;
 mod store;
 mod versions;
+mod versions_after;
 
-pub use committed_after::CommittedAfter;
 pub use spot::Spot;
 pub use steps::Steps;
 pub use store::{Store, Wrote};
+pub use versions_after::VersionsAfter;

@@ -13,14 +13,14 @@ ghost use Rattle.version_chain.specs.Dead.{is_dead_in, ArePartlyThinned, IsColle
 ghost use Rattle.version_chain.specs.Marking.{AreMarkedAt, IsCrossedIn, IsMarkedAt};
 ghost use Rattle.version_chain.specs.Indexes.{is_listed, IsFilled, IsListedAt};
 ghost use Rattle.version_chain.specs.declared.store.Wrote.TheVariants.{Crossed, Done};
-ghost use Rattle.version_chain.specs.Stores.{version_in, IsCountAt, IsCountOf, IsNewestIn, IsAsBefore, IsWrittenTo, AreCommittedAt, AreDroppedAt};
+ghost use Rattle.version_chain.specs.Stores.{is_committed_in, version_in, IsCommittedAt, IsCountAt, IsCountOf, IsNewestIn, IsAsBefore, IsWrittenTo, AreCommittedAt, AreDroppedAt};
 
 use crate::chain::Version;
 use crate::chains::{Chains, Placed};
-use crate::committed_after::CommittedAfter;
 use crate::in_span::InSpan;
 use crate::index::Index;
 use crate::spot::Spot;
+use crate::versions_after::VersionsAfter;
 use key_set::Keys;
 use spans::span::Span;
 use std::alloc::{AllocError, Global};
@@ -112,18 +112,25 @@ impl Store {
         }
     }
 
-    /// The committed versions after a place and at or below `through`, by timestamp and then by key. The place is that of
+    /// The version of the key at `ts`, where it is committed.
+    pub fn committed_at(&self, key: &Key, ts: u64) -> Option<&Version>
+        ensures { MatchOption result (is_committed_in self.now key.now ts ≡ false) (λ v. IsCommittedAt self.now key.now ts v.now) }
+    {
+        self.chains.committed_at(key, ts)
+    }
+
+    /// The places of versions after a place and at or below `through`, by timestamp and then by key. The place is that of
     /// `key` at `ts`; without a key it is behind all keys of `ts`. It searches the index twice and the keys of `ts` once, and takes no
     /// memory.
-    pub fn committed_after<'a>(
+    pub fn versions_after<'a>(
         &'a self,
         ts: u64,
         key: Option<&'a Key>,
         through: u64,
-    ) -> CommittedAfter<'a>
+    ) -> VersionsAfter<'a>
         ensures { result ≡ record { store = self.now; ts = ts; key = option_copied key.entry; through = through } }
     {
-        CommittedAfter {
+        VersionsAfter {
             chains: &self.chains,
             ts,
             key,

@@ -362,13 +362,16 @@ fn follows(alloc: Global, store: &Store, words: &mut Words<'_>, out: &mut Vec<u8
     } else {
         Some(&first)
     };
-    let mut committed = store.committed_after(ts, key, through);
-    for _ in 0..9 {
-        let Some((found, version)) = committed.next() else {
+    let mut versions = store.versions_after(ts, key, through);
+    for _ in 0..19 {
+        let Some((at, found)) = versions.next() else {
             return Some(());
         };
+        if store.committed_at(found, at).is_none() {
+            continue;
+        }
         out.push(b' ').ok()?;
-        put_number(alloc, out, version.ts.get())?;
+        put_number(alloc, out, at)?;
         out.push(b' ').ok()?;
         out.extend_from_slice(found.bytes()).ok()?;
     }

@@ -3,7 +3,7 @@ use Rattle.catch_up.proofs.Walk.{IsWalking}
 use Rattle.catch_up.proofs.rows.counted_rows.Given as goal
 
 abbrev pub invariant-loop-missing : goal.invariant-loop-missing
-invariant-loop-missing l = IsWalking l.store l.span l.fn.committed.ts l.fn.committed.key l.through l.n l.committed l.missing l.rows.items
+invariant-loop-missing l = IsWalking l.store l.span l.fn.versions.ts l.fn.versions.key l.through l.n l.versions l.missing l.rows.items
 
 -- each step passes a key
 abbrev pub decreases-loop-missing : goal.decreases-loop-missing

@@ -1,8 +1,9 @@
-use Rattle.std.proofs.Common.{[], ap, arith, inl, inr, subst, sym, ◌++◌, ◌∷◌, ◌∙◌}
+use Rattle.std.proofs.Common.{Global, Vec, ap, arith, subst, sym, ◌∙◌}
 use Rattle.std.specs.Option.{option_copied}
-use Rattle.catch_up.proofs.Walk.{IsWalking, begins_walking, ends_walking, goes_on_walking, none_past, walk_full, walk_joins}
+use Rattle.timestamps.specs.declared.row.Row.{Row}
+use Rattle.catch_up.proofs.Walk.{IsAdded, IsWalking, begins_walking, ends_walking, goes_on_walking, none_past, walk_full, walk_joins}
 use Rattle.catch_up.proofs.rows.next_rows.Goals as goal
-use Rattle.catch_up.proofs.rows.next_rows.Goals.{else-contains, then-contains+in_ok-row+in_ok-push}
+use Rattle.catch_up.proofs.rows.next_rows.Goals.{in-Some-2+in_ok-push, in_default-2}
 
 pub returns-then-is_past : goal.returns-then-is_past
 returns-then-is_past c = none_past c.args.store.now c.args.span.now c.args.ts (option_copied c.args.key) c.args.through c.args.n c.new-rows.result.items (c.is_past.ensures c.if-is_past.true) c.new-rows.ensures.items
@@ -11,29 +12,28 @@ pub loop-init : goal.loop-init
 loop-init c =
     let store = c.args.store.now in
     let key = option_copied c.args.key in
-    subst (λ w. IsWalking store c.args.span.now c.args.ts key c.args.through c.args.n w c.args.n c.new-rows.result.items) (sym c.committed_after-committed.ensures)
+    subst (λ w. IsWalking store c.args.span.now c.args.ts key c.args.through c.args.n w c.args.n c.new-rows.result.items) (sym c.versions_after-versions.ensures)
     (subst (λ rows. IsWalking store c.args.span.now c.args.ts key c.args.through c.args.n (record { store = store; ts = c.args.ts; key = key; through = c.args.through }) c.args.n rows) (sym c.new-rows.ensures.items)
     (begins_walking store c.args.span.now c.args.ts key c.args.through c.args.n))
 
 pub returns-then-missing-eq0 : goal.returns-then-missing-eq0
 returns-then-missing-eq0 c =
-    walk_full c.args.store.now c.args.span.now c.args.ts (option_copied c.args.key) c.args.through c.args.n c.loop.committed.ts c.loop.committed.key c.loop.missing c.loop.rows.items c.loop.invariant.walked (omega (arith, c.if-missing-eq0.true))
+    walk_full c.args.store.now c.args.span.now c.args.ts (option_copied c.args.key) c.args.through c.args.n c.loop.versions.ts c.loop.versions.key c.loop.missing c.loop.rows.items c.loop.invariant.walked (omega (arith, c.if-missing-eq0.true))
 
 pub returns-in_default : goal.returns-in_default
 returns-in_default c =
-    ends_walking c.args.store.now c.args.span.now c.args.ts (option_copied c.args.key) c.args.through c.args.n c.loop.committed c.loop.missing c.loop.rows.items c.loop.invariant c.in_default.ensures.found
+    ends_walking c.args.store.now c.args.span.now c.args.ts (option_copied c.args.key) c.args.through c.args.n c.loop.versions c.loop.missing c.loop.rows.items c.loop.invariant c.in_default.ensures.found
 
 pub loop-preserved : goal.loop-preserved
 loop-preserved c =
-    goes_on_walking c.args.store.now c.args.span.now c.args.ts (option_copied c.args.key) c.args.through c.args.n c.loop.committed c.next.new.self c.loop.missing c.if-contains.missing c.loop.rows.items c.if-contains.rows.items
-    c.in-Some.found.now c.in-Some.version.now c.loop.invariant c.in-Some.ensures.found c.in-Some.ensures.walked
-    (elim c.if-contains.branch [
-      | then-contains+in_ok-row+in_ok-push w ↦ inl (record {
-        inside = sym c.contains.ensures ∙ w.if-contains.true;
-        less = omega (arith, w.missing-is, c.if-missing-eq0.false);
-        more = ap (λ v. v.items) w.rows-is ∙ w.in_ok-push.ensures.items ∙ ap (λ r. c.loop.rows.items ++ r ∷ []) w.in_ok-row.ensures;
-      })
-      | else-contains w ↦ inr (record { outside = sym c.contains.ensures ∙ w.if-contains.false; same = w.missing-is; rows_same = ap (λ v. v.items) w.rows-is })
+    goes_on_walking c.args.store.now c.args.span.now c.args.ts (option_copied c.args.key) c.args.through c.args.n c.loop.versions c.next.new.self c.loop.missing c.match-branch-2.missing c.loop.rows.items c.match-branch-2.rows.items
+    c.in-Some.found.now c.in-Some.at c.in_ok-row.field-0 c.loop.invariant c.in-Some.ensures.found c.in-Some.ensures.walked c.in_ok-row.ensures
+    (elim c.match-branch-2.branch [
+      | in-Some-2+in_ok-push w ↦ subst (λ o. IsAdded o c.loop.missing c.match-branch-2.missing c.loop.rows.items c.match-branch-2.rows.items) (sym w.in-Some-2.is) (
+        omega (arith, w.missing-is, c.if-missing-eq0.false),
+        ap (λ (v : Vec Row Global). v.items) w.rows-is ∙ w.in_ok-push.ensures.items,
+      )
+      | in_default-2 w ↦ subst (λ o. IsAdded o c.loop.missing c.match-branch-2.missing c.loop.rows.items c.match-branch-2.rows.items) (sym w.in_default-2.is) (w.missing-is, ap (λ (v : Vec Row Global). v.items) w.rows-is)
     ])
 
 pub counted_rows-requires-clause-store : goal.counted_rows-requires-clause-store
@@ -44,5 +44,5 @@ counted_rows-requires-clause-far c = c.loop.invariant.far
 
 pub returns : goal.returns
 returns c =
-    walk_joins c.args.store.now c.args.span.now c.args.ts (option_copied c.args.key) c.args.through c.args.n c.loop.committed.ts c.loop.committed.key c.loop.missing c.loop.rows.items c.append.new.self.items c.in_ok-rest.rest.items
+    walk_joins c.args.store.now c.args.span.now c.args.ts (option_copied c.args.key) c.args.through c.args.n c.loop.versions.ts c.loop.versions.key c.loop.missing c.loop.rows.items c.append.new.self.items c.in_ok-rest.rest.items
     c.loop.invariant.walked c.in_ok-rest.ensures c.in_ok-append.ensures.items

@@ -1,13 +1,14 @@
-use Rattle.std.proofs.Common.{subst}
+use Rattle.std.proofs.Common.{arith, inl, inr, subst, sym, ◌∙◌}
+use Rattle.std.proofs.lemmas.Bool.{both_ways, cases_lt}
 use Rattle.std.specs.Option.{option_copied}
-use Rattle.version_chain.specs.Following.{IsFirstAfter, IsNoneAfter, Walk}
-use Rattle.engine.proofs.RowsLeft.{copied}
+use Rattle.engine.specs.Dumping.{IsNextRow}
+use Rattle.engine.proofs.RowsLeft.{first_left, first_taken}
 use Rattle.engine.proofs.dumping.next_row.Goals as goal
 
-pub returns-in_default : goal.returns-in_default
-returns-in_default c = subst (λ (w : Walk). IsNoneAfter w.store w.ts w.key w.through) c.committed_after-committed.ensures c.in_default.ensures.found
-
 pub returns : goal.returns
-returns c = copied c.args.store.now c.args.ts (option_copied c.args.key) c.args.through c.in-Some.key.now c.in_ok-key.key c.in-Some.version.now c.in_ok-after.after
-    (subst (λ (w : Walk). IsFirstAfter w.store w.ts w.key w.through c.in-Some.key.now c.in-Some.version.now) c.committed_after-committed.ensures c.in-Some.ensures.found)
-    c.in_ok-key.ensures.bytes c.in_ok-after.ensures
+returns c = subst (IsNextRow c.args.store.now c.args.ts (option_copied c.args.key) c.args.through)
+    (first_taken c.in_ok-rows.rows.items _ c.next.result (sym c.into_iter.ensures.rest ∙ c.next.ensures.items) (λ none. elim (cases_lt 0 c.in_ok-rows.rows.len) [
+      | inl some ↦ absurd (both_ways _ none (c.next.ensures.variant.1 (omega (arith, some, c.into_iter.ensures.len))))
+      | inr zero ↦ omega (arith, zero, c.in_ok-rows.rows.ok)
+    ]))
+    (first_left c.args.store.now c.args.ts (option_copied c.args.key) c.args.through c.in_ok-rows.rows.items c.in_ok-rows.ensures)

@@ -160,7 +160,7 @@ fn is_told(alloc: Global, engine: &Engine, row: &str) -> Option<bool> {
         Some(Key::new(alloc, key.as_bytes()).ok()?)
     };
     let through = through.parse::<u64>().ok()?;
-    let row = engine.next_left(ts, key.as_ref(), through).ok()?;
+    let row = engine.next_left(alloc, ts, key.as_ref(), through).ok()?;
     match row {
         None => Some(wanted == "-"),
         Some(row) => is_row(&row, wanted),

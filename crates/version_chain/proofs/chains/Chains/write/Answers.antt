@@ -1,4 +1,4 @@
-use Rattle.std.proofs.Common.{List, ap, false, refl, subst, sym, Some, ℕ, ◌≡◌}
+use Rattle.std.proofs.Common.{List, false, refl, subst, sym, Some, ℕ, ◌≡◌}
 use Rattle.std.specs.Prelude.{is_none, slice_index_or, slice_set}
 use Rattle.std.specs.Option.{option_copied}
 use Rattle.spans.proofs.Results.{any_err}

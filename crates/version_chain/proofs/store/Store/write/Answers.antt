@@ -1,4 +1,4 @@
-use Rattle.std.proofs.Common.{sym, subst, false, refl, None, ◌≡◌, ◌==◌, ◌&&◌, ◌||◌, ℕ, List}
+use Rattle.std.proofs.Common.{subst, false, refl, None, ◌≡◌, ◌==◌, ◌&&◌, ◌||◌, ℕ, List}
 use Rattle.std.specs.Prelude.{bytes_eq}
 use Rattle.std.specs.Option.{option_copied}
 use Rattle.version_chain.specs.declared.chain.Version.{Version}

@@ -1,27 +1,30 @@
-//! A walk from one committed version to the next.
-ghost use Rattle.version_chain.specs.Following.{IsFirstFound, IsWalkedTo};
+//! A walk from one version to the next.
+ghost use Rattle.version_chain.specs.Following.{IsNextFound, IsWalkedTo};
+ghost use Rattle.version_chain.specs.Walking.{IsFirstTaken, keys_ahead};
 
-use crate::chain::Version;
 use crate::chains::Chains;
 use key_set::{KeySet, Keys};
 use std::collections::btree_map::Range;
+use std::iter::Iterator;
 use std::marker::Model;
 use timestamps::key::Key;
 use timestamps::ts_key::TsKey;
 
-/// The committed versions after a place and at or below a timestamp, by timestamp and then by key. The place is that of
-/// the version that was told last.
+/// The places of versions after a place and at or below a timestamp, by timestamp and then by key. The place is that of
+/// the version that was told last. The index alone is read: whether a version is committed, `Store::committed_at` tells.
 ///
 /// ```text
-/// index 10 a b c, 20 d, 30 a; only b at 10 and a at 30 are committed
+/// index 10 a b c, 20 d
 ///
 ///             tells       at    keys ahead    later
-/// after 10 a              10    b c           20, 30
-/// next        b at 10     10    c             20, 30
-/// next        a at 30     30    none          none
+/// after 10 a              10    b c           20
+/// next        b at 10     10    c             20
+/// next        c at 10     10                  20
+/// next        d at 20     20                  none
 /// ```
 #[derive(Drop)]
-pub struct CommittedAfter<'a> {
+pub struct VersionsAfter<'a> {
+    /// Read by contracts alone.
     pub(crate) chains: &'a Chains,
     /// Read by contracts alone: the place from which the walk goes on, that of `key` at `ts`, or behind all keys of `ts`.
     pub(crate) ts: u64,
@@ -35,7 +38,7 @@ pub struct CommittedAfter<'a> {
     pub(crate) later: Range<'a, TsKey, KeySet>,
 }
 
-impl<'a> Model for CommittedAfter<'a> {
+impl<'a> Model for VersionsAfter<'a> {
     ghost use Rattle.std.specs.Option.{option_copied};
     ghost use Rattle.version_chain.specs.Following.{Walk};
     ghost use Rattle.version_chain.specs.Walking.{IsAhead, keys_ahead};
@@ -48,21 +51,28 @@ impl<'a> Model for CommittedAfter<'a> {
     ghost invariant = { λ w. IsAhead (record { store = stored_of w.chains.now; ts = w.ts; key = option_copied w.key; through = w.through }) w.at (keys_ahead w.keys) w.later };
 }
 
-impl<'a> CommittedAfter<'a> {
-    /// The next one, with its key. It searches a chain for each version that is listed from the place to there.
-    pub fn next(&mut self) -> Option<(&'a Key, &'a Version)>
-        ensures found { IsFirstFound self.old.store self.old.ts self.old.key self.old.through result }
+impl<'a> VersionsAfter<'a> {
+    /// The next place: its timestamp and its key. It searches nothing.
+    pub fn next(&mut self) -> Option<(u64, &'a Key)>
+        ensures found { IsNextFound self.old result }
         ensures walked { IsWalkedTo self.old self.new result }
     {
         loop {
-            if let Some((key, version)) = self.chains.first_committed(&mut self.keys, self.at) {
+            if let Some(key) = first_of(&mut self.keys) {
                 self.ts = self.at;
                 self.key = Some(key);
-                return Some((key, version));
+                return Some((self.at, key));
             }
             let (at, keys) = self.later.next()?;
             self.at = at.0;
             self.keys = Some(keys.iter());
         }
     }
+}
+
+/// Takes the first of the keys.
+fn first_of<'a>(keys: &mut Option<Keys<'a>>) -> Option<&'a Key>
+    ensures { IsFirstTaken (keys_ahead keys.old) (keys_ahead keys.new) result }
+{
+    keys.as_mut()?.next()
 }

@@ -4,7 +4,7 @@ use Rattle.version_chain.specs.Following.{Walk}
 use Rattle.version_chain.specs.Walking.{IsBeside, keys_ahead}
 use Rattle.version_chain.specs.Records.{stored_of}
 use Rattle.version_chain.proofs.Walking.{begins}
-use Rattle.version_chain.proofs.store.Store.committed_after.Goals as goal
+use Rattle.version_chain.proofs.store.Store.versions_after.Goals as goal
 
 pub invariant_of-result : goal.invariant_of-result
 invariant_of-result c =

@@ -2,7 +2,7 @@ use Rattle.std.proofs.Common.{◌≡◌, length}
 use Rattle.std.specs.Option.{option_copied}
 use Rattle.version_chain.specs.Records.{stored_of}
 use Rattle.version_chain.specs.Walking.{IsAhead, keys_ahead}
-use Rattle.version_chain.proofs.committed_after.CommittedAfter.next.Given as goal
+use Rattle.version_chain.proofs.versions_after.VersionsAfter.next.Given as goal
 
 -- the place stays as it was, while what is ahead gets less
 abbrev pub invariant-loop-key : goal.invariant-loop-key
