@@ -1,4 +1,5 @@
 -- The least protected timestamp is that of the first by timestamp.
+use Rattle.std.proofs.lemmas.Grind.{common_steps}
 use Rattle.std.proofs.Common.{Bool, List, None, Option, Some, ap, arith, false, inl, inr, min, refl, subst, sym, true, ℕ, ◌≤◌, ◌==◌, ◌⊎◌, ◌≡◌, ◌++◌, ◌∷◌, ◌∙◌, []}
 use Rattle.std.specs.Prelude.{map}
 use Rattle.std.specs.List.Sorted.{IsStrictlySortedBy}
@@ -26,50 +27,33 @@ times es = map (λ (p : Protection). p.at) (newest_first es)
 
 least_top : (n t : ℕ) (ts : List ℕ) → IsAmong t ts → least_of n ts ≤ t
 least_top n t [] i = absurd i
-least_top n t (s ∷ ts) i = elim i [
-  | inl here ↦ omega arith
-  | inr there ↦ (let more : least_of n ts ≤ t = least_top n t ts there in omega arith)
-]
+least_top n t (s ∷ ts) i = grind (arith, common_steps, least_top n t ts)
 
 least_high : (m n : ℕ) (ts : List ℕ) → m ≤ n → ((t : ℕ) → IsAmong t ts → m ≤ t) → m ≤ least_of n ts
 least_high m n [] low all = low
 least_high m n (t ∷ ts) low all = let here : m ≤ t = all t (inl refl) in let more : m ≤ least_of n ts = least_high m n ts low (λ s i. all s (inr i)) in omega arith
 
 least_is : (m n : ℕ) (ts : List ℕ) → IsAmong m ts → ((t : ℕ) → IsAmong t ts → m ≤ t) → min m n ≡ least_of n ts
-least_is m n ts i all =
-    let top : least_of n ts ≤ m = least_top n m ts i in
-    let low : least_of n ts ≤ n = least_low n ts in
-    let high : min m n ≤ least_of n ts = least_high (min m n) n ts (omega arith) (λ t j. let h : m ≤ t = all t j in omega arith) in
-    omega arith
+least_is m n ts i all = grind (arith, nat_tests, least_top, least_low, least_high)
 
 among_append : (t : ℕ) (xs ys : List ℕ) → IsAmong t xs ⊎ IsAmong t ys → IsAmong t (xs ++ ys)
 among_append t [] ys i = elim i [ inl l ↦ absurd l | inr r ↦ r ]
-among_append t (x ∷ xs) ys i = elim i [
-  | inl l ↦ elim l [ inl here ↦ inl here | inr there ↦ inr (among_append t xs ys (inl there)) ]
-  | inr r ↦ inr (among_append t xs ys (inr r))
-]
+among_append t (x ∷ xs) ys i = grind (arith, common_steps, among_append t xs ys)
 
 among_parts : (t : ℕ) (xs ys : List ℕ) → IsAmong t (xs ++ ys) → IsAmong t xs ⊎ IsAmong t ys
 among_parts t [] ys i = inr i
-among_parts t (x ∷ xs) ys i = elim i [
-  | inl here ↦ inl (inl here)
-  | inr there ↦ elim (among_parts t xs ys there) [ inl l ↦ inl (inr l) | inr r ↦ inr r ]
-]
+among_parts t (x ∷ xs) ys i = grind (arith, common_steps, among_parts t xs ys)
 
 times_more : (e : ℕ × ℕ) (es : List (ℕ × ℕ)) → times (e ∷ es) ≡ times es ++ e.1 ∷ []
 times_more e es = map-append (λ (p : Protection). p.at) (newest_first es) (protection e.0 e.1 ∷ [])
 
 is_among : (id t : ℕ) (es : List (ℕ × ℕ)) → lookup (is_at (nat_cmp id)) es ≡ Some t → IsAmong t (times es)
 is_among id t [] found = cc
-is_among id t (e ∷ es) found = subst (IsAmong t) (sym (times_more e es)) (among_append t (times es) (e.1 ∷ []) (by_test (is_at (nat_cmp id) e.0)
-    (λ is. let s : Some e.1 ≡ Some t = rw is at found in inr (inl cc))
-    (λ isnt. let s : lookup (is_at (nat_cmp id)) es ≡ Some t = rw isnt at found in inl (is_among id t es s))))
+is_among id t (e ∷ es) found = grind (arith, nat_tests, times_more, among_append, by_test, is_among id t es)
 
 other_number : (k id t : ℕ) (es : List (ℕ × ℕ)) → AllByRecursion (λ q. nat_cmp k q ≡ Less) (keys_of es) → lookup (is_at (nat_cmp id)) es ≡ Some t → is_at (nat_cmp id) k ≡ false
 other_number k id t [] above found = cc
-other_number k id t (e ∷ es) above found = by_test (is_at (nat_cmp id) e.0)
-    (λ is. let less : nat_cmp k e.0 ≡ Less = above.0 in grind (arith, nat_tests))
-    (λ isnt. let s : lookup (is_at (nat_cmp id)) es ≡ Some t = rw isnt at found in other_number k id t es above.1 s)
+other_number k id t (e ∷ es) above found = grind (arith, common_steps, other_number k id t es above.1)
 
 has_number : (t : ℕ) (es : List (ℕ × ℕ)) → IsStrictlySortedBy nat_cmp (keys_of es) → IsAmong t (times es) → (id : ℕ) × (lookup (is_at (nat_cmp id)) es ≡ Some t)
 unfolding IsStrictlySortedBy

@@ -1,17 +1,17 @@
 -- Protections by rising numbers, and the same with the newest first.
-use Rattle.std.proofs.Common.{Bool, List, None, Option, Some, ap, arith, cond, false, refl, subst, sym, true, ℕ, ◌+◌, ◌<◌, ◌==◌, ◌||◌, ◌≡◌, ◌++◌, ◌∷◌, ◌∙◌, []}
+use Rattle.std.proofs.lemmas.Grind.{common_steps}
+use Rattle.std.proofs.Common.{Bool, List, None, ap, arith, false, refl, subst, sym, true, ℕ, ◌+◌, ◌<◌, ◌==◌, ◌≡◌, ◌++◌, ◌∷◌, ◌∙◌, []}
 use Rattle.std.specs.Prelude.{filter, is_some, not}
 use Rattle.std.specs.Cmp.{nat_cmp_is}
 use Rattle.std.specs.List.{AllByRecursion, list_any}
 use Rattle.std.specs.List.Sorted.{IsStrictlySortedBy}
 use Rattle.std.specs.Map.{keys_of, lookup, remove_entry}
-use Rattle.std.specs.Ordering.{is_eq, nat_cmp}
+use Rattle.std.specs.Ordering.{nat_cmp}
 use Rattle.std.specs.BTreeMap.{insert_entry, is_at}
 use Rattle.std.specs.declared.cmp.Ordering.TheVariants.{Greater, Less}
 use Rattle.std.proofs.lemmas.Bool.Decides.{nat_tests}
 use Rattle.std.proofs.lemmas.List.{append-nil}
 use Rattle.std.proofs.lemmas.List.Elements.{filter-append}
-use Rattle.std.proofs.lemmas.List.Folds.{list_any-append}
 use Rattle.spans.specs.Collection.{Protection}
 use Rattle.spans.proofs.Steps.{by_test}
 use Rattle.closing.specs.Standing.{newest_first, protection}
@@ -47,9 +47,7 @@ none_beyond n id (e ∷ es) low beyond = let above : nat_cmp id e.0 ≡ Greater 
 
 kept_all : (id : ℕ) (es : List (ℕ × ℕ)) → AllByRecursion (λ k. nat_cmp id k ≡ Less) (keys_of es) → filter (λ (n : Protection). not (n.id == id)) (newest_first es) ≡ newest_first es
 kept_all id [] above = refl
-kept_all id (e ∷ es) above =
-    filter-append (λ (n : Protection). not (n.id == id)) (newest_first es) (protection e.0 e.1 ∷ [])
-    ∙ (let other : (e.0 == id) ≡ false = sym (same_number id e.0) ∙ ap is_eq above.0 in rw (other, kept_all id es above.1) refl)
+kept_all id (e ∷ es) above = grind (arith, common_steps, kept_all id es above.1)
 
 -- without one number
 pub newest_removed : (id : ℕ) (es : List (ℕ × ℕ)) → IsStrictlySortedBy nat_cmp (keys_of es) → newest_first (remove_entry (is_at (nat_cmp id)) es) ≡ filter (λ (n : Protection). not (n.id == id)) (newest_first es)
@@ -64,20 +62,7 @@ newest_removed id (e ∷ es) rising = by_test (is_at (nat_cmp id) e.0)
     rw isnt (sym (filter-append (λ (n : Protection). not (n.id == id)) (newest_first es) (protection e.0 e.1 ∷ [])
     ∙ rw (other, ← newest_removed id es rising.1) refl)))
 
-or_last : (a b : Bool) → (a || (b || false)) ≡ (b || a)
-or_last true true = refl
-or_last true false = refl
-or_last false true = refl
-or_last false false = refl
-
-some_first : (b : Bool) (v : ℕ) (o : Option ℕ) → is_some (cond b (Some v) o) ≡ (b || is_some o)
-some_first true v o = refl
-some_first false v o = refl
-
 -- whether a number stands
 pub number_stands : (id : ℕ) (es : List (ℕ × ℕ)) → list_any (λ (n : Protection). n.id == id) (newest_first es) ≡ is_some (lookup (is_at (nat_cmp id)) es)
 number_stands id [] = refl
-number_stands id (e ∷ es) =
-    list_any-append (λ (n : Protection). n.id == id) (newest_first es) (protection e.0 e.1 ∷ [])
-    ∙ or_last (list_any (λ (n : Protection). n.id == id) (newest_first es)) (e.0 == id)
-    ∙ (rw (number_stands id es, ← same_number id e.0) (sym (some_first (is_at (nat_cmp id) e.0) e.1 (lookup (is_at (nat_cmp id)) es))))
+number_stands id (e ∷ es) = grind (arith, common_steps, number_stands id es)

@@ -1,13 +1,12 @@
 -- The two orders of the protections stay tied to each other.
-use Rattle.std.proofs.Common.{Bool, None, Option, Some, ap, arith, cond, false, refl, sym, true, ℕ, ◌&&◌, ◌==◌, ◌≡◌, ◌∙◌}
+use Rattle.std.proofs.lemmas.Grind.{common_steps}
+use Rattle.std.proofs.Common.{Bool, None, Option, Some, ap, arith, cond, false, sym, true, ℕ, ◌&&◌, ◌==◌, ◌≡◌, ◌∙◌}
 use Rattle.std.specs.Ordering.{nat_cmp}
 use Rattle.std.specs.BTreeMap.{is_at}
 use Rattle.std.proofs.lemmas.Bool.{eqb-true, and_parts}
 use Rattle.std.proofs.lemmas.Bool.Decides.{nat_tests}
-use Rattle.std.proofs.Math.Bool.{and-false}
 use Rattle.spans.proofs.Steps.{by_test}
 use Rattle.closing.specs.Ties.{is_just, pair_cmp}
-use Rattle.closing.proofs.Numbers.{same_number}
 
 -- the set has just the timestamps that the map has, each with its number
 abbrev pub AreAlike : (ℕ × ℕ → Bool) → (ℕ → Option ℕ) → Type 0
@@ -22,20 +21,12 @@ turned a b = grind (arith, nat_tests)
 -- a new number with its timestamp
 pub alike_put : (c c' : ℕ × ℕ → Bool) (g g' : ℕ → Option ℕ) (t id : ℕ) → g id ≡ None → AreAlike c g
     → ((q : ℕ × ℕ) → c' q ≡ cond (is_at (pair_cmp (t, id)) q) true (c q)) → ((k : ℕ) → g' k ≡ cond (is_at (nat_cmp id) k) (Some t) (g k)) → AreAlike c' g'
-alike_put c c' g g' t id free alike put add s k = by_test (k == id)
-    (λ same. let now : g' k ≡ Some t = add k ∙ rw (same_number id k, same) refl in by_test (s == t)
-    (λ here. put (s, k) ∙ rw (same_pair t id s k, here, same) (sym (ap (λ o. is_just o s) now ∙ turned t s ∙ here)))
-    (λ there. put (s, k) ∙ rw (same_pair t id s k, there) (alike s k ∙ ap (λ o. is_just o s) (ap g (eqb-true k id same) ∙ free) ∙ sym (ap (λ o. is_just o s) now ∙ turned t s ∙ there))))
-    (λ other. let now : g' k ≡ g k = add k ∙ rw (same_number id k, other) refl in put (s, k) ∙ rw (same_pair t id s k, other, and-false (s == t)) (alike s k ∙ ap (λ o. is_just o s) (sym now)))
+alike_put c c' g g' t id free alike put add s k = grind (arith, common_steps)
 
 -- a number goes with its timestamp
 pub alike_taken : (c c' : ℕ × ℕ → Bool) (g g' : ℕ → Option ℕ) (t id : ℕ) → g id ≡ Some t → AreAlike c g
     → ((q : ℕ × ℕ) → c' q ≡ cond (is_at (pair_cmp (t, id)) q) false (c q)) → ((k : ℕ) → g' k ≡ cond (is_at (nat_cmp id) k) None (g k)) → AreAlike c' g'
-alike_taken c c' g g' t id stood alike take drop s k = by_test (k == id)
-    (λ same. let now : g' k ≡ None = drop k ∙ rw (same_number id k, same) refl in by_test (s == t)
-    (λ here. take (s, k) ∙ rw (same_pair t id s k, here, same) (sym (ap (λ o. is_just o s) now)))
-    (λ there. take (s, k) ∙ rw (same_pair t id s k, there) (alike s k ∙ ap (λ o. is_just o s) (ap g (eqb-true k id same) ∙ stood) ∙ turned t s ∙ there ∙ sym (ap (λ o. is_just o s) now))))
-    (λ other. let now : g' k ≡ g k = drop k ∙ rw (same_number id k, other) refl in take (s, k) ∙ rw (same_pair t id s k, other, and-false (s == t)) (alike s k ∙ ap (λ o. is_just o s) (sym now)))
+alike_taken c c' g g' t id stood alike take drop s k = grind (arith, common_steps)
 
 -- a new pair that is taken back
 pub alike_again : (c c' c'' : ℕ × ℕ → Bool) (g : ℕ → Option ℕ) (t id : ℕ) → g id ≡ None → AreAlike c g

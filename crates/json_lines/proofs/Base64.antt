@@ -1,20 +1,13 @@
 -- Base64 group by group.
-use Rattle.std.proofs.Common.{◌≡◌, ℕ, List, [], ◌∷◌, ◌++◌, ◌+◌, ◌<◌, ◌≤◌, length, get_or, take, drop, refl, ap, ◌∙◌, sym, append_assoc, arith}
-use Rattle.std.specs.Prelude.{replicate}
-use Rattle.base64.specs.Rfc4648.{encode_symbols, encode_group, encode_two, encode_one, padding_len}
+use Rattle.std.proofs.lemmas.Grind.{common_steps}
+use Rattle.std.proofs.Common.{◌≡◌, ℕ, List, [], ◌∷◌, ◌++◌, ◌+◌, ◌≤◌, length, get_or, take, drop, refl, ap, ◌∙◌, arith}
+use Rattle.base64.specs.Rfc4648.{encode_symbols, encode_group, encode_two, encode_one}
 use Rattle.std.proofs.lemmas.List.{nil_from_length, get_or-take}
 use Rattle.json_lines.specs.Messages.{base64, symbols}
 
-same_padding : (n : ℕ) → padding_len (n + 3) ≡ padding_len n
-same_padding n = omega arith
-
 pub base64_three : (a b c : ℕ) (rest : List ℕ) → base64 (a ∷ b ∷ c ∷ rest) ≡ encode_group symbols a b c ++ base64 rest
 unfolding encode_symbols
-base64_three a b c rest =
-    let longer : length (a ∷ b ∷ c ∷ rest) ≡ length rest + 3 = omega arith in
-    ap (λ (n : ℕ). (encode_group symbols a b c ++ encode_symbols symbols rest) ++ replicate (padding_len n) 61) longer
-    ∙ ap (λ (k : ℕ). (encode_group symbols a b c ++ encode_symbols symbols rest) ++ replicate k 61) (same_padding (length rest))
-    ∙ append_assoc (encode_group symbols a b c) (encode_symbols symbols rest) (replicate (padding_len (length rest)) 61)
+base64_three a b c rest = grind (arith, common_steps)
 
 pub base64_two : (a b : ℕ) → base64 (a ∷ b ∷ []) ≡ encode_two symbols a b ++ 61 ∷ []
 unfolding encode_symbols
@@ -40,7 +33,4 @@ base64_empty bytes e = ap base64 (nil_from_length bytes e) ∙ base64_none
 -- one group more is written
 pub base64_step : (out rest group others text total : List ℕ) → 3 ≤ length rest → group ≡ take 3 rest → others ≡ drop 3 rest
     → text ≡ encode_group symbols (get_or group 0 0) (get_or group 1 0) (get_or group 2 0) → out ++ base64 rest ≡ total → (out ++ text) ++ base64 others ≡ total
-base64_step out rest group others text total long g o t so_far =
-    let same : (i : ℕ) → i < 3 → get_or group i 0 ≡ get_or rest i 0 = λ i lt. ap (λ (xs : List ℕ). get_or xs i 0) g ∙ get_or-take 3 rest i 0 lt in
-    let text-is : text ≡ encode_group symbols (get_or rest 0 0) (get_or rest 1 0) (get_or rest 2 0) = t ∙ rw (same 0 (omega arith), same 1 (omega arith), same 2 (omega arith)) refl in
-    append_assoc out text (base64 others) ∙ ap (λ (x : List ℕ). out ++ (x ++ base64 others)) text-is ∙ ap (λ (x : List ℕ). out ++ (encode_group symbols (get_or rest 0 0) (get_or rest 1 0) (get_or rest 2 0) ++ base64 x)) o ∙ ap (λ (x : List ℕ). out ++ x) (sym (base64_front rest long)) ∙ so_far
+base64_step out rest group others text total long g o t so_far = grind (arith, common_steps, get_or-take, base64_front)

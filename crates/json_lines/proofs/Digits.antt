@@ -1,9 +1,9 @@
 -- The value of decimal digits, as it grows.
-use Rattle.std.proofs.Common.{◌≡◌, ℕ, ◌+◌, ◌*◌, ◌-◌, ◌<◌, ◌≤◌, List, [], ◌∷◌, length, get_or, drop, refl, arith}
+use Rattle.std.proofs.lemmas.Grind.{common_steps}
+use Rattle.std.proofs.Common.{◌≡◌, ℕ, ◌+◌, ◌*◌, ◌-◌, ◌<◌, ◌≤◌, List, [], ◌∷◌, length, get_or, drop, arith}
 use Rattle.std.specs.Char.{digit_value, IsAsciiDigit}
 use Rattle.std.specs.Str.Parse.{digits_value_after}
 use Rattle.std.proofs.lemmas.List.{at_drop_more}
-use Rattle.std.proofs.lemmas.Bool.{lt-ltb, le-ltb}
 
 pub after_ge : (n : ℕ) (digits : List ℕ) → n ≤ digits_value_after 10 n digits
 after_ge n [] = omega arith
@@ -11,13 +11,8 @@ after_ge n (d ∷ digits) = omega (arith, after_ge (n * 10 + digit_value d) digi
 
 -- with one digit more it is at least so much
 pub at_least : (n : ℕ) (digits : List ℕ) (i total : ℕ) → i < length digits → digits_value_after 10 n (drop i digits) ≡ total → n * 10 + digit_value (get_or digits i 0) ≤ total
-at_least n digits i total lt so_far =
-    let more = at_drop_more (digits_value_after 10 n) digits i 0 lt in
-    omega (arith, more, so_far, after_ge (n * 10 + digit_value (get_or digits i 0)) (drop (i + 1) digits))
+at_least n digits i total lt so_far = grind (arith, common_steps, at_drop_more, after_ge)
 
 -- the value of a decimal digit
 pub digit_at : (c : ℕ) → IsAsciiDigit c → digit_value c ≡ c - 48
-digit_at c digit =
-    let low : 48 ≤ c = omega arith in
-    let high : c < 58 = omega arith in
-    rw (le-ltb c 48 low, lt-ltb c 58 high) refl
+digit_at c digit = grind (arith, common_steps)

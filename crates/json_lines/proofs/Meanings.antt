@@ -1,5 +1,6 @@
 -- What is written of a number or of bytes means them again.
-use Rattle.std.proofs.Common.{◌≡◌, ℕ, zero, suc, ◌<◌, Bool, true, false, cond, List, [], ◌∷◌, length, get_or, Option, Some, None, Result, Ok, Err, refl, ap, ◌∙◌, arith}
+use Rattle.std.proofs.lemmas.Grind.{common_steps}
+use Rattle.std.proofs.Common.{◌≡◌, ℕ, zero, suc, ◌<◌, Bool, true, false, cond, List, [], ◌∷◌, length, get_or, Option, Some, None, Result, Ok, Err, refl, ap, arith}
 use Rattle.std.specs.Prelude.{decimal, nat_le, ◌&&◌, ok_or, option_map}
 use Rattle.std.specs.Result.{result_ok}
 use Rattle.std.proofs.lemmas.Bool.{le-leb}
@@ -10,7 +11,7 @@ use Rattle.base64.proofs.EngineFacts.{decode_of-encode_of}
 use Rattle.spans.specs.declared.calls.messages.Message.{Message}
 use Rattle.spans.specs.declared.calls.messages.Message.TheVariants as message
 use Rattle.json_lines.specs.declared.fault.MessageFault.{MessageFault}
-use Rattle.json_lines.specs.declared.fault.MessageFault.TheVariants.{Number, Base64, Length}
+use Rattle.json_lines.specs.declared.fault.MessageFault.TheVariants.{Base64, Length}
 use Rattle.json_lines.specs.Messages.{base64, AreBytes, IsTimestamp, IsKey, IsAfter, IsMessage}
 use Rattle.json_lines.specs.Texts.{texts_of}
 use Rattle.json_lines.specs.Steps.{◌>>=◌}
@@ -52,9 +53,7 @@ within false b x y p q = absurd cc
 
 timestamp_again : (ts : ℕ) → IsTimestamp ts → timestamp_of (decimal ts) ≡ Ok ts
 unfolding timestamp_of
-timestamp_again ts h =
-    ap (λ (o : Option ℕ). ok_or o Number >>= λ n. cond (nat_le 1 n && nat_le n 9223372036854775807) (Ok n) (Err Number)) (number_only ts (omega arith))
-    ∙ within (nat_le 1 ts) (nat_le ts 9223372036854775807) (Ok ts) (Err Number) (le-leb _ _ h.0) (le-leb _ _ h.1)
+timestamp_again ts h = grind (arith, common_steps, number_only, within, le-leb)
 
 key_again : (format : Format) (key : List ℕ) → IsKey format key → key_of format key ≡ Ok key
 unfolding key_of
@@ -74,5 +73,4 @@ after_again format (Some value) h = ap (λ (r : Result (List ℕ) MessageFault).
 pub message_again : (format : Format) (m : Message) → IsMessage format m → message_of format (texts_of m) ≡ Ok m
 unfolding message_of row_of
 message_again format (message.Resolved ts) h = rw (timestamp_again ts h) refl
-message_again format (message.Row r) h =
-    rw (timestamp_again r.ts h.0, bytes_again r.key h.1.2, after_again format r.after h.2, key_again format r.key h.1, value_again format r.after h.2) refl
+message_again format (message.Row r) h = grind (arith, common_steps, timestamp_again, bytes_again, after_again, key_again, value_again)

@@ -1,5 +1,6 @@
 -- Number words and numbers, one to one.
-use Rattle.std.proofs.Common.{◌≡◌, ℕ, ◌^◌, ◌<◌, Bool, true, false, cond, List, length, get_or, Some, None, refl, sym, ap, subst, ◌∙◌, ◌⊎◌, inl, inr, arith, rules}
+use Rattle.std.proofs.lemmas.Grind.{common_steps}
+use Rattle.std.proofs.Common.{◌≡◌, ℕ, ◌^◌, ◌<◌, Bool, true, false, List, length, get_or, Some, refl, sym, ap, subst, ◌∙◌, ◌⊎◌, inl, inr, arith, rules}
 use Rattle.std.specs.Prelude.{decimal, ◌&&◌, ◌||◌, ◌==◌, not, nat_lt}
 use Rattle.std.specs.Str.{all_ascii_digits}
 use Rattle.std.specs.Str.Parse.{digits_value, digits_value_after}
@@ -46,21 +47,12 @@ or_not false true e = absurd cc
 or_not false false e = refl
 
 no_leading_zero : (n : ℕ) → n < 2 ^ 64 → (length (decimal n) == 1 || not (get_or (decimal n) 0 0 == 48)) ≡ true
-no_leading_zero n lt =
-    elim (zero_or_more n) [
-      | inl none ↦ ap (λ (x : List ℕ). length x == 1 || not (get_or x 0 0 == 48)) (decimal_digit n (omega arith))
-      | inr some ↦ or_not (length (decimal n) == 1) (get_or (decimal n) 0 0 == 48) (ne_eqb _ _ (λ e. absurd (omega (arith, first_decimal n some lt, e))))
-    ]
+no_leading_zero n lt = grind (arith, common_steps, zero_or_more, decimal_digit, or_not, ne_eqb, first_decimal)
 
 -- what is written of a number is read so
 pub number_only : (n : ℕ) → n < 2 ^ 64 → number_of (decimal n) ≡ Some n
 unfolding number_of
-number_only n lt =
-    let value : digits_value 10 (decimal n) ≡ n = digits_value-decimal own n lt in
-    let test : (is_number_word (decimal n) && nat_lt (digits_value 10 (decimal n)) (2 ^ 64)) ≡ true =
-    all_three (nat_lt 0 (length (decimal n))) (all_ascii_digits (decimal n)) (length (decimal n) == 1 || not (get_or (decimal n) 0 0 == 48)) (nat_lt (digits_value 10 (decimal n)) (2 ^ 64))
-    (lt-ltb _ _ (decimal_nonempty n lt)) (digits_decimal own n lt) (no_leading_zero n lt) (lt-ltb _ _ (subst (λ (k : ℕ). k < 2 ^ 64) (sym value) lt)) in
-    ap (λ (b : Bool). cond b (Some (digits_value 10 (decimal n))) None) test ∙ ap (λ (k : ℕ). Some k) value
+number_only n lt = grind (arith, common_steps, digits_value-decimal, own, all_three, lt-ltb, decimal_nonempty, digits_decimal, no_leading_zero)
 
 -- what is written of a number is digits
 pub decimal_digits : (n : ℕ) → n < 2 ^ 64 → all_ascii_digits (decimal n) ≡ true

@@ -1,16 +1,17 @@
 -- Fronts and quotes of a line.
-use Rattle.std.proofs.Common.{◌≡◌, ℕ, zero, suc, ◌+◌, ◌<◌, ◌≤◌, Bool, true, false, cond, List, [], ◌∷◌, ◌++◌, length, get_or, take, drop, Some, None, Result, Ok, Err, refl, ap, ◌∙◌, add-one, arith}
-use Rattle.std.specs.Prelude.{◌&&◌, ◌==◌, nat_eq, nat_lt, position}
-use Rattle.std.specs.List.{position_or_len, AllByRecursion}
+use Rattle.std.proofs.lemmas.Grind.{common_steps}
+use Rattle.std.proofs.Common.{◌≡◌, ℕ, zero, suc, ◌+◌, ◌<◌, Bool, true, false, cond, List, [], ◌∷◌, ◌++◌, length, get_or, take, drop, Some, None, Result, Ok, Err, refl, ap, ◌∙◌, add-one, arith}
+use Rattle.std.specs.Prelude.{◌&&◌, ◌==◌, nat_eq, position}
+use Rattle.std.specs.List.{AllByRecursion}
 use Rattle.std.specs.Cmp.Lexicographic.{pointwise}
-use Rattle.std.proofs.lemmas.Bool.{ltb-false, eqb-true}
+use Rattle.std.proofs.lemmas.Bool.{ltb-false}
 use Rattle.std.proofs.lemmas.List.Quantifiers.{position-Some}
 use Rattle.std.proofs.lemmas.List.Sums.{fails_before_first}
 use Rattle.json_lines.specs.declared.fault.MessageFault.{MessageFault}
 use Rattle.json_lines.specs.declared.fault.MessageFault.TheVariants.{Shape}
 use Rattle.json_lines.specs.Written.{is_quote, behind, quoted}
 use Rattle.json_lines.specs.Steps.{◌>>=◌}
-use Rattle.json_lines.proofs.Steps.{bind_ok, guarded, ok_is}
+use Rattle.json_lines.proofs.Steps.{ok_is}
 
 -- ---- fronts
 
@@ -38,10 +39,7 @@ behind_no (x ∷ front) (b ∷ bytes) e = both_no (b == x) (pointwise nat_eq (ta
 pub behind_found : (front bytes rest : List ℕ) → behind front bytes ≡ Ok rest → bytes ≡ front ++ rest
 behind_found [] bytes rest e = ok_is bytes rest e
 behind_found (x ∷ front) [] rest e = absurd cc
-behind_found (x ∷ front) (b ∷ bytes) rest e =
-    let g = guarded (b == x) Shape (behind front bytes) rest e in
-    let same : b ≡ x = eqb-true b x g.0 in
-    ap (λ (y : ℕ). y ∷ bytes) same ∙ ap (λ (t : List ℕ). x ∷ t) (behind_found front bytes rest g.1)
+behind_found (x ∷ front) (b ∷ bytes) rest e = grind (arith, common_steps, behind_found front bytes rest)
 
 -- ---- quotes
 
@@ -67,19 +65,13 @@ not_there true i e = absurd cc
 not_there false i e = refl
 
 pub quoted_none : (bytes : List ℕ) → position is_quote bytes ≡ None → quoted bytes ≡ Err Shape
-quoted_none bytes e =
-    let end : length bytes ≤ position_or_len is_quote bytes = ltb-false _ _ (not_there (nat_lt (position_or_len is_quote bytes) (length bytes)) (position_or_len is_quote bytes) e) in
-    no_quote bytes (λ k h. fails_before_first is_quote bytes k 0 (omega arith))
+quoted_none bytes e = grind (arith, common_steps, ltb-false, not_there, no_quote, fails_before_first)
 
 first_or_more : (b : ℕ) (bytes : List ℕ) (d : Bool) (p : List ℕ × List ℕ) → is_quote b ≡ d
     → ((q : List ℕ × List ℕ) → quoted bytes ≡ Ok q → bytes ≡ q.0 ++ 34 ∷ q.1)
     → cond d (Ok ([], bytes)) (quoted bytes >>= λ q. Ok (b ∷ q.0, q.1)) ≡ Ok p → b ∷ bytes ≡ p.0 ++ 34 ∷ p.1
-first_or_more b bytes true p is more e =
-    let here : b ≡ 34 = eqb-true b 34 is in
-    ap (λ (y : ℕ). y ∷ bytes) here ∙ ap (λ (x : List ℕ × List ℕ). x.0 ++ 34 ∷ x.1) (ok_is ([], bytes) p e)
-first_or_more b bytes false p is more e =
-    let q = bind_ok (quoted bytes) _ p e in
-    ap (λ (t : List ℕ). b ∷ t) (more q.0 q.1) ∙ ap (λ (x : List ℕ × List ℕ). x.0 ++ 34 ∷ x.1) (ok_is (b ∷ q.0.0, q.0.1) p q.2)
+first_or_more b bytes true p is more e = grind (arith, common_steps)
+first_or_more b bytes false p is more e = grind (arith, common_steps)
 
 -- a quote stands between the two parts
 pub quoted_found : (bytes : List ℕ) (p : List ℕ × List ℕ) → quoted bytes ≡ Ok p → bytes ≡ p.0 ++ 34 ∷ p.1
@@ -92,6 +84,4 @@ HasNoQuote text = AllByRecursion (λ b. is_quote b ≡ false) text
 -- a text without a quote ends at the first one
 pub quoted_again : (text rest : List ℕ) → HasNoQuote text → quoted (text ++ 34 ∷ rest) ≡ Ok (text, rest)
 quoted_again [] rest none = refl
-quoted_again (b ∷ text) rest none =
-    ap (λ (d : Bool). cond d (Ok ([], text ++ 34 ∷ rest)) (quoted (text ++ 34 ∷ rest) >>= λ p. Ok (b ∷ p.0, p.1))) none.0
-    ∙ ap (λ (r : Result (List ℕ × List ℕ) MessageFault). r >>= λ p. Ok (b ∷ p.0, p.1)) (quoted_again text rest none.1)
+quoted_again (b ∷ text) rest none = grind (arith, common_steps, quoted_again text rest none.1)

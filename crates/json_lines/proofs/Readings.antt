@@ -1,4 +1,6 @@
 -- A message is read of its line, and of no other line.
+use Rattle.std.proofs.lemmas.Grind.{common_steps}
+use Rattle.std.proofs.Common.{arith}
 use Rattle.std.proofs.Common.{◌≡◌, ◌≢◌, ℕ, List, Result, Ok, Err, refl, sym, ap, subst, ◌∙◌}
 use Rattle.std.specs.Prelude.{IfOk, IfErr, decimal}
 use Rattle.std.specs.Str.{IsUtf8}
@@ -40,9 +42,7 @@ pub read_whole : (format : Format) (line : List ℕ) (t : Texts) (r : Result Mes
     → IfErr r (λ e. (m : Message) → IsMessage format m → line ≡ message_line m → e ≡ fault.NoMemory)
 read_whole format line t (Ok x) e gives = tt
 read_whole format line t (Err f) e gives = λ m lawful is.
-    let same : t ≡ texts_of m = ok_is t (texts_of m) (sym e ∙ ap texts_written is ∙ written_again format m lawful) in
-    let read : message_of format t ≡ Ok m = ap (message_of format) same ∙ message_again format m lawful in
-    only_memory f (λ other. let refused = gives other in absurd (cc (refused, read)))
+    grind (arith, common_steps, ok_is, written_again, message_again, only_memory)
 
 -- what can't be taken apart is no message's line
 pub unwritten : (format : Format) (line : List ℕ) (f : MessageFault) → texts_written line ≡ Err f → (m : Message) → IsMessage format m → line ≢ message_line m

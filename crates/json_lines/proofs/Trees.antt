@@ -1,4 +1,6 @@
 -- Trees, test by test.
+use Rattle.std.proofs.lemmas.Grind.{common_steps}
+use Rattle.std.proofs.Common.{arith}
 use Rattle.std.proofs.Common.{◌≡◌, ◌≢◌, ℕ, Bool, true, false, cond, List, Option, Some, None, Result, Ok, Err, refl, ap, ◌∙◌}
 use Rattle.std.specs.Prelude.{ok_or, ◌==◌}
 use Rattle.std.specs.Str.{IsUtf8, is_utf8}
@@ -34,8 +36,7 @@ by_count tree n = cond (n == 1) (resolved_in tree) (cond (n == 3) (row_in tree) 
 -- an object goes by how many members it has
 pub texts_by_count : (tree : Data) (ms : Members) (n : ℕ) → as_object tree ≡ Some ms → members_len ms ≡ n → texts_in tree ≡ by_count tree n
 unfolding texts_in
-texts_by_count tree ms n e count =
-    ap (λ (o : Option Members). ok_or o Shape >>= λ m. by_count tree (members_len m)) e ∙ ap (by_count tree) count
+texts_by_count tree ms n e count = grind (arith, common_steps)
 
 pub texts_none : (tree : Data) → as_object tree ≡ None → texts_in tree ≡ Err Shape
 unfolding texts_in

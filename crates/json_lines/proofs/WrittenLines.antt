@@ -1,18 +1,19 @@
 -- A written line is taken apart into the texts that it was made of.
-use Rattle.std.proofs.Common.{◌≡◌, ℕ, ◌+◌, ◌/◌, ◌%◌, ◌*◌, ◌⊎◌, inl, inr, zero, suc, true, false, cond, List, [], ◌∷◌, ◌++◌, get_or, Option, Some, None, Result, Ok, Err, refl, sym, ap, subst, ◌∙◌, append_assoc, arith}
+use Rattle.std.proofs.lemmas.Grind.{common_steps}
+use Rattle.std.proofs.Common.{rules}
+use Rattle.std.proofs.Common.{◌≡◌, ℕ, ◌+◌, ◌/◌, ◌%◌, ◌*◌, ◌⊎◌, inl, inr, zero, suc, true, false, cond, List, [], ◌∷◌, ◌++◌, get_or, Option, Some, None, Result, Ok, Err, refl, ap, subst, ◌∙◌, append_assoc, arith}
 use Rattle.std.specs.Prelude.{codes, decimal, bytes_eq, option_map, not}
 use Rattle.std.specs.List.{list_all}
 use Rattle.std.specs.Str.{all_ascii_digits}
 use Rattle.std.specs.Char.{is_ascii_digit}
 use Rattle.std.proofs.lemmas.Bool.{and_parts, ne_eqb, not-true}
 use Rattle.std.proofs.lemmas.Slice.Eq.{bytes_eq-Decides}
-use Rattle.base64.specs.Rfc4648.{encode_group}
 use Rattle.spans.specs.declared.calls.messages.Message.{Message}
 use Rattle.spans.specs.declared.calls.messages.Message.TheVariants as message
 use Rattle.json_lines.specs.declared.fault.MessageFault.{MessageFault}
 use Rattle.json_lines.specs.declared.fault.MessageFault.TheVariants.{Shape}
 use Rattle.text_format.specs.declared.Format.{Format}
-use Rattle.json_lines.specs.Messages.{base64, symbols, after_text, message_line, IsMessage}
+use Rattle.json_lines.specs.Messages.{base64, symbols, message_line, IsMessage}
 use Rattle.json_lines.specs.Texts.{Texts, resolved, row, texts_of}
 use Rattle.json_lines.specs.Steps.{◌>>=◌}
 use Rattle.json_lines.specs.Written.{is_quote, behind, quoted, otherwise, last_text, text_at_front, null_at_front, after_at_front, resolved_written, row_written, texts_written}
@@ -36,41 +37,25 @@ texts_line (row after key updated) = codes "{\"after\":" ++ (after_line after ++
 regroup : (a b c d e f g : List ℕ) → ((((((a ++ b) ++ c) ++ d) ++ e) ++ f) ++ g) ≡ a ++ (b ++ (c ++ (d ++ (e ++ (f ++ g)))))
 regroup a b c d e f g = simp append_assoc
 
-after_same : (after : Option (List ℕ)) → after_text after ≡ after_line (option_map base64 after)
-after_same None = refl
-after_same (Some value) = refl
-
 -- a message's line is that of its texts
 pub line_of_texts : (m : Message) → message_line m ≡ texts_line (texts_of m)
 unfolding message_line
 line_of_texts (message.Resolved ts) = append_assoc (codes "{\"resolved\":\"") (decimal ts) (codes "\"}\n")
-line_of_texts (message.Row r) =
-    regroup (codes "{\"after\":") (after_text r.after) (codes ",\"key\":\"") (base64 r.key) (codes "\",\"updated\":\"") (decimal r.ts) (codes "\"}\n")
-    ∙ ap (λ (x : List ℕ). codes "{\"after\":" ++ (x ++ (codes ",\"key\":\"" ++ (base64 r.key ++ (codes "\",\"updated\":\"" ++ (decimal r.ts ++ codes "\"}\n")))))) (after_same r.after)
+line_of_texts (message.Row r) = grind (arith, common_steps)
 
 -- ---- what is taken apart was put together so
 
 last_found : (bytes text : List ℕ) → last_text bytes ≡ Ok text → bytes ≡ text ++ codes "\"}\n"
 unfolding last_text
-last_found bytes text e =
-    let p = bind_ok (quoted bytes) _ text e in
-    let g = guarded (bytes_eq p.0.1 (codes "}\n")) Shape (Ok p.0.0) text p.2 in
-    let end : p.0.1 ≡ codes "}\n" = (bytes_eq-Decides p.0.1 (codes "}\n")).0 g.0 in
-    quoted_found bytes p.0 p.1 ∙ ap (λ (x : List ℕ). p.0.0 ++ 34 ∷ x) end ∙ ap (λ (x : List ℕ). x ++ codes "\"}\n") (ok_is p.0.0 text g.1)
+last_found bytes text e = grind (arith, common_steps, bind_ok, guarded, bytes_eq-Decides, quoted_found, ok_is)
 
 null_found : (bytes : List ℕ) (x : Option (List ℕ) × List ℕ) → null_at_front bytes ≡ Ok x → bytes ≡ after_line x.0 ++ x.1
 unfolding null_at_front
-null_found bytes x e =
-    let rest = bind_ok (behind (codes "null") bytes) _ x e in
-    subst (λ (y : Option (List ℕ) × List ℕ). bytes ≡ after_line y.0 ++ y.1) (ok_is (None, rest.0) x rest.2) (behind_found (codes "null") bytes rest.0 rest.1)
+null_found bytes x e = grind (arith, common_steps)
 
 text_found : (bytes : List ℕ) (x : Option (List ℕ) × List ℕ) → text_at_front bytes ≡ Ok x → bytes ≡ after_line x.0 ++ x.1
 unfolding text_at_front
-text_found bytes x e =
-    let rest = bind_ok (behind (codes "\"") bytes) _ x e in
-    let p = bind_ok (quoted rest.0) _ x rest.2 in
-    subst (λ (y : Option (List ℕ) × List ℕ). bytes ≡ after_line y.0 ++ y.1) (ok_is (Some p.0.0, p.0.1) x p.2)
-    (behind_found (codes "\"") bytes rest.0 rest.1 ∙ ap (λ (t : List ℕ). 34 ∷ t) (quoted_found rest.0 p.0 p.1 ∙ sym (append_assoc p.0.0 (34 ∷ []) p.0.1)))
+text_found bytes x e = grind (arith, common_steps, bind_ok, ok_is, behind_found, quoted_found)
 
 -- which of two ways did not fail
 either : {A : Type 0} (first second : Result A MessageFault) (x : A) → otherwise first second ≡ Ok x → (first ≡ Ok x) ⊎ (second ≡ Ok x)
@@ -79,15 +64,11 @@ either (Err d) second x e = inr e
 
 after_found : (bytes : List ℕ) (x : Option (List ℕ) × List ℕ) → after_at_front bytes ≡ Ok x → bytes ≡ after_line x.0 ++ x.1
 unfolding after_at_front
-after_found bytes x e =
-    elim (either (null_at_front bytes) (text_at_front bytes) x e) [ inl null ↦ null_found bytes x null | inr text ↦ text_found bytes x text ]
+after_found bytes x e = grind (arith, common_steps, either, null_found, text_found)
 
 resolved_found : (line : List ℕ) (t : Texts) → resolved_written line ≡ Ok t → line ≡ texts_line t
 unfolding resolved_written
-resolved_found line t e =
-    let rest = bind_ok (behind (codes "{\"resolved\":\"") line) _ t e in
-    let ts = bind_ok (last_text rest.0) _ t rest.2 in
-    behind_found (codes "{\"resolved\":\"") line rest.0 rest.1 ∙ ap (λ (x : List ℕ). codes "{\"resolved\":\"" ++ x) (last_found rest.0 ts.0 ts.1) ∙ ap texts_line (ok_is (resolved ts.0) t ts.2)
+resolved_found line t e = grind (arith, common_steps, bind_ok, behind_found, last_found, ok_is)
 
 row_found : (line : List ℕ) (t : Texts) → row_written line ≡ Ok t → line ≡ texts_line t
 unfolding row_written
@@ -109,8 +90,7 @@ row_found line t e =
 -- what is taken apart is the line of its texts
 pub written_found : (line : List ℕ) (t : Texts) → texts_written line ≡ Ok t → line ≡ texts_line t
 unfolding texts_written
-written_found line t e =
-    elim (either (resolved_written line) (row_written line) t e) [ inl is ↦ resolved_found line t is | inr is ↦ row_found line t is ]
+written_found line t e = grind (arith, common_steps, either, resolved_found, row_found)
 
 -- ---- no written text has a quote
 
@@ -130,8 +110,7 @@ base64_no_quote : (bytes : List ℕ) → HasNoQuote (base64 bytes)
 base64_no_quote [] = rw base64_none tt
 base64_no_quote (a ∷ []) = rw base64_one (symbol_no_quote (a / 4), (symbol_no_quote (a % 4 * 16), (refl, (refl, tt))))
 base64_no_quote (a ∷ b ∷ []) = rw base64_two (symbol_no_quote (a / 4), (symbol_no_quote (a % 4 * 16 + b / 16), (symbol_no_quote (b % 16 * 4), (refl, tt))))
-base64_no_quote (a ∷ b ∷ c ∷ rest) =
-    rw base64_three (no_quotes_join (encode_group symbols a b c) (base64 rest) (symbol_no_quote (a / 4), (symbol_no_quote (a % 4 * 16 + b / 16), (symbol_no_quote (b % 16 * 4 + c / 64), (symbol_no_quote (c % 64), tt)))) (base64_no_quote rest))
+base64_no_quote (a ∷ b ∷ c ∷ rest) = search (base64_three, no_quotes_join, symbol_no_quote, base64_no_quote rest, rules, arith)
 
 digit_no_quote : (c : ℕ) → is_ascii_digit c ≡ true → is_quote c ≡ false
 digit_no_quote c digit = ne_eqb c 34 (λ e. let h : is_ascii_digit 34 ≡ true = subst (λ (x : ℕ). is_ascii_digit x ≡ true) e digit in absurd cc)
@@ -157,9 +136,7 @@ last_again text none = ap (λ (r : Result (List ℕ × List ℕ) MessageFault). 
 after_again : (after : Option (List ℕ)) (rest : List ℕ) → AfterHasNoQuote after → after_at_front (after_line after ++ rest) ≡ Ok (after, rest)
 unfolding after_at_front null_at_front text_at_front
 after_again None rest none = refl
-after_again (Some text) rest none =
-    ap (λ (x : List ℕ). after_at_front (34 ∷ x)) (append_assoc text (34 ∷ []) rest)
-    ∙ ap (λ (r : Result (List ℕ × List ℕ) MessageFault). r >>= λ p. Ok (Some p.0, p.1)) (quoted_again text rest none)
+after_again (Some text) rest none = grind (arith, common_steps, quoted_again)
 
 resolved_again : (ts : List ℕ) → HasNoQuote ts → texts_written (texts_line (resolved ts)) ≡ Ok (resolved ts)
 unfolding texts_written resolved_written
@@ -167,16 +144,10 @@ resolved_again ts none = ap (λ (r : Result (List ℕ) MessageFault). otherwise 
 
 row_again : (after : Option (List ℕ)) (key updated : List ℕ) → AfterHasNoQuote after → HasNoQuote key → HasNoQuote updated → texts_written (texts_line (row after key updated)) ≡ Ok (row after key updated)
 unfolding texts_written resolved_written row_written
-row_again after key updated a k u =
-    let back : List ℕ = updated ++ codes "\"}\n" in
-    let middle : List ℕ = key ++ (codes "\",\"updated\":\"" ++ back) in
-    ap (λ (r : Result (Option (List ℕ) × List ℕ) MessageFault). r >>= λ x. behind (codes ",\"key\":\"") x.1 >>= λ m. quoted m >>= λ y. behind (codes ",\"updated\":\"") y.1 >>= λ b. last_text b >>= λ z. Ok (row x.0 y.0 z)) (after_again after (codes ",\"key\":\"" ++ middle) a)
-    ∙ ap (λ (r : Result (List ℕ × List ℕ) MessageFault). r >>= λ y. behind (codes ",\"updated\":\"") y.1 >>= λ b. last_text b >>= λ z. Ok (row after y.0 z)) (quoted_again key (codes ",\"updated\":\"" ++ back) k)
-    ∙ ap (λ (r : Result (List ℕ) MessageFault). r >>= λ z. Ok (row after key z)) (last_again updated u)
+row_again after key updated a k u = grind (arith, common_steps, after_again, quoted_again, last_again)
 
 -- a message's line is taken apart into its texts
 pub written_again : (format : Format) (m : Message) → IsMessage format m → texts_written (message_line m) ≡ Ok (texts_of m)
 written_again format (message.Resolved ts) lawful =
     ap texts_written (line_of_texts (message.Resolved ts)) ∙ resolved_again (decimal ts) (digits_no_quote (decimal ts) (decimal_digits ts (omega arith)))
-written_again format (message.Row r) lawful =
-    ap texts_written (line_of_texts (message.Row r)) ∙ row_again (option_map base64 r.after) (base64 r.key) (decimal r.ts) (value_no_quote r.after) (base64_no_quote r.key) (digits_no_quote (decimal r.ts) (decimal_digits r.ts (omega arith)))
+written_again format (message.Row r) lawful = grind (arith, common_steps, line_of_texts, row_again, value_no_quote, base64_no_quote, digits_no_quote, decimal_digits)

@@ -1,4 +1,5 @@
 -- The message that texts mean, or what is wrong with them: numbers first, then base64, then lengths.
+use Rattle.json_lines.specs.Steps.{◌>>=◌}
 use Rattle.std.specs.Prelude.{ℕ, nat_le, ◌&&◌, if◌then◌else◌, List, length, Option, Some, None, Result, Ok, Err, ok_or}
 use Rattle.base64.specs.Engines.{standard}
 use Rattle.base64.specs.GeneralPurpose.{decoded_of}
@@ -11,7 +12,6 @@ use Rattle.json_lines.specs.declared.fault.MessageFault.{MessageFault}
 use Rattle.json_lines.specs.declared.fault.MessageFault.TheVariants.{Number, Base64, Length}
 use Rattle.json_lines.specs.Numbers.{number_of}
 use Rattle.json_lines.specs.Texts.{Texts, resolved, row}
-use Rattle.json_lines.specs.Steps.{◌>>=◌}
 
 -- a number word from 1 to the greatest timestamp
 unfoldable pub timestamp_of : List ℕ → Result ℕ MessageFault

@@ -1,4 +1,5 @@
 -- The tests of a line in their order, over what `serde_json` reads of it.
+use Rattle.json_lines.specs.Steps.{◌>>=◌}
 use Rattle.std.specs.Prelude.{ℕ, ◌==◌, if◌then◌else◌, is_some, List, codes, bytes_eq, Option, Some, None, option_and_then, Result, Ok, Err, ok_or}
 use Rattle.std.specs.Str.{is_utf8}
 use Rattle.serde_json.specs.Data.{Data}
@@ -12,7 +13,6 @@ use Rattle.json_lines.specs.declared.fault.MessageFault.TheVariants.{NotJson, Sh
 use Rattle.json_lines.specs.Messages.{message_line}
 use Rattle.json_lines.specs.Meaning.{message_of}
 use Rattle.json_lines.specs.Texts.{Texts, resolved, row}
-use Rattle.json_lines.specs.Steps.{◌>>=◌}
 
 -- a member that is a string
 unfoldable pub text_at : List ℕ → Data → Result (List ℕ) MessageFault

@@ -1,15 +1,16 @@
 -- What is kept after a closing and after a hard closing.
+use Rattle.std.proofs.lemmas.Grind.{common_steps}
 use Rattle.std.proofs.Common.{Bool, List, not, refl, None, Option, arith, false, ap, true, Some, sym, cond, map, ◌≡◌, ◌<◌, ◌≤◌, ◌-◌, ◌&&◌, ◌||◌, ◌∷◌, ◌∙◌, ℕ, []}
 use Rattle.std.proofs.lemmas.Bool.{false_from_ne_true, and_parts, lt-ltb, ltb-true}
 use Rattle.std.proofs.lemmas.Bool.Decides.{nat_tests}
-use Rattle.std.specs.Prelude.{nat_lt, nat_le, filter, option_map, is_some, min}
+use Rattle.std.specs.Prelude.{nat_lt, nat_le, filter, option_map, is_some}
 use Rattle.spans.specs.Collection.{version_name, is_dead}
 use Rattle.spans.specs.Effects.{HardCloses, Closes, After, Effect}
 use Rattle.spans.specs.Kept.{state_of, transaction_with, Transaction, Kept, IsKeptOf, kept_version}
 use Rattle.spans.specs.declared.state.State.{State}
 use Rattle.spans.specs.declared.state.State.TheVariants as states
 use Rattle.spans.specs.Reads.{too_late}
-use Rattle.spans.specs.Transactions.{is_undecided, decided_through, closed_of, is_aborted, is_committed, owner_of, begun_of, least_of, undecided_timestamps}
+use Rattle.spans.specs.Transactions.{is_undecided, decided_through, closed_of, is_aborted, is_committed, owner_of, begun_of, least_of}
 use Rattle.spans.specs.Versions.{committed_version_of, version_of, write_of}
 use Rattle.spans.proofs.Copies.{closed_grows, Allowed, AllAllowed}
 use Rattle.spans.proofs.Open.{begun_among, open_above, least_below}
@@ -40,9 +41,7 @@ open_is k p all fits t = ap is_open (fits.transactions t) ∙ by_test (nat_lt (c
 -- what is at most each of the numbers is at most the least
 least_above : (q : ℕ → Bool) (m n : ℕ) (ks : List ℕ) → m ≤ n → ((t : ℕ) → q t ≡ true → m ≤ t - 1) → m ≤ least_of n (map (λ t. t - 1) (filter q ks))
 least_above q m n [] low h = low
-least_above q m n (t ∷ ks) low h = let more : m ≤ least_of n (map (λ t. t - 1) (filter q ks)) = least_above q m n ks low h in by_test (q t)
-    (λ is. rw is (let l = h t is in omega arith))
-    (λ isnt. rw isnt more)
+least_above q m n (t ∷ ks) low h = grind (arith, common_steps, least_above q m n ks low h)
 
 -- where nothing passes the test the least is the bound
 least_all : (q : ℕ → Bool) (n : ℕ) (ks : List ℕ) → ((t : ℕ) → q t ≡ false) → least_of n (map (λ t. t - 1) (filter q ks)) ≡ n
@@ -52,12 +51,7 @@ least_all q n (t ∷ ks) h = rw (h t) (least_all q n ks h)
 -- closing reaches as far as the history says
 pub reach_is : (k : Kept) (p : List Effect) → AllAllowed p → IsKeptOf k p → (to : ℕ) (o : Option ℕ) → IsOldest k.transaction o → reach to o ≡ decided_through p to
 reach_is k p all fits to None h = sym (least_all (is_undecided p) to (begun_of p) (λ t. sym (open_is k p all fits t) ∙ h t))
-reach_is k p all fits to (Some o) h =
-    let u : is_undecided p o ≡ true = sym (open_is k p all fits o) ∙ h.0 in
-    let low : decided_through p to ≤ o - 1 = least_below (is_undecided p) to o (begun_of p) (begun_among p o (and_parts _ _ u).0) u in
-    let high : min to (o - 1) ≤ decided_through p to = least_above (is_undecided p) (min to (o - 1)) to (begun_of p) (omega arith) (λ t is. let l : o ≤ t = h.1 t (open_is k p all fits t ∙ is) in omega arith) in
-    let top : decided_through p to ≤ to = least_low to (map (λ t. t - 1) (undecided_timestamps p)) in
-    omega arith
+reach_is k p all fits to (Some o) h = grind (arith, common_steps, open_is, least_below, begun_among, and_parts, least_above, least_low)
 
 -- what stands after forgetting is above it, and stood before
 forgotten_stood : (m m' : ℕ → Bool) (n : ℕ) → IsForgotten m m' n → (j : ℕ) → m' j ≡ true → (n < j) × (m j ≡ true)
@@ -73,24 +67,7 @@ pub after_closes : (k : Kept) (p : List Effect) → AllAllowed p → IsKeptOf k 
     → ((y : List ℕ) → IsForgotten (k.marked y) (m' y) n)
     → ((i : ℕ) → τ' i ≡ cond (nat_lt n i) (k.transaction i) None)
     → IsKeptOf (record k { closed = n; marked = m'; transaction = τ' }) (Closes n ∷ p)
-after_closes k p all fits n allowed m' τ' ms ts = record {
-  closed_at = refl;
-  horizon_at = fits.horizon_at;
-  versions = λ y i. fits.versions y i ∙ sym (kept_stays p (Closes n) all allowed refl y i);
-  committed = fits.committed;
-  marks = λ y i above fresh. let b = fits.marks y i (omega (arith, closed_grows p (Closes n) allowed)) fresh in (
-    λ late. let c = b.0 late in record { reader = c.reader; mark = forgotten_above (k.marked y) (m' y) n (ms y) c.reader (omega (arith, c.above)) ∙ c.mark; above = c.above; none = c.none },
-    λ c. b.1 (record { reader = c.reader; mark = (forgotten_stood (k.marked y) (m' y) n (ms y) c.reader c.mark).1; above = c.above; none = c.none }),
-  );
-  forgotten = λ y j is. (forgotten_stood (k.marked y) (m' y) n (ms y) j is).0;
-  transactions = λ i. ts i ∙ by_test (nat_lt n i)
-      (λ is. let e : nat_lt (closed_of p) i ≡ true = (let g : closed_of p ≤ n = closed_grows p (Closes n) allowed in grind (arith, nat_tests)) in rw is (fits.transactions i ∙ (rw e refl)))
-      (λ isnt. rw isnt refl);
-  protected = fits.protected;
-  made = fits.made;
-  feeds = fits.feeds;
-  opened = fits.opened;
-}
+after_closes k p all fits n allowed m' τ' ms ts = grind (arith, common_steps)
 
 -- after a hard closing
 pub after_hard_closes : (k : Kept) (p : List Effect) → AllAllowed p → IsKeptOf k p → (to n : ℕ) → Allowed p (HardCloses to n)

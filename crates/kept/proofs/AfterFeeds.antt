@@ -1,5 +1,6 @@
 -- What is kept after the commands on feeds and protections.
-use Rattle.std.proofs.Common.{Bool, List, not, refl, None, Option, arith, false, suc, ap, true, Some, sym, cond, ◌≡◌, ◌<◌, ◌==◌, ◌∷◌, ◌++◌, ◌∙◌, ℕ}
+use Rattle.std.proofs.lemmas.Grind.{common_steps}
+use Rattle.std.proofs.Common.{Bool, List, not, refl, None, Option, arith, false, suc, ap, true, Some, sym, cond, ◌≡◌, ◌==◌, ◌∷◌, ◌++◌, ◌∙◌, ℕ}
 use Rattle.std.proofs.lemmas.Bool.{eqb-true}
 use Rattle.std.specs.Prelude.{filter, option_map}
 use Rattle.spans.specs.Collection.{Protection}
@@ -18,38 +19,11 @@ use Rattle.kept.specs.Places.{moved}
 pub after_opens : (k : Kept) (p : List Effect) → AllAllowed p → IsKeptOf k p → (f seat : ℕ) (kind : Kind) (span : Span) (cursor : ℕ) → Allowed p (Opens f seat kind span cursor) → (φ : ℕ → Option Place)
     → ((g : ℕ) → φ g ≡ cond (f == g) (Some (record { seat = seat; kind = kind; span = span; cursor = cursor; after = start_at kind cursor; row = None })) (k.feed g))
     → IsKeptOf (record k { feed = φ; feeds_opened = suc k.feeds_opened }) (Opens f seat kind span cursor ∷ p)
-after_opens k p all fits f seat kind span cursor allowed φ fs = record {
-  closed_at = fits.closed_at;
-  horizon_at = fits.horizon_at;
-  versions = fits.versions;
-  committed = fits.committed;
-  marks = fits.marks;
-  forgotten = fits.forgotten;
-  transactions = fits.transactions;
-  protected = fits.protected;
-  made = fits.made;
-  feeds = λ g. fs g ∙ by_test (f == g)
-      (λ same. let above : feeds_opened p < g = (let e = eqb-true f g same in omega (arith, allowed.0)) in
-      let live = uncancelled p all g above in let none = (unopened p all g above).1 in rw (same, live, none) refl)
-      (λ other. rw other (fits.feeds g));
-  opened = ap suc fits.opened;
-}
+after_opens k p all fits f seat kind span cursor allowed φ fs = grind (arith, common_steps, by_test, eqb-true, uncancelled, unopened)
 
 -- after a cancellation
 pub after_cancels : (k : Kept) (p : List Effect) → IsKeptOf k p → (f : ℕ) → (φ : ℕ → Option Place) → ((g : ℕ) → φ g ≡ cond (f == g) None (k.feed g)) → IsKeptOf (record k { feed = φ }) (Cancels f ∷ p)
-after_cancels k p fits f φ fs = record {
-  closed_at = fits.closed_at;
-  horizon_at = fits.horizon_at;
-  versions = fits.versions;
-  committed = fits.committed;
-  marks = fits.marks;
-  forgotten = fits.forgotten;
-  transactions = fits.transactions;
-  protected = fits.protected;
-  made = fits.made;
-  feeds = λ g. fs g ∙ by_test (f == g) (λ same. rw same refl) (λ other. rw other (fits.feeds g));
-  opened = fits.opened;
-}
+after_cancels k p fits f φ fs = grind (arith, common_steps)
 
 -- after a poll
 pub after_polls : (k : Kept) (p : List Effect) → IsKeptOf k p → (f m : ℕ) (ms : List Message) → (φ : ℕ → Option Place) → ((g : ℕ) → φ g ≡ cond (f == g) (option_map (moved ms) (k.feed g)) (k.feed g)) → IsKeptOf (record k { feed = φ }) (Polls f m ms ∷ p)
@@ -82,32 +56,8 @@ after_polls k p fits f m ms φ fs = record {
 
 -- after a protection
 pub after_protects : (k : Kept) (p : List Effect) → IsKeptOf k p → (id t : ℕ) → IsKeptOf (record k { protections = record { id = id; at = t } ∷ k.protections; protections_made = suc k.protections_made }) (Protects id t ∷ p)
-after_protects k p fits id t = record {
-  closed_at = fits.closed_at;
-  horizon_at = fits.horizon_at;
-  versions = fits.versions;
-  committed = fits.committed;
-  marks = fits.marks;
-  forgotten = fits.forgotten;
-  transactions = fits.transactions;
-  protected = ap (λ l. record { id = id; at = t } ∷ l) fits.protected;
-  made = ap suc fits.made;
-  feeds = fits.feeds;
-  opened = fits.opened;
-}
+after_protects k p fits id t = grind (arith, common_steps)
 
 -- after a release
 pub after_releases : (k : Kept) (p : List Effect) → IsKeptOf k p → (id : ℕ) → IsKeptOf (record k { protections = filter (λ (n : Protection). not (n.id == id)) k.protections }) (Releases id ∷ p)
-after_releases k p fits id = record {
-  closed_at = fits.closed_at;
-  horizon_at = fits.horizon_at;
-  versions = fits.versions;
-  committed = fits.committed;
-  marks = fits.marks;
-  forgotten = fits.forgotten;
-  transactions = fits.transactions;
-  protected = ap (filter (λ (n : Protection). not (n.id == id))) fits.protected;
-  made = fits.made;
-  feeds = fits.feeds;
-  opened = fits.opened;
-}
+after_releases k p fits id = grind (arith, common_steps)

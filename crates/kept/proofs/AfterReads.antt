@@ -1,4 +1,5 @@
 -- What is kept after a read and after a scan.
+use Rattle.std.proofs.lemmas.Grind.{common_steps}
 use Rattle.std.proofs.Common.{ℕ, Bool, List, ◌⊎◌, inr, None, Option, arith, false, subst, true, Some, inl, sym, ◌≡◌, ◌<◌, ◌==◌, ◌&&◌, ◌||◌, ◌∷◌, ◌∙◌, ℕ}
 use Rattle.std.proofs.lemmas.Bool.{eqb-true}
 use Rattle.std.proofs.lemmas.Bool.Decides.{nat_tests}
@@ -15,7 +16,7 @@ use Rattle.spans.proofs.Horizon.{horizon_low}
 use Rattle.kept.specs.Finding.{IsNextAbove, seen}
 use Rattle.kept.specs.Marks.{until, IsMarkedBy, IsNoted}
 use Rattle.kept.proofs.Dead.{kept_above}
-use Rattle.kept.proofs.Marking.{own_read, marks_read}
+use Rattle.kept.proofs.Marking.{marks_read}
 use Rattle.kept.proofs.Reading.{seen_is, kept_newest, IsSeen}
 use Rattle.kept.proofs.Staying.{to_kept, marks_of}
 
@@ -28,19 +29,13 @@ Marked p x j m m' = (((visible p x j).ts ≡ j) × ((n : ℕ) → m' n ≡ m n))
 marks_after_read : (k : Kept) (p : List Effect) → AllAllowed p → IsKeptOf k p → (j : ℕ) (x : List ℕ) (m' : ℕ → Bool) → is_blocked p x j ≡ false → Marked p x j (k.marked x) m' → (i : ℕ) → closed_of p < i → committed_version_of p x i ≡ None
     → (((nat_lt (visible p x j).ts i && nat_lt i j) || too_late p x i) ≡ true) ↔ IsCrossed m' (k.version x) i
 marks_after_read k p all fits j x m' free marked i above fresh = elim marked [
-  | inl own ↦ rw (own_read p x j i own.0) (let b = fits.marks x i above fresh in (
-    λ late. let c = b.0 late in record { reader = c.reader; mark = own.1 c.reader ∙ c.mark; above = c.above; none = c.none },
-    λ c. b.1 (record { reader = c.reader; mark = sym (own.1 c.reader) ∙ c.mark; above = c.above; none = c.none }),
-  ))
+  | inl own ↦ grind (arith, common_steps)
   | inr other ↦ to_kept p all x m' (k.version x) (fits.versions x) i above _ (marks_read p all x j other.1 other.2 (k.marked x) m' free other.0 other.3 other.4 i above fresh (marks_of k p all fits x i above fresh))
 ]
 
 -- a read leaves no mark below its own, which is above closed
 marks_above : (k : Kept) (p : List Effect) → IsKeptOf k p → (j : ℕ) → closed_of p < j → (x : List ℕ) (m' : ℕ → Bool) → Marked p x j (k.marked x) m' → (n : ℕ) → m' n ≡ true → closed_of p < n
-marks_above k p fits j above x m' marked n is = elim marked [
-  | inl own ↦ fits.forgotten x n (sym (own.1 n) ∙ is)
-  | inr other ↦ elim (other.4.only n is) [ inl itself ↦ omega (arith, itself, above) | inr before ↦ fits.forgotten x n before ]
-]
+marks_above k p fits j above x m' marked n is = grind (arith, common_steps)
 
 -- after a read
 pub after_reads : (k : Kept) (p : List Effect) → AllAllowed p → IsKeptOf k p → (j : ℕ) (x : List ℕ) (v : After) → Allowed p (Reads j x v) → (m' : List ℕ → ℕ → Bool)
@@ -78,13 +73,8 @@ after_scans k p all fits j span rows allowed m' others marked = record {
   committed = fits.committed;
   marks = λ y i above fresh. by_test (in_span span y)
       (λ in'. rw in' (marks_after_read k p all fits j y (m' y) (allowed.1 y in') (marked y in') i above fresh))
-      (λ out. rw out (let b = fits.marks y i above fresh in (
-        λ late. let c = b.0 late in record { reader = c.reader; mark = others y out c.reader ∙ c.mark; above = c.above; none = c.none },
-        λ c. b.1 (record { reader = c.reader; mark = sym (others y out c.reader) ∙ c.mark; above = c.above; none = c.none }),
-      )));
-  forgotten = λ y n is. by_test (in_span span y)
-      (λ in'. marks_above k p fits j allowed.0.above y (m' y) (marked y in') n is)
-      (λ out. fits.forgotten y n (sym (others y out n) ∙ is));
+      (λ out. grind (arith, common_steps));
+  forgotten = λ y n is. grind (arith, common_steps);
   transactions = fits.transactions;
   protected = fits.protected;
   made = fits.made;
@@ -100,10 +90,7 @@ own_seen k p all fits x j above own =
 
 -- a read of another's version
 pub other_seen : (k : Kept) (p : List Effect) → AllAllowed p → IsKeptOf k p → (x : List ℕ) (j : ℕ) → closed_of p < j → ((seen k x j).ts == j) ≡ false → (visible p x j).ts < j
-other_seen k p all fits x j above other =
-    let s : IsSeen p x j (seen k x j) = subst (IsSeen p x j) (sym (seen_is k p fits x j)) (kept_newest p all x j (omega (arith, horizon_low p all))) in
-    let m = (newest_is (version_of p x) j).at_most in
-    elim s.same [ inl same ↦ grind (arith, nat_tests, same) | inr dropped ↦ omega (arith, dropped.1, horizon_low p all) ]
+other_seen k p all fits x j above other = grind (arith, common_steps, seen_is, kept_newest, horizon_low, newest_is)
 
 -- between the version that the store found and the next there is none above closed
 pub none_between : (k : Kept) (p : List Effect) → AllAllowed p → IsKeptOf k p → (x : List ℕ) (j : ℕ) (o : Option ℕ) → IsNextAbove (k.version x) j o
@@ -118,6 +105,4 @@ none_between k p all fits x j o nearest n high above below = sym (kept_above p x
 
 -- so a read is noted by the two versions that the store finds
 pub read_noted : (k : Kept) (p : List Effect) → AllAllowed p → IsKeptOf k p → (x : List ℕ) (j : ℕ) → closed_of p < j → (m' : ℕ → Bool) → IsNoted k x j m' → Marked p x j (k.marked x) m'
-read_noted k p all fits x j above m' noted = by_test ((seen k x j).ts == j)
-    (λ is. let e = eqb-true _ _ is in inl (own_seen k p all fits x j above e, noted.own e))
-    (λ isnt. inr (other_seen k p all fits x j above isnt, (seen k x j).ts, until noted.next, none_between k p all fits x j noted.next noted.is_next, noted.other isnt))
+read_noted k p all fits x j above m' noted = grind (arith, common_steps, by_test, eqb-true, own_seen, other_seen, none_between)

@@ -1,4 +1,5 @@
 -- The counts of a commit, a hard closing and the statistics, from what is kept.
+use Rattle.std.proofs.lemmas.Grind.{common_steps}
 use Rattle.std.proofs.Common.{Bool, List, None, Option, Some, [], ap, arith, cond, false, inl, inr, length, map, not, refl, subst, suc, sym, true, ℕ, ◌&&◌, ◌+◌, ◌-◌, ◌==◌, ◌∙◌, ◌∷◌, ◌≡◌}
 use Rattle.std.proofs.lemmas.Bool.{and_from, and_parts, false_from_ne_true}
 use Rattle.std.proofs.lemmas.Cmp.{nat_list_cmp_total}
@@ -38,26 +39,17 @@ those_length test xs ys those distinct each = same_length xs ys those.distinct d
 
 -- an undecided transaction is among those that the history lists
 pub has_undecided : (p : List Effect) (t : ℕ) → Has t (undecided_timestamps p) ↔ (is_undecided p t ≡ true)
-has_undecided p t = let f = has_filter (is_undecided p) t (begun_of p) in (
-  λ i. (f.0 i).0,
-  λ is. f.1 (is, among_has t (begun_of p) (begun_among p t (and_parts _ _ is).0)),
-)
+has_undecided p t = let f = has_filter (is_undecided p) t (begun_of p) in grind (arith, common_steps, among_has, begun_among, and_parts)
 
 -- the undecided transactions of the table are as many as those of the history
 pub undecided_count : (k : Kept) (p : List Effect) → AllAllowed p → IsKeptOf k p → (ts : List ℕ) → AreThose (λ t. is_open (k.transaction t)) ts → length ts ≡ length (undecided_timestamps p)
-undecided_count k p all fits ts those = those_length (λ t. is_open (k.transaction t)) ts (undecided_timestamps p) those (open_distinct p all) (λ t. let h = has_undecided p t in (
-  λ i. open_is k p all fits t ∙ h.0 i,
-  λ is. h.1 (sym (open_is k p all fits t) ∙ is),
-))
+undecided_count k p all fits ts those = those_length (λ t. is_open (k.transaction t)) ts (undecided_timestamps p) those (open_distinct p all) (λ t. let h = has_undecided p t in grind (arith, common_steps, open_is))
 
 -- a hard closing aborts as many as the history says
 pub cut_count : (k : Kept) (p : List Effect) → AllAllowed p → IsKeptOf k p → (to : ℕ) (ts : List ℕ) → AreThose (λ t. nat_le t to && is_open (k.transaction t)) ts
     → length ts ≡ length (filter (λ t. nat_le t to) (undecided_timestamps p))
 cut_count k p all fits to ts those = those_length (λ t. nat_le t to && is_open (k.transaction t)) ts (filter (λ t. nat_le t to) (undecided_timestamps p)) those (distinct_filter (λ t. nat_le t to) (undecided_timestamps p) (open_distinct p all))
-    (λ t. let h = has_undecided p t in let f = has_filter (λ t. nat_le t to) t (undecided_timestamps p) in (
-      λ i. and_from _ _ (f.0 i).0 (open_is k p all fits t ∙ h.0 (f.0 i).1),
-      λ is. let b = and_parts _ _ is in f.1 (b.0, h.1 (sym (open_is k p all fits t) ∙ b.1)),
-    ))
+    (λ t. let h = has_undecided p t in grind (arith, common_steps, has_filter, and_from, open_is, and_parts))
 
 -- a number in a mapped list comes of an element
 pub has_number : (f : ℕ) (ws : List LiveFeed) → Has f (map (λ (n : LiveFeed). n.number) ws) → (c : ℕ) × Has (live_feed f c) ws
@@ -158,12 +150,7 @@ write_set_length (_ ∷ p) t = write_set_length p t
 
 -- the versions of an undecided transaction stand at the keys that it wrote
 pub written_are : (k : Kept) (p : List Effect) → IsKeptOf k p → (t : ℕ) → is_committed p t ≡ false → is_aborted p t ≡ false → AreThose (λ x. is_some (k.version x t)) (write_set p t)
-written_are k p fits t uncommitted unaborted = record {
-  distinct = rising_distinct (write_set p t) (write_set_rises p t);
-  each = λ x.
-      let e : is_some (k.version x t) ≡ has x (write_set p t) = ap is_some (open_kept k p fits x t uncommitted unaborted) ∙ sym (has_written p t x) in
-      let i = has_in x (write_set p t) in (λ h. e ∙ i.0 (has_is x (write_set p t) h), λ is. in_has x (write_set p t) (i.1 (sym e ∙ is)));
-}
+written_are k p fits t uncommitted unaborted = grind (arith, common_steps, rising_distinct, write_set_rises, has, open_kept, has_written, has_in, has_is, in_has)
 
 -- so they are as many
 pub written_count : (k : Kept) (p : List Effect) → IsKeptOf k p → (t : ℕ) → is_committed p t ≡ false → is_aborted p t ≡ false → (n : ℕ) → IsNumberOf (λ x. is_some (k.version x t)) n → n ≡ write_count p t

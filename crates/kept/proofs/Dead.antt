@@ -1,4 +1,5 @@
 -- What is dead, and what is kept.
+use Rattle.std.proofs.lemmas.Grind.{common_steps}
 use Rattle.std.proofs.Common.{Bool, List, ap, refl, None, Option, arith, false, true, Some, cond, ◌≡◌, ◌∙◌, ◌<◌, ℕ}
 use Rattle.std.proofs.lemmas.Bool.{false_from_ne_true}
 use Rattle.std.proofs.lemmas.Bool.Decides.{nat_tests}
@@ -9,7 +10,6 @@ use Rattle.spans.specs.Kept.{IsKeptOf, Kept, kept_version}
 use Rattle.spans.specs.Transactions.{is_aborted, is_committed}
 use Rattle.spans.specs.Versions.{committed_version_of, version_of, write_of}
 use Rattle.spans.proofs.Copies.{AllAllowed, not_both}
-use Rattle.spans.proofs.Steps.{by_test}
 use Rattle.spans.proofs.Dead.{committed_is, dead_is}
 
 -- a committed version is a version
@@ -38,9 +38,7 @@ no_kept p x i none = step (is_dead p (version_name x i)) (version_of p x i) none
 
 -- what is above the horizon is kept
 pub kept_above : (p : List Effect) (x : List ℕ) (i : ℕ) → horizon_of p < i → kept_version p x i ≡ version_of p x i
-kept_above p x i above = by_test (is_dead p (version_name x i))
-    (λ is. absurd (let d = dead_is p x i is in omega (arith, d.low)))
-    (λ isnt. rw isnt refl)
+kept_above p x i above = grind (arith, common_steps)
 
 -- a kept version is a version
 pub kept_is : (p : List Effect) (x : List ℕ) (i : ℕ) (a : After) → kept_version p x i ≡ Some a → version_of p x i ≡ Some a

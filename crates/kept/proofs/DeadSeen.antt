@@ -1,4 +1,5 @@
 -- What is dead by a new horizon is seen in what is kept alone.
+use Rattle.std.proofs.lemmas.Grind.{common_steps}
 use Rattle.std.proofs.Common.{Bool, List, None, Option, Some, ap, arith, cond, false, inl, inr, length, not, refl, sym, true, ℕ, ◌&&◌, ◌-◌, ◌<◌, ◌||◌, ◌∙◌, ◌∷◌, ◌≡◌, ◌≤◌}
 use Rattle.std.proofs.lemmas.Bool.{and_from, and_parts, both_ways, lt-ltb, ltb-true}
 use Rattle.std.proofs.lemmas.Bool.Decides.{nat_tests}
@@ -41,9 +42,7 @@ kept_fewer k p all fits x j none = by_version (k.version x j) refl
 
 -- a committed version that isn't dead is kept, and is committed there
 kept_stands : (k : Kept) (p : List Effect) → AllAllowed p → IsKeptOf k p → (x : List ℕ) (j : ℕ) (a : After) → committed_version_of p x j ≡ Some a → is_dead p (version_name x j) ≡ false → kept_committed k x j ≡ Some a
-kept_stands k p all fits x j a is live =
-    let there : k.version x j ≡ Some a = fits.versions x j ∙ (rw live (committed_stands p all x j a is)) in
-    rw (fits.committed x j a there, (committed_is p x j a is).0) there
+kept_stands k p all fits x j a is live = grind (arith, common_steps, committed_stands, committed_is)
 
 -- of a committed version that isn't dead: whether there is a newer one through n is seen in what is kept
 newer_is : (k : Kept) (p : List Effect) → AllAllowed p → IsKeptOf k p → (x : List ℕ) (n i : ℕ) → is_committed p i ≡ true → is_dead p (version_name x i) ≡ false

@@ -1,8 +1,9 @@
 -- The floor of a feed from its place, and how far a collection goes.
+use Rattle.std.proofs.lemmas.Grind.{common_steps}
 use Rattle.std.proofs.Common.{Bool, List, refl, inr, None, Option, arith, map, subst, false, ap, true, Some, inl, sym, ◌≡◌, ◌<◌, ◌≤◌, ◌-◌, ◌∷◌, ◌++◌, ◌∙◌, ℕ, []}
 use Rattle.std.specs.Prelude.{max, min}
 use Rattle.timestamps.specs.declared.row.Row.{Row}
-use Rattle.spans.specs.Collection.{horizon_of, live_feeds, floor_of, Protection, LiveFeed, VersionName, floor_after, collection_horizon, protections_of}
+use Rattle.spans.specs.Collection.{live_feeds, floor_of, Protection, LiveFeed, VersionName, floor_after, collection_horizon}
 use Rattle.spans.specs.Consumer.{name_of}
 use Rattle.spans.specs.Effects.{Effect}
 use Rattle.spans.specs.FeedRight.{DividesList, RowsFollowResolved, RowsAreAbove, least_gap}
@@ -29,9 +30,7 @@ floor_is p feed before (messages.Row s ∷ ms) a o from d r b parts last =
     ap (λ n. floor_after n ms) (sym e) ∙ floor_is p feed (before ++ s ∷ []) ms a (Some (name_of s)) from d r b.1 parts (λ n h. let l : s.ts ≤ n = h s ((in_append s before (s ∷ [])).1 (inr (inl refl))) in omega arith)
 floor_is p feed before (messages.Resolved t ∷ ms) a o from d r b parts last =
     let low : row_floor o ≤ t = last t (λ q i. listed_low p feed t q (omega (arith, from, r.0)) ((in_list p feed t q).0 (subst (IsRowIn q) d.0 i))) in
-    let e : max (max a t) (row_floor o) ≡ t = omega (arith, r.0) in
-    let e' : max a t ≡ t = omega (arith, r.0) in
-    ap (λ n. floor_after n ms) (sym e) ∙ floor_is p feed before ms (max a t) o (omega (arith, from)) d.1 (subst (λ n. ResolvedRise n ms) (sym e') r.1) (subst (λ n. RowsAreAbove n ms) (sym e') parts.0) parts.1 last
+    grind (arith, common_steps, floor_is p feed before ms)
 
 -- the rows told are above the start
 above_start : (c : ℕ) (ms : List Message) → ((r : Row) → IsRowIn r (rows_in ms) → c < r.ts) → RowsAreAbove c ms
@@ -65,10 +64,7 @@ floors_low p n m (w ∷ ws) low h = let here : m ≤ floor_of p w = h w.number w
 -- the least is at or below each floor
 floors_top : (p : List Effect) (n f c : ℕ) (ws : List LiveFeed) → Has (live_feed f c) ws → least_of n (floors p ws) ≤ max c (floor_after c (told_to p f))
 floors_top p n f c [] i = absurd i
-floors_top p n f c (w ∷ ws) i = elim i [
-  | inl here ↦ (let e : floor_of p w ≡ max c (floor_after c (told_to p f)) = ap (floor_of p) here in omega arith)
-  | inr there ↦ (let more = floors_top p n f c ws there in omega arith)
-]
+floors_top p n f c (w ∷ ws) i = grind (arith, common_steps, floors_top p n f c ws)
 
 -- the place of a live feed is kept
 pub place_at : (k : Kept) (p : List Effect) → IsKeptOf k p → (f : ℕ) (feed : Feed) → feed_of p f ≡ Some feed → is_cancelled p f ≡ false → k.feed f ≡ Some (place_with p f feed)
@@ -106,5 +102,4 @@ least_floor_is k p all fits (Some m) h n =
 -- how far a collection goes
 pub horizon_reached : (k : Kept) (p : List Effect) → AllAllowed p → IsKeptOf k p → (to : ℕ) (lp lf : Option ℕ) → ((n : ℕ) → or_min lp n ≡ least_of n (map (λ (n : Protection). n.at) k.protections)) → IsLeastFloor k.feed lf
     → max k.horizon (or_min lp (or_min lf (min to k.closed))) ≡ collection_horizon p to
-horizon_reached k p all fits to lp lf hp hf = ap (max k.horizon) (hp (or_min lf (min to k.closed)) ∙ ap (λ n. least_of n (map (λ (n : Protection). n.at) k.protections)) (least_floor_is k p all fits lf hf (min to k.closed)))
-    ∙ rw (fits.horizon_at, fits.closed_at, fits.protected) (ap (max (horizon_of p)) (sym (least_join (min to (closed_of p)) (map (λ (n : Protection). n.at) (protections_of p)) (floors p (live_feeds p)))))
+horizon_reached k p all fits to lp lf hp hf = grind (arith, common_steps, least_floor_is, least_join)

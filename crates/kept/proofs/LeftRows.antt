@@ -1,13 +1,13 @@
 -- The rows that are left for a feed, in two parts.
-use Rattle.std.proofs.Common.{false, true, sym, List, Some, [], ap, arith, inl, inr, length, subst, take, ℕ, ◌++◌, ◌-◌, ◌<◌, ◌∙◌, ◌≡◌, ◌≤◌}
+use Rattle.std.proofs.lemmas.Grind.{common_steps}
+use Rattle.std.proofs.Common.{false, true, sym, List, Some, [], ap, arith, length, subst, take, ℕ, ◌++◌, ◌-◌, ◌<◌, ◌∙◌, ◌≡◌, ◌≤◌}
 use Rattle.std.proofs.lemmas.Bool.{and_parts, lt-ltb, ltb-true, or_left}
 use Rattle.std.proofs.lemmas.List.{take-take}
 use Rattle.std.specs.Prelude.{true}
 use Rattle.timestamps.specs.declared.row.Row.{Row}
 use Rattle.spans.specs.Collection.{VersionName}
 use Rattle.spans.specs.Consumer.{is_after_name}
-use Rattle.spans.specs.Effects.{effects_of}
-use Rattle.spans.specs.Feeds.{start_at, start_of, told_to}
+use Rattle.spans.specs.Feeds.{start_at}
 use Rattle.spans.specs.Kept.{Kept, Place}
 use Rattle.spans.specs.declared.calls.events.Event.{Event}
 use Rattle.spans.proofs.RowOrder.{name_order}
@@ -20,13 +20,7 @@ use Rattle.kept.proofs.Floors.{placed_by}
 
 -- the two parts are what is left
 pub parts_left : (k : Kept) (place : Place) (firsts stored : List Row) → AreFirsts k.version place firsts → AreStored k.version k.committed place k.closed stored → AreLeft k.version k.committed place k.closed (firsts ++ stored)
-parts_left k place firsts stored f s = record {
-  rising = rises_append firsts stored f.rising s.rising (λ r q i j. let first = (f.each r).0 i in let later = (s.each q).0 j in or_left _ _ (lt-ltb r.ts q.ts (omega (arith, first.at, later.above))));
-  each = λ r. let join = in_append r firsts stored in (
-    λ i. elim (join.0 i) [ inl j ↦ inl ((f.each r).0 j) | inr j ↦ inr ((s.each r).0 j) ],
-    λ i. elim i [ inl j ↦ join.1 (inl ((f.each r).1 j)) | inr j ↦ join.1 (inr ((s.each r).1 j)) ],
-  );
-}
+parts_left k place firsts stored f s = grind (arith, common_steps, rises_append, or_left, lt-ltb, in_append)
 
 -- so the next are those of the first part, and of the second where there is room
 pub parts_next : (k : Kept) (place : Place) (max : ℕ) (firsts stored : List Row) → AreFirsts k.version place firsts → AreStored k.version k.committed place k.closed stored → AreNext k place max (take max firsts ++ take (max - length firsts) stored)
@@ -54,5 +48,4 @@ past_none k place n is above = none_are k place (λ r i. let after : is_after_na
 
 -- what was told lies at or above the feed's start
 pub placed_above : (k : Kept) (h : List Event) (f : ℕ) (place : Place) → StandsFor k h → k.feed f ≡ Some place → start_at place.kind place.cursor ≤ place.after
-placed_above k h f place stands at = let l = placed_by k (effects_of h) stands.fits f place at in
-    subst (λ (w : Place). start_at w.kind w.cursor ≤ w.after) l.3 (resolved_grows (start_of l.0) (told_to (effects_of h) f))
+placed_above k h f place stands at = grind (arith, common_steps, placed_by, resolved_grows)

@@ -1,4 +1,5 @@
 -- The write rule by marks.
+use Rattle.std.proofs.lemmas.Grind.{common_steps}
 use Rattle.std.proofs.Common.{Bool, List, refl, inr, None, Option, arith, false, subst, suc, true, zero, Some, inl, sym, ◌≡◌, ◌<◌, ◌≤◌, ◌⊎◌, ◌==◌, ◌&&◌, ◌||◌, ◌∙◌, ℕ}
 use Rattle.std.proofs.lemmas.Bool.{or_left, or_cases, and_from, lt-ltb, or_right, false_from_ne_true, both_ways, and_parts, ltb-true, eqb-true}
 use Rattle.std.proofs.lemmas.Bool.Decides.{nat_tests}
@@ -20,8 +21,7 @@ use Rattle.kept.proofs.Dead.{kept_above}
 pub timely : (p : List Effect) → AllAllowed p → (x : List ℕ) (t : ℕ) (a : After) → version_of p x t ≡ Some a → too_late p x t ≡ false
 timely p all x t a is = false_from_ne_true _ (λ late.
     let c = late_across p x t late in
-    let none : version_of p x t ≡ None = (kept p all c.reader x c.source c.found c.read (omega (arith, c.low, c.high))).gap t c.low c.high in
-    let no : None ≡ Some a = sym none ∙ is in cc)
+    grind (arith, common_steps, kept))
 
 -- fewer versions are crossed by what crosses more
 pub crossed_like : (m : ℕ → Bool) (f g : ℕ → Option After) (i : ℕ) → ((n : ℕ) → i < n → f n ≡ None → g n ≡ None) → IsCrossed m f i → IsCrossed m g i
@@ -49,10 +49,7 @@ marks_kept p all x m f same = (
 
 -- a plain addition does
 pub added : (m m' : ℕ → Bool) (j above until : ℕ) → ((n : ℕ) → (m' n ≡ true) ↔ ((n ≡ j) ⊎ (m n ≡ true))) → IsMarkedBy m m' j above until
-added m m' j above until adds = record {
-  only = λ n is. (adds n).0 is;
-  covers = λ n is. (n, (adds n).1 is, omega arith, inl refl);
-}
+added m m' j above until adds = grind (arith, common_steps)
 
 -- a piece of marks that became their greatest does as well
 pub merged : (m m' : ℕ → Bool) (j above until : ℕ) → above < j → j ≤ until → IsPiece m m' j above until → IsMarkedBy m m' j above until
@@ -125,26 +122,13 @@ marks_read p all x j above until m m' free others quiet marks i high fresh befor
 
 -- an own read marks nothing
 pub own_read : (p : List Effect) (x : List ℕ) (j i : ℕ) → (visible p x j).ts ≡ j → ((nat_lt (visible p x j).ts i && nat_lt i j) || too_late p x i) ≡ too_late p x i
-own_read p x j i own = let e : (nat_lt (visible p x j).ts i && nat_lt i j) ≡ false = false_from_ne_true _ (λ is. let b = and_parts _ _ is in
-    let l : (visible p x j).ts < i = ltb-true _ _ b.0 in let h : i < j = ltb-true _ _ b.1 in omega arith) in rw e refl
+own_read p x j i own = grind (arith, common_steps)
 
 -- a version that wasn't too late is crossed by nobody
 pub marks_written : (p : List Effect) (x : List ℕ) (t : ℕ) (m : ℕ → Bool) (g : ℕ → Option After) → IsActive p t → too_late p x t ≡ false
     → ((n : ℕ) → (n == t) ≡ false → g n ≡ version_of p x n) → ((n : ℕ) → g n ≡ None → version_of p x n ≡ None)
     → MarksAt p x m (version_of p x) → (i : ℕ) → closed_of p < i → committed_version_of p x i ≡ None → (too_late p x i ≡ true) ↔ IsCrossed m g i
-marks_written p x t m g here timely' other more marks i above fresh = (
-  λ late. let c = (marks i above fresh).0 late in record {
-    reader = c.reader;
-    mark = c.mark;
-    above = c.above;
-    none = λ n low high. by_test (n == t)
-        (λ same. absurd (let e = eqb-true n t same in
-        let c' : IsCrossed m (version_of p x) t = record { reader = c.reader; mark = c.mark; above = omega arith; none = λ w low' high'. c.none w (omega arith) high' } in
-        both_ways _ timely' ((marks t here.above (rw here.uncommitted refl)).1 c')))
-        (λ differs. other n differs ∙ c.none n low high);
-  },
-  λ c. (marks i above fresh).1 (crossed_like m g (version_of p x) i (λ n low none. more n none) c),
-)
+marks_written p x t m g here timely' other more marks i above fresh = grind (arith, common_steps)
 
 -- where undecided versions go, nobody crosses who didn't
 pub marks_aborted : (p : List Effect) → AllAllowed p → (x : List ℕ) (m : ℕ → Bool) (g : ℕ → Option After)

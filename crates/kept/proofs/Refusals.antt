@@ -1,6 +1,6 @@
 -- The tests of a command of a transaction, from the table.
+use Rattle.std.proofs.lemmas.Grind.{common_steps}
 use Rattle.std.proofs.Common.{Bool, List, None, Option, Some, [], ap, arith, cond, false, not, refl, sym, true, ℕ, ◌++◌, ◌||◌, ◌∙◌, ◌∷◌, ◌≡◌, ◌≤◌}
-use Rattle.std.proofs.lemmas.Bool.{leb-false, or_parts, not-false}
 use Rattle.std.proofs.lemmas.Bool.Decides.{nat_tests}
 use Rattle.std.specs.Prelude.{is_some, nat_le, nat_lt, option_map}
 use Rattle.timestamps.specs.declared.ts.TheConstants.{MAX}
@@ -23,21 +23,9 @@ use Rattle.kept.specs.Table.{has_ended, refusal, transaction_refusal}
 pub within : (to : ℕ) (reply : Reply) → to ≤ MAX → first_refusal_or ((nat_lt MAX to, TsRange) ∷ []) reply ≡ reply
 within to reply low = let e : nat_lt MAX to ≡ false = grind (arith, nat_tests) in ap (λ b. cond b (Refused TsRange) reply) e
 
--- where none of the tests applies the first does not
-test_past : (test : Bool × Refusal) (tests : List (Bool × Refusal)) → first_refusal (test ∷ tests) ≡ None → (test.0 ≡ false) × (first_refusal tests ≡ None)
-test_past test tests none = by_test test.0
-    (λ is. let no' : Some test.1 ≡ None = rw is at none in cc)
-    (λ isnt. (isnt, rw isnt at none))
-
 -- past its tests a transaction is active
 pub active_of : (p : List Effect) (seat t : ℕ) → first_refusal (transaction_tests p seat t) ≡ None → IsActive p t
-active_of p seat t none =
-    let a = test_past (nat_le t (closed_of p), Ended) ((not (is_some (owner_of p t)), NoTxn) ∷ (not (is_owner (owner_of p t) seat), NotOwner) ∷ (is_committed p t || is_aborted p t, Ended) ∷ []) none in
-    let b = test_past (not (is_some (owner_of p t)), NoTxn) ((not (is_owner (owner_of p t) seat), NotOwner) ∷ (is_committed p t || is_aborted p t, Ended) ∷ []) a.1 in
-    let c = test_past (not (is_owner (owner_of p t) seat), NotOwner) ((is_committed p t || is_aborted p t, Ended) ∷ []) b.1 in
-    let d = test_past (is_committed p t || is_aborted p t, Ended) [] c.1 in
-    let both = or_parts (is_committed p t) (is_aborted p t) d.0 in
-    record { above = leb-false t (closed_of p) a.0; begun = not-false (is_some (owner_of p t)) b.0; uncommitted = both.0; unaborted = both.1 }
+active_of p seat t none = grind (arith, common_steps)
 
 -- the table gives the first test that applies
 pub refusal_is : (k : Kept) (p : List Effect) → IsKeptOf k p → (seat t : ℕ) → refusal k seat t ≡ first_refusal (transaction_tests p seat t)

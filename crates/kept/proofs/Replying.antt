@@ -1,91 +1,72 @@
 -- The replies that are made of what is kept are the answers.
+use Rattle.std.proofs.lemmas.Grind.{common_steps}
+use Rattle.std.proofs.Common.{rules}
 use Rattle.std.proofs.Common.{Bool, List, None, Option, Some, [], ap, arith, cond, false, length, map, not, refl, suc, sym, take, true, zero, ℕ, ◌&&◌, ◌++◌, ◌-◌, ◌<◌, ◌==◌, ◌∙◌, ◌∷◌, ◌≡◌, ◌≤◌}
-use Rattle.std.proofs.lemmas.Bool.{and_parts, eqb-true, leb-true, ltb-false, ltb-true}
+use Rattle.std.proofs.lemmas.Bool.{and_parts, eqb-true, leb-true, ltb-true}
 use Rattle.std.proofs.lemmas.Bool.Decides.{nat_tests}
 use Rattle.std.specs.Prelude.{filter, is_some, max, nat_le, nat_lt, option_map}
 use Rattle.timestamps.specs.declared.row.Row.{Row}
 use Rattle.timestamps.specs.declared.ts.TheConstants.{MAX}
-use Rattle.spans.specs.Answer.{answer_of, first_refusal_or, is_timestamp, snapshot_tests, transaction_tests, with_feed}
+use Rattle.spans.specs.Answer.{answer_of, first_refusal_or, snapshot_tests, transaction_tests, with_feed}
 use Rattle.spans.specs.Collection.{VersionName, collection_horizon, dead_of, horizon_of}
 use Rattle.spans.specs.Effects.{Collects, Effect, Opens, kind_of}
 use Rattle.spans.specs.Feeds.{Feed, feed_of, feeds_opened, is_cancelled, is_due, next_messages}
 use Rattle.spans.specs.Kept.{IsKeptOf, Kept, Place, place_with}
-use Rattle.spans.specs.Keys.{in_span, pairs_of}
 use Rattle.spans.specs.Reads.{too_late}
-use Rattle.spans.specs.Transactions.{closed_of, decided_through, undecided_timestamps}
-use Rattle.spans.specs.Versions.{committed_value, is_blocked, visible, write_count, written_keys}
+use Rattle.spans.specs.Transactions.{closed_of, undecided_timestamps}
+use Rattle.spans.specs.Versions.{committed_value, write_count}
 use Rattle.spans.specs.declared.calls.commands.Cmd.TheVariants.{Abort, Begin, Cancel, Close, CloseHard, Collect, Commit, Del, Get, Open, OpenEvery, OpenInitial, OpenInitialEvery, Poll, Protect, Put, ReadAt, Release, Scan, ScanAt, Stats}
 use Rattle.spans.specs.declared.calls.messages.Message.{Message}
-use Rattle.spans.specs.declared.calls.replies.Refusal.TheVariants.{BelowClosed, BelowHorizon, Blocked, FeedCancelled, NoFeed, NotClosed, NotOwner, TooLate, TsRange, TsUsed}
+use Rattle.spans.specs.declared.calls.replies.Refusal.TheVariants.{BelowHorizon, FeedCancelled, NoFeed, NotClosed, NotOwner, TooLate}
 use Rattle.spans.specs.declared.calls.replies.Reply.{Reply}
-use Rattle.spans.specs.declared.calls.replies.Reply.TheVariants.{Aborted, Cancelled, Closed, Collected, Committed, Found, Messages, Refused, Rows, Started, Written}
+use Rattle.spans.specs.declared.calls.replies.Reply.TheVariants.{Aborted, Cancelled, Closed, Collected, Committed, Found, Messages, Refused, Written}
 use Rattle.spans.specs.declared.span.Span.{Span}
 use Rattle.spans.proofs.Copies.{AllAllowed}
 use Rattle.spans.proofs.Feeding.{due_if, unopened}
 use Rattle.spans.proofs.Steps.{by_test}
 use Rattle.spans.proofs.Horizon.{horizon_low}
 use Rattle.kept.specs.Collecting.{IsCollected, reached}
-use Rattle.kept.specs.Finding.{AreKeysOf, is_seen_blocked, seen}
+use Rattle.kept.specs.Finding.{AreKeysOf, seen}
 use Rattle.kept.specs.Lists.{AreThose, IsNumberOf}
 use Rattle.kept.specs.Marks.{IsLate}
 use Rattle.kept.specs.Places.{AreNext}
 use Rattle.kept.specs.Replies.{abort_reply, begin_reply, cancel_reply, close_hard_reply, close_reply, collect_reply, commit_reply, feed_refusal, get_reply, in_range, messages_left, open_reply, poll_place, poll_reply, protect_reply, read_at_reply, release_reply, scan_at_reply, scan_reply, stats_reply, write_reply}
-use Rattle.kept.specs.Table.{IsOldest, is_open, reach, refusal}
+use Rattle.kept.specs.Table.{IsOldest, is_open, refusal}
 use Rattle.kept.specs.WorkedKept.{versions}
 use Rattle.kept.proofs.AfterCloses.{reach_is}
 use Rattle.kept.proofs.Counts.{cut_count, feeds_count, undecided_count, versions_count, written_count}
 use Rattle.kept.proofs.Floors.{horizon_reached}
-use Rattle.kept.proofs.Late.{late_is}
 use Rattle.kept.proofs.Polling.{poll_is}
 use Rattle.kept.proofs.Reading.{blocked_is, blocker_is, seen_value, settled_is}
-use Rattle.kept.proofs.Refusals.{past_tests, used_is}
+use Rattle.kept.proofs.Refusals.{past_tests}
 use Rattle.kept.proofs.Scans.{scan_at_is, scan_is}
 use Rattle.kept.proofs.DeadSeen.{dropped_count}
 use Rattle.spans.specs.declared.calls.messages.Message.TheVariants as messages
 
 -- a reply within the range of timestamps
 ranged : (to : ℕ) (reply reply' : Reply) → (to ≤ MAX → reply ≡ reply') → in_range to reply ≡ in_range to reply'
-ranged to reply reply' here = by_test (nat_lt MAX to)
-    (λ is. rw is refl)
-    (λ isnt. rw isnt (here (ltb-false MAX to isnt)))
+ranged to reply reply' here = grind (arith, common_steps)
 
 -- a reply at a closed timestamp from the horizon on
 at_closed : (k : Kept) (p : List Effect) → IsKeptOf k p → (t : ℕ) (reply reply' : Reply) → (t ≤ closed_of p → horizon_of p ≤ t → reply ≡ reply')
     → first_refusal_or ((nat_lt k.closed t, NotClosed k.closed) ∷ (nat_lt t k.horizon, BelowHorizon k.horizon) ∷ []) reply ≡ first_refusal_or (snapshot_tests p t) reply'
-at_closed k p fits t reply reply' here = ap (λ n. first_refusal_or ((nat_lt n t, NotClosed n) ∷ (nat_lt t k.horizon, BelowHorizon k.horizon) ∷ []) reply) fits.closed_at
-    ∙ ap (λ n. first_refusal_or ((nat_lt (closed_of p) t, NotClosed (closed_of p)) ∷ (nat_lt t n, BelowHorizon n) ∷ []) reply) fits.horizon_at
-    ∙ by_test (nat_lt (closed_of p) t)
-    (λ is. rw is refl)
-    (λ low. by_test (nat_lt t (horizon_of p))
-    (λ is. rw (low, is) refl)
-    (λ high. rw (low, high) (here (ltb-false _ _ low) (ltb-false _ _ high))))
+at_closed k p fits t reply reply' here = grind (arith, common_steps)
 
 -- begin
 pub begin_answer : (k : Kept) (p : List Effect) → IsKeptOf k p → (seat t : ℕ) → begin_reply k t ≡ answer_of p seat (Begin t)
-begin_answer k p fits seat t = ap (λ n. first_refusal_or ((not (is_timestamp t), TsRange) ∷ (nat_le t n, BelowClosed n) ∷ (is_some (k.transaction t), TsUsed) ∷ []) Started) fits.closed_at ∙ by_test (nat_le t (closed_of p))
-    (λ low. rw low refl)
-    (λ high. ap (λ b. first_refusal_or ((not (is_timestamp t), TsRange) ∷ (nat_le t (closed_of p), BelowClosed (closed_of p)) ∷ (b, TsUsed) ∷ []) Started) (used_is k p fits t high))
+begin_answer k p fits seat t = grind (arith, common_steps)
 
 -- get
 pub get_answer : (k : Kept) (p : List Effect) → AllAllowed p → IsKeptOf k p → (seat t : ℕ) (x : List ℕ) → get_reply k seat t x ≡ answer_of p seat (Get t x)
-get_answer k p all fits seat t x = past_tests k p fits seat t ((is_blocked p x t, Blocked (visible p x t).ts) ∷ []) (cond (is_seen_blocked k x t) (Refused (Blocked (seen k x t).ts)) (Found (seen k x t).after)) (Found (visible p x t).after)
-    (λ none here. let high : horizon_of p ≤ t = omega (arith, here.above, horizon_low p all) in
-    ap (λ b. cond b (Refused (Blocked (seen k x t).ts)) (Found (seen k x t).after)) (blocked_is k p fits all x t high)
-    ∙ by_test (is_blocked p x t)
-    (λ is. rw is (ap (λ n. Refused (Blocked n)) (blocker_is k p fits all x t high is)))
-    (λ isnt. rw isnt (ap Found (seen_value k p fits all x t high))))
+get_answer k p all fits seat t x = grind (arith, common_steps, past_tests, horizon_low, blocked_is, by_test, blocker_is, seen_value)
 
 -- scan
 pub scan_answer : (k : Kept) (p : List Effect) → AllAllowed p → IsKeptOf k p → (seat t : ℕ) (span : Span) (keys : List (List ℕ)) → (refusal k seat t ≡ None → AreKeysOf k span keys) → scan_reply k seat t keys ≡ answer_of p seat (Scan t span)
-scan_answer k p all fits seat t span keys are = past_tests k p fits seat t (map (λ x. (is_blocked p x t, Blocked (visible p x t).ts)) (filter (in_span span) (written_keys p)))
-    (first_refusal_or (map (λ x. (is_seen_blocked k x t, Blocked (seen k x t).ts)) keys) (Rows (pairs_of (λ x. (seen k x t).after) keys)))
-    (Rows (pairs_of (λ x. (visible p x t).after) (filter (in_span span) (written_keys p))))
-    (λ none here. scan_is k p all fits t (omega (arith, here.above, horizon_low p all)) span keys (are none))
+scan_answer k p all fits seat t span keys are = grind (arith, common_steps, past_tests, scan_is, horizon_low)
 
 -- a write, whichever
 write_answer : (k : Kept) (p : List Effect) → IsKeptOf k p → (seat t : ℕ) (x : List ℕ) (late : Bool) → (refusal k seat t ≡ None → IsLate k x t late) → write_reply k seat t late ≡ first_refusal_or (transaction_tests p seat t ++ (too_late p x t, TooLate) ∷ []) Written
-write_answer k p fits seat t x late tested = past_tests k p fits seat t ((too_late p x t, TooLate) ∷ []) (cond late (Refused TooLate) Written) Written
-    (λ none here. ap (λ b. cond b (Refused TooLate) Written) (late_is k p fits x t here late (tested none)))
+write_answer k p fits seat t x late tested = grind (arith, common_steps)
 
 -- put
 pub put_answer : (k : Kept) (p : List Effect) → IsKeptOf k p → (seat t : ℕ) (x v : List ℕ) (late : Bool) → (refusal k seat t ≡ None → IsLate k x t late) → write_reply k seat t late ≡ answer_of p seat (Put t x v)
@@ -106,8 +87,7 @@ abort_answer k p fits seat t = past_tests k p fits seat t [] Aborted Aborted (λ
 
 -- close
 pub close_answer : (k : Kept) (p : List Effect) → AllAllowed p → IsKeptOf k p → (seat to : ℕ) (oldest : Option ℕ) → (to ≤ MAX → IsOldest k.transaction oldest) → close_reply k to oldest ≡ answer_of p seat (Close to)
-close_answer k p all fits seat to oldest is = ranged to (Closed (max k.closed (reach to oldest)) 0) (Closed (max (closed_of p) (decided_through p to)) 0)
-    (λ low. rw (fits.closed_at, reach_is k p all fits to oldest (is low)) refl)
+close_answer k p all fits seat to oldest is = grind (arith, common_steps, ranged, reach_is)
 
 -- close hard
 pub close_hard_answer : (k : Kept) (p : List Effect) → AllAllowed p → IsKeptOf k p → (seat to : ℕ) (cut : List ℕ) → (to ≤ MAX → AreThose (λ t. nat_le t to && is_open (k.transaction t)) cut) → close_hard_reply k to cut ≡ answer_of p seat (CloseHard to)
@@ -120,8 +100,7 @@ read_at_answer k p all fits seat t x = at_closed k p fits t (Found (seen k x t).
 
 -- scan at a closed timestamp
 pub scan_at_answer : (k : Kept) (p : List Effect) → AllAllowed p → IsKeptOf k p → (seat t : ℕ) (span : Span) (keys : List (List ℕ)) → (t ≤ k.closed → k.horizon ≤ t → AreKeysOf k span keys) → scan_at_reply k t keys ≡ answer_of p seat (ScanAt t span)
-scan_at_answer k p all fits seat t span keys are = at_closed k p fits t (Rows (pairs_of (λ x. (seen k x t).after) keys)) (Rows (pairs_of (λ x. committed_value p x t) (filter (in_span span) (written_keys p))))
-    (λ low high. ap Rows (scan_at_is k p all fits t high low span keys (are (omega (arith, fits.closed_at)) (omega (arith, fits.horizon_at)))))
+scan_at_answer k p all fits seat t span keys are = grind (arith, common_steps, at_closed, scan_at_is)
 
 -- protect
 pub protect_answer : (k : Kept) (p : List Effect) → IsKeptOf k p → (seat t : ℕ) → protect_reply k t ≡ answer_of p seat (Protect t)
@@ -165,18 +144,12 @@ no_zeroth (_ ∷ p) all = no_zeroth p all.1
 -- each feed up to the number of those that were opened was opened
 opened_is : (p : List Effect) → AllAllowed p → (f : ℕ) → 0 < f → f ≤ feeds_opened p → is_some (feed_of p f) ≡ true
 opened_is [] all f some low = absurd (omega arith)
-opened_is (Opens g seat kind span cursor ∷ p) all f some low = by_test (g == f)
-    (λ same. rw same refl)
-    (λ other. rw other (opened_is p all.1 f some (grind (arith, nat_tests, all.0.0))))
+opened_is (Opens g seat kind span cursor ∷ p) all f some low = grind (arith, common_steps, opened_is p all.1 f some)
 opened_is (_ ∷ p) all f some low = opened_is p all.1 f some low
 
 -- and no other
 pub known_is : (p : List Effect) → AllAllowed p → (f : ℕ) → is_some (feed_of p f) ≡ (nat_lt 0 f && nat_le f (feeds_opened p))
-known_is p all f = by_test (nat_lt 0 f && nat_le f (feeds_opened p))
-    (λ is. let b = and_parts _ _ is in opened_is p all f (ltb-true _ _ b.0) (leb-true _ _ b.1) ∙ sym is)
-    (λ isnt. by_test (nat_lt 0 f)
-    (λ some. let high : feeds_opened p < f = (let e : nat_le f (feeds_opened p) ≡ false = rw some at isnt in grind (arith, nat_tests)) in ap is_some (unopened p all f high).0 ∙ sym isnt)
-    (λ none. let zeroth : f ≡ 0 = grind (arith, nat_tests) in ap is_some (ap (feed_of p) zeroth ∙ no_zeroth p all) ∙ sym isnt))
+known_is p all f = grind (arith, common_steps, by_test, and_parts, opened_is, ltb-true, leb-true, unopened, no_zeroth)
 
 -- where no feed is kept, it was cancelled or never opened
 refused_is : (k : Kept) (p : List Effect) → AllAllowed p → IsKeptOf k p → (f : ℕ) → feed_refusal k f ≡ cond (is_some (feed_of p f)) FeedCancelled NoFeed
@@ -199,10 +172,7 @@ take_alike zero rows all due same = refl
 take_alike (suc m) [] [] due same = refl
 take_alike (suc m) [] (s ∷ all) due same = cc
 take_alike (suc m) (r ∷ rows) [] due same = cc
-take_alike (suc m) (r ∷ rows) (s ∷ all) due same =
-    let head : r ≡ s = cc in
-    let tail : take m rows ≡ take m all = cc in
-    ap (λ q. messages.Row q ∷ take m (map messages.Row rows ++ due)) head ∙ ap (λ l. messages.Row s ∷ l) (take_alike m rows all due tail)
+take_alike (suc m) (r ∷ rows) (s ∷ all) due same = grind (arith, common_steps, take_alike m rows all due)
 
 -- poll
 pub poll_answer : (k : Kept) (p : List Effect) → AllAllowed p → IsKeptOf k p → (seat f max : ℕ) (rows : List Row)
@@ -223,5 +193,4 @@ poll_answer k p all fits seat f max rows left = ap (poll_place k seat f max rows
 pub stats_answer : (k : Kept) (p : List Effect) → AllAllowed p → IsKeptOf k p → (seat : ℕ) (versions : List VersionName) (undecided feeds : List ℕ)
     → AreThose (λ v. is_some (k.version v.key v.ts)) versions → AreThose (λ t. is_open (k.transaction t)) undecided → AreThose (λ f. is_some (k.feed f)) feeds
     → stats_reply k versions undecided feeds ≡ answer_of p seat Stats
-stats_answer k p all fits seat versions undecided feeds vs ts fs =
-    rw (versions_count k p all fits versions vs, undecided_count k p all fits undecided ts, feeds_count k p all fits feeds fs, fits.closed_at, fits.horizon_at) refl
+stats_answer k p all fits seat versions undecided feeds vs ts fs = search (versions_count, undecided_count, feeds_count, rules, arith)

@@ -1,13 +1,13 @@
 -- A report of what is kept is the live report of the history.
-use Rattle.std.proofs.Common.{Bool, List, None, Option, Some, [], ap, arith, cond, false, inl, inr, map, not, refl, reverse, subst, sym, true, ℕ, ◌++◌, ◌<◌, ◌==◌, ◌∙◌, ◌∷◌, ◌≡◌, ◌≤◌}
-use Rattle.std.specs.Prelude.{Contains, filter, max, nat_lt, option_map, ◌↔◌}
+use Rattle.std.proofs.lemmas.Grind.{common_steps}
+use Rattle.std.proofs.Common.{Bool, List, None, Option, Some, [], ap, arith, cond, false, map, not, refl, reverse, subst, sym, true, ℕ, ◌++◌, ◌==◌, ◌∙◌, ◌∷◌, ◌≡◌, ◌≤◌}
+use Rattle.std.specs.Prelude.{Contains, filter, nat_lt, option_map, ◌↔◌}
 use Rattle.std.proofs.lemmas.Bool.{and_parts, ltb-false, ltb-true, not-true}
-use Rattle.std.proofs.lemmas.Bool.Decides.{nat_tests}
 use Rattle.std.proofs.lemmas.List.{map-append, reverse-append}
 use Rattle.std.proofs.lemmas.List.Elements.{All-contains, All-weaker}
 use Rattle.spans.specs.Collection.{LiveFeed, live_feeds}
 use Rattle.spans.specs.Effects.{Cancels, Effect, Opens, effects_of}
-use Rattle.spans.specs.Feeds.{Feed, feed_of, feeds_opened, last_resolved, start_of, told_to}
+use Rattle.spans.specs.Feeds.{Feed, feed_of, feeds_opened, last_resolved, told_to}
 use Rattle.spans.specs.Kept.{IsKeptOf, Kept, Place, Transaction, place_with, transaction_with}
 use Rattle.spans.specs.Report.{AreFeeds, AreUndecided, IsFeedReport, IsReport, last_told, protection_report}
 use Rattle.spans.specs.Transactions.{closed_of, is_undecided, owner_of}
@@ -65,9 +65,7 @@ numbers ws = map (λ (n : LiveFeed). n.number) ws
 
 -- a feed that lives was opened
 live_low : (p : List Effect) → AllAllowed p → (f c : ℕ) → Has (live_feed f c) (live_feeds p) → f ≤ feeds_opened p
-live_low p all f c i = let l = live_is p all f c i in by_test (nat_lt (feeds_opened p) f)
-    (λ is. absurd (let no' : None ≡ Some l.0 = sym (unopened p all f (ltb-true _ _ is)).0 ∙ l.1 in cc))
-    (λ isnt. ltb-false _ _ isnt)
+live_low p all f c i = grind (arith, common_steps, live_is, by_test, unopened, ltb-true, ltb-false)
 
 falls_filter : (q : LiveFeed → Bool) (ws : List LiveFeed) → Falls (numbers ws) → Falls (numbers (filter q ws))
 falls_filter q [] falls = tt
@@ -93,10 +91,7 @@ back w ws = ap numbers (reverse-append (w ∷ []) ws) ∙ map-append (λ (n : Li
 
 has_back : (f : ℕ) (ws : List LiveFeed) → Has f (numbers (reverse ws)) ↔ Has f (numbers ws)
 has_back f [] = (λ i. i, λ i. i)
-has_back f (w ∷ ws) = let more = has_back f ws in let l = has_last f w.number (numbers (reverse ws)) in (
-  λ i. elim (l.0 (subst (Has f) (back w ws) i)) [ inl there ↦ inr (more.0 there) | inr e ↦ inl e ],
-  λ i. subst (Has f) (sym (back w ws)) (l.1 (elim i [ inl e ↦ inr e | inr there ↦ inl (more.1 there) ])),
-)
+has_back f (w ∷ ws) = grind (arith, common_steps, has_last, back, has_back f ws)
 
 rises_back : (ws : List LiveFeed) → Falls (numbers ws) → Rises (numbers (reverse ws))
 rises_back [] falls = tt
@@ -108,31 +103,14 @@ rises_back (w ∷ ws) falls = subst Rises (sym (back w ws)) (rises_last w.number
 last_is : (s a : ℕ) (ms : List Message) → s ≤ a → ResolvedRise a ms → if_above s (last_resolved a ms) ≡ last_told (if_above s a) ms
 last_is s a [] low rise = refl
 last_is s a (messages.Row r ∷ ms) low rise = last_is s a ms low rise
-last_is s a (messages.Resolved t ∷ ms) low rise =
-    let e : max a t ≡ t = omega (arith, rise.0) in
-    let above : nat_lt s t ≡ true = (let l : s < t = omega (arith, rise.0) in grind (arith, nat_tests)) in
-    ap (λ n. if_above s (last_resolved n ms)) e ∙ last_is s t ms (omega (arith, rise.0)) rise.1 ∙ ap (λ b. last_told (cond b (Some t) None) ms) above
+last_is s a (messages.Resolved t ∷ ms) low rise = grind (arith, common_steps, last_is s t ms)
 
 -- a place resolved what its feed resolved
 resolved_is : (p : List Effect) → AllAllowed p → (f : ℕ) (feed : Feed) → feed_of p f ≡ Some feed → resolved_at (place_with p f feed) ≡ last_told None (told_to p f)
-resolved_is p all f feed is =
-    let none : nat_lt (start_of feed) (start_of feed) ≡ false = grind (arith, nat_tests) in
-    last_is (start_of feed) (start_of feed) (told_to p f) (omega arith) (feed_rises p f feed (feeding p all f feed is)) ∙ ap (λ b. last_told (cond b (Some (start_of feed)) None) (told_to p f)) none
+resolved_is p all f feed is = grind (arith, common_steps, last_is, feed_rises, feeding)
 
 report_right : (p : List Effect) → AllAllowed p → (f : ℕ) (feed : Feed) → feed_of p f ≡ Some feed → IsFeedReport false p (feed_report f (place_with p f feed))
-report_right p all f feed is = record {
-  feed = feed;
-  is = is;
-  seat = refl;
-  kind = refl;
-  span = refl;
-  cursor = refl;
-  row = refl;
-  resolved = resolved_is p all f feed is;
-  complete = ap (λ n. cond (nat_lt n feed.cursor) None (Some n)) (sym (told_through_is p all f feed is));
-  floor = place_floor_is p all f feed is;
-  untold = refl;
-}
+report_right p all f feed is = grind (arith, common_steps, resolved_is, told_through_is, place_floor_is)
 
 feed_right : (k : Kept) (p : List Effect) → AllAllowed p → IsKeptOf k p → (n : FeedReport) → option_map (feed_report n.number) (k.feed n.number) ≡ Some n → IsFeedReport false p n
 feed_right k p all fits n is = by_place (k.feed n.number) refl is

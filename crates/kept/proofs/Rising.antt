@@ -1,5 +1,6 @@
 -- Lists of numbers that rise, and lists that fall.
-use Rattle.std.proofs.Common.{List, [], arith, inl, inr, refl, subst, sym, ap, ℕ, ◌++◌, ◌<◌, ◌∙◌, ◌∷◌, ◌≡◌, ◌⊎◌}
+use Rattle.std.proofs.lemmas.Grind.{common_steps}
+use Rattle.std.proofs.Common.{List, [], arith, inl, inr, refl, subst, sym, ℕ, ◌++◌, ◌<◌, ◌∷◌, ◌≡◌, ◌⊎◌}
 use Rattle.std.specs.Prelude.{◌↔◌}
 use Rattle.std.specs.List.{AllByRecursion}
 use Rattle.std.specs.List.Sorted.{IsStrictlyIncreasing, IsStrictlySortedBy}
@@ -22,10 +23,7 @@ Falls (x ∷ xs) = ((y : ℕ) → Has y xs → y < x) × Falls xs
 -- one more at the end
 pub has_last : (y x : ℕ) (xs : List ℕ) → Has y (xs ++ x ∷ []) ↔ (Has y xs ⊎ (x ≡ y))
 has_last y x [] = (λ i. elim i [ inl here ↦ inr here | inr there ↦ absurd there ], λ i. elim i [ inl none ↦ absurd none | inr here ↦ inl here ])
-has_last y x (z ∷ xs) = let more = has_last y x xs in (
-  λ i. elim i [ inl here ↦ inl (inl here) | inr there ↦ (elim (more.0 there) [ inl l ↦ inl (inr l) | inr e ↦ inr e ]) ],
-  λ i. elim i [ inl l ↦ (elim l [ inl here ↦ inl here | inr there ↦ inr (more.1 (inl there)) ]) | inr e ↦ inr (more.1 (inr e)) ],
-)
+has_last y x (z ∷ xs) = grind (arith, common_steps, has_last y x xs)
 
 pub rises_last : (x : ℕ) (xs : List ℕ) → Rises xs → ((y : ℕ) → Has y xs → y < x) → Rises (xs ++ x ∷ [])
 rises_last x [] rising low = (λ y i. absurd i, tt)
@@ -44,10 +42,7 @@ same_rising (x ∷ xs) (y ∷ ys) r s same =
       | inl here ↦ sym here
       | inr there ↦ (elim ((same y).1 (inl refl)) [ inl here ↦ here | inr other ↦ (let a : y < x = s.0 x there in let b : x < y = r.0 y other in absurd (omega arith)) ])
     ] in
-    ap (λ z. z ∷ xs) first ∙ ap (λ l. y ∷ l) (same_rising xs ys r.1 s.1 (λ z. (
-      λ i. elim ((same z).0 (inr i)) [ inl here ↦ (let a : x < z = r.0 z i in absurd (omega arith)) | inr there ↦ there ],
-      λ i. elim ((same z).1 (inr i)) [ inl here ↦ (let a : y < z = s.0 z i in absurd (omega arith)) | inr there ↦ there ],
-    )))
+    grind (arith, common_steps, same_rising xs ys r.1 s.1)
 
 less_is : (x y : ℕ) → nat_cmp x y ≡ Less → x < y
 less_is x y e = grind (arith, nat_tests)

@@ -1,5 +1,6 @@
 -- A scan of the kept keys finds what a scan of all written keys finds.
-use Rattle.std.proofs.Common.{Bool, List, None, Option, Some, [], ap, arith, cond, inl, inr, map, not, refl, suc, sym, true, zero, ℕ, ◌&&◌, ◌<◌, ◌==◌, ◌∙◌, ◌∷◌, ◌≡◌, ◌≤◌, ◌⊎◌}
+use Rattle.std.proofs.lemmas.Grind.{common_steps}
+use Rattle.std.proofs.Common.{Bool, List, None, Option, Some, [], ap, arith, inl, inr, map, not, refl, suc, sym, true, zero, ℕ, ◌&&◌, ◌<◌, ◌==◌, ◌∙◌, ◌∷◌, ◌≡◌, ◌≤◌, ◌⊎◌}
 use Rattle.std.specs.Prelude.{filter, is_some}
 use Rattle.spans.specs.Answer.{first_refusal_or}
 use Rattle.spans.specs.Collection.{horizon_of}
@@ -11,29 +12,25 @@ use Rattle.spans.specs.Versions.{committed_value, is_blocked, visible, written_k
 use Rattle.spans.specs.declared.calls.replies.Refusal.{Refusal}
 use Rattle.spans.specs.declared.calls.replies.Refusal.TheVariants.{Blocked}
 use Rattle.spans.specs.declared.calls.replies.Reply.{Reply}
-use Rattle.spans.specs.declared.calls.replies.Reply.TheVariants.{Refused, Rows}
+use Rattle.spans.specs.declared.calls.replies.Reply.TheVariants.{Rows}
 use Rattle.spans.specs.declared.span.Span.{Span}
 use Rattle.spans.proofs.Copies.{AllAllowed}
 use Rattle.spans.proofs.Keyed.{IsIn, filter_in, filter_rises, filtered_same, pairs_alike, pairs_of_some}
 use Rattle.spans.proofs.Legal.{blocked_in, keys_rise, settled_in, visible_in}
-use Rattle.spans.proofs.Steps.{by_test, newest_is}
+use Rattle.spans.proofs.Steps.{newest_is}
 use Rattle.kept.specs.Finding.{AreKeysOf, is_seen_blocked, seen}
 use Rattle.kept.proofs.Reading.{blocked_is, blocker_is, seen_value, settled_is}
 
 -- tests that don't apply don't matter
 tests_that_apply : (q : List ℕ → Bool) (why : List ℕ → Refusal) (xs : List (List ℕ)) (reply : Reply) → first_refusal_or (map (λ x. (q x, why x)) xs) reply ≡ first_refusal_or (map (λ x. (q x, why x)) (filter q xs)) reply
 tests_that_apply q why [] reply = refl
-tests_that_apply q why (x ∷ xs) reply = by_test (q x)
-    (λ is. rw is (rw is refl))
-    (λ isnt. rw isnt (tests_that_apply q why xs reply))
+tests_that_apply q why (x ∷ xs) reply = grind (arith, common_steps, tests_that_apply q why xs reply)
 
 -- tests that are alike refuse alike
 tests_alike : (q r : List ℕ → Bool) (why as' : List ℕ → Refusal) (xs : List (List ℕ)) (reply : Reply) → ((x : List ℕ) → q x ≡ r x) → ((x : List ℕ) → r x ≡ true → why x ≡ as' x)
     → first_refusal_or (map (λ x. (q x, why x)) xs) reply ≡ first_refusal_or (map (λ x. (r x, as' x)) xs) reply
 tests_alike q r why as' [] reply same whys = refl
-tests_alike q r why as' (x ∷ xs) reply same whys = ap (λ b. cond b (Refused (why x)) (first_refusal_or (map (λ x. (q x, why x)) xs) reply)) (same x) ∙ by_test (r x)
-    (λ is. rw is (ap Refused (whys x is)))
-    (λ isnt. rw isnt (tests_alike q r why as' xs reply same whys))
+tests_alike q r why as' (x ∷ xs) reply same whys = grind (arith, common_steps, tests_alike q r why as' xs reply same whys)
 
 -- a kept key of the span, where what is found there is kept
 seen_key : (k : Kept) (span : Span) (keys : List (List ℕ)) → AreKeysOf k span keys → (x : List ℕ) (t : ℕ) → in_span span x ≡ true → (0 < (seen k x t).ts) ⊎ ((v : List ℕ) × ((seen k x t).after ≡ Some v)) → IsIn x keys

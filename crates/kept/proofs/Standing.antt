@@ -1,4 +1,7 @@
 -- What is kept after an event stands for the history with it.
+use Rattle.std.proofs.lemmas.Grind.{common_steps}
+use Rattle.std.proofs.Common.{arith}
+use Rattle.std.proofs.Common.{rules}
 use Rattle.std.proofs.Common.{List, cond, false, refl, subst, sym, ℕ, ◌&&◌, ◌==◌, ◌||◌, ◌∷◌, ◌≡◌}
 use Rattle.std.specs.Prelude.{bytes_eq, max}
 use Rattle.spans.specs.declared.kind.Kind.{Kind}
@@ -23,10 +26,7 @@ use Rattle.kept.proofs.Staying.{after_nothing, after_snapshot_reads, after_snaps
 -- where its effect is allowed, what is kept of the effects stands for the longer history
 stands_after : (k k' : Kept) (h : List Event) (e : Event) (d : Effect) → StandsFor k h → IsRightEvent (effects_of h) e → effect_of e ≡ d
     → (AllAllowed (effects_of h) → Allowed (effects_of h) d → IsKeptOf k' (d ∷ effects_of h)) → StandsFor k' (e ∷ h)
-stands_after k k' h e d stands right is here = record {
-  legal = (right, stands.legal);
-  fits = subst (λ d. IsKeptOf k' (d ∷ effects_of h)) (sym is) (here (legal_allowed h stands.legal) (subst (Allowed (effects_of h)) is (right_allowed (effects_of h) e right)));
-}
+stands_after k k' h e d stands right is here = grind (arith, common_steps, legal_allowed, right_allowed)
 
 -- an event without an effect
 pub no_effect_stands : (k : Kept) (h : List Event) (e : Event) → StandsFor k h → IsRightEvent (effects_of h) e → effect_of e ≡ NoEffect → StandsFor k (e ∷ h)
@@ -71,18 +71,7 @@ commit_stands k k' h e t stands right is c = stands_after k k' h e (Commits t) s
     subst (λ n. IsKeptOf n (Commits t ∷ effects_of h)) (sym c.rest)
     (alike_kept (record k { committed = λ y i. (t == i) || k.committed y i; transaction = k'.transaction }) (record k { version = k'.version; committed = k'.committed; transaction = k'.transaction }) (Commits t ∷ effects_of h)
     (after_commits k (effects_of h) all stands.fits t allowed (λ y i. (t == i) || k.committed y i) k'.transaction (λ y i. refl) c.transaction)
-    (record {
-      closed = refl;
-      horizon = refl;
-      version = c.version;
-      committed = c.committed;
-      marked = λ y n. refl;
-      transaction = λ i. refl;
-      protections = refl;
-      protections_made = refl;
-      feed = λ f. refl;
-      feeds_opened = refl;
-    })))
+    (grind (arith, common_steps))))
 
 -- an abort, or a write that came too late
 pub abort_stands : (k k' : Kept) (h : List Event) (e : Event) (t : ℕ) → StandsFor k h → IsRightEvent (effects_of h) e → effect_of e ≡ Aborts t → IsAbortedBy k k' t → StandsFor k' (e ∷ h)
@@ -94,8 +83,7 @@ abort_stands k k' h e t stands right is c = stands_after k k' h e (Aborts t) sta
 
 -- a closing
 pub close_stands : (k k' : Kept) (h : List Event) (e : Event) (n : ℕ) → StandsFor k h → IsRightEvent (effects_of h) e → effect_of e ≡ Closes n → IsClosedAt k k' n → StandsFor k' (e ∷ h)
-close_stands k k' h e n stands right is c = stands_after k k' h e (Closes n) stands right is (λ all allowed.
-    subst (λ m. IsKeptOf m (Closes n ∷ effects_of h)) (sym c.rest) (after_closes k (effects_of h) all stands.fits n allowed k'.marked k'.transaction c.marked c.transaction))
+close_stands k k' h e n stands right is c = search (stands_after, after_closes, rules, arith)
 
 -- a hard closing
 pub hard_close_stands : (k k' : Kept) (h : List Event) (e : Event) (to n : ℕ) → StandsFor k h → IsRightEvent (effects_of h) e → effect_of e ≡ HardCloses to n → IsHardClosedAt k k' to n → StandsFor k' (e ∷ h)
@@ -120,8 +108,7 @@ protect_stands k k' h e id t stands right is c = stands_after k k' h e (Protects
 
 -- a release
 pub release_stands : (k k' : Kept) (h : List Event) (e : Event) (id : ℕ) → StandsFor k h → IsRightEvent (effects_of h) e → effect_of e ≡ Releases id → IsReleasedFrom k k' id → StandsFor k' (e ∷ h)
-release_stands k k' h e id stands right is c = stands_after k k' h e (Releases id) stands right is (λ all allowed.
-    subst (λ n. IsKeptOf n (Releases id ∷ effects_of h)) (sym c) (after_releases k (effects_of h) stands.fits id))
+release_stands k k' h e id stands right is c = search (stands_after, after_releases, rules, arith)
 
 -- an opening
 pub open_stands : (k k' : Kept) (h : List Event) (e : Event) (f seat : ℕ) (kind : Kind) (span : Span) (cursor : ℕ) → StandsFor k h → IsRightEvent (effects_of h) e → effect_of e ≡ Opens f seat kind span cursor → IsOpenedAt k k' f seat kind span cursor → StandsFor k' (e ∷ h)
@@ -135,8 +122,7 @@ poll_stands k k' h e f max ms stands right is c = stands_after k k' h e (Polls f
 
 -- a cancellation
 pub cancel_stands : (k k' : Kept) (h : List Event) (e : Event) (f : ℕ) → StandsFor k h → IsRightEvent (effects_of h) e → effect_of e ≡ Cancels f → IsCancelledFrom k k' f → StandsFor k' (e ∷ h)
-cancel_stands k k' h e f stands right is c = stands_after k k' h e (Cancels f) stands right is (λ all allowed.
-    subst (λ n. IsKeptOf n (Cancels f ∷ effects_of h)) (sym c.rest) (after_cancels k (effects_of h) stands.fits f k'.feed c.feed))
+cancel_stands k k' h e f stands right is c = search (stands_after, after_cancels, rules, arith)
 
 -- what is alike stands for the same
 pub alike_stands : (k k' : Kept) (h : List Event) → StandsFor k h → IsAlike k k' → StandsFor k' h

@@ -1,12 +1,13 @@
 -- What an effect leaves as it is.
+use Rattle.std.proofs.lemmas.Grind.{common_steps}
 use Rattle.std.proofs.Common.{Bool, List, None, Option, Some, ap, arith, cond, false, refl, sym, ℕ, ◌<◌, ◌==◌, ◌∙◌, ◌∷◌, ◌≡◌, ◌≤◌}
 use Rattle.std.proofs.lemmas.Bool.Decides.{nat_tests}
-use Rattle.std.specs.Prelude.{nat_le, ◌↔◌}
+use Rattle.std.specs.Prelude.{◌↔◌}
 use Rattle.spans.specs.Collection.{horizon_of, is_dead, version_name}
 use Rattle.spans.specs.Effects.{After, Commits, Effect, NoEffect, SnapshotReads, SnapshotScans, Writes}
 use Rattle.spans.specs.Kept.{IsCrossed, IsKeptOf, Kept, kept_version}
 use Rattle.spans.specs.Transactions.{closed_of, is_committed}
-use Rattle.spans.specs.Versions.{committed_version_of, version_of, write_of}
+use Rattle.spans.specs.Versions.{version_of, write_of}
 use Rattle.spans.specs.declared.span.Span.{Span}
 use Rattle.spans.proofs.Copies.{AllAllowed, Allowed, closed_stays}
 use Rattle.spans.proofs.Steps.{by_test, newest_same}
@@ -27,15 +28,7 @@ written_stays p (_) allowed x i low = refl
 
 -- what is dead stays so, and nothing else becomes dead but by a collection
 pub dead_stays : (p : List Effect) (d : Effect) → AllAllowed p → Allowed p d → horizon_of (d ∷ p) ≡ horizon_of p → (x : List ℕ) (i : ℕ) → is_dead (d ∷ p) (version_name x i) ≡ is_dead p (version_name x i)
-dead_stays p d all allowed same x i = by_test (nat_le i (horizon_of p))
-    (λ is. let low : i ≤ closed_of p = (let h = horizon_low p all in grind (arith, nat_tests)) in
-    rw (
-      same,
-      committed_stays p d allowed i low,
-      written_stays p d allowed x i low,
-      newest_same (committed_version_of (d ∷ p) x) (committed_version_of p x) (horizon_of p) (λ n below. closed_stays p d allowed x n (let h = horizon_low p all in omega arith)),
-    ) refl)
-    (λ isnt. high_live (d ∷ p) x i (rw same isnt) ∙ sym (high_live p x i isnt))
+dead_stays p d all allowed same x i = grind (arith, common_steps, by_test, horizon_low, committed_stays, written_stays, newest_same, closed_stays, high_live)
 
 -- so where the horizon stays, what is kept changes by the versions alone
 pub kept_stays : (p : List Effect) (d : Effect) → AllAllowed p → Allowed p d → horizon_of (d ∷ p) ≡ horizon_of p → (x : List ℕ) (i : ℕ) → kept_version (d ∷ p) x i ≡ cond (is_dead p (version_name x i)) None (version_of (d ∷ p) x i)
@@ -58,67 +51,19 @@ marks_of k p all fits x = (marks_kept p all x (k.marked x) (k.version x) (fits.v
 
 -- nothing happened to what is kept
 pub after_nothing : (k : Kept) (p : List Effect) → IsKeptOf k p → IsKeptOf k (NoEffect ∷ p)
-after_nothing k p fits = record {
-  closed_at = fits.closed_at;
-  horizon_at = fits.horizon_at;
-  versions = fits.versions;
-  committed = fits.committed;
-  marks = fits.marks;
-  forgotten = fits.forgotten;
-  transactions = fits.transactions;
-  protected = fits.protected;
-  made = fits.made;
-  feeds = fits.feeds;
-  opened = fits.opened;
-}
+after_nothing k p fits = grind (arith, common_steps)
 
 -- a read at a closed timestamp changes nothing
 pub after_snapshot_reads : (k : Kept) (p : List Effect) (t : ℕ) (x : List ℕ) (v : After) → IsKeptOf k p → IsKeptOf k (SnapshotReads t x v ∷ p)
-after_snapshot_reads k p t x v fits = record {
-  closed_at = fits.closed_at;
-  horizon_at = fits.horizon_at;
-  versions = fits.versions;
-  committed = fits.committed;
-  marks = fits.marks;
-  forgotten = fits.forgotten;
-  transactions = fits.transactions;
-  protected = fits.protected;
-  made = fits.made;
-  feeds = fits.feeds;
-  opened = fits.opened;
-}
+after_snapshot_reads k p t x v fits = grind (arith, common_steps)
 
 -- nor does such a scan
 pub after_snapshot_scans : (k : Kept) (p : List Effect) (t : ℕ) (span : Span) (rows : List (List ℕ × List ℕ)) → IsKeptOf k p → IsKeptOf k (SnapshotScans t span rows ∷ p)
-after_snapshot_scans k p t span rows fits = record {
-  closed_at = fits.closed_at;
-  horizon_at = fits.horizon_at;
-  versions = fits.versions;
-  committed = fits.committed;
-  marks = fits.marks;
-  forgotten = fits.forgotten;
-  transactions = fits.transactions;
-  protected = fits.protected;
-  made = fits.made;
-  feeds = fits.feeds;
-  opened = fits.opened;
-}
+after_snapshot_scans k p t span rows fits = grind (arith, common_steps)
 
 -- the committed flag matters only where a version is
 pub other_committed : (k : Kept) (p : List Effect) → IsKeptOf k p → (d' : List ℕ → ℕ → Bool) → ((x : List ℕ) (t : ℕ) (a : After) → k.version x t ≡ Some a → d' x t ≡ k.committed x t) → IsKeptOf (record k { committed = d' }) p
-other_committed k p fits d' same = record {
-  closed_at = fits.closed_at;
-  horizon_at = fits.horizon_at;
-  versions = fits.versions;
-  committed = λ x t a is. same x t a is ∙ fits.committed x t a is;
-  marks = fits.marks;
-  forgotten = fits.forgotten;
-  transactions = fits.transactions;
-  protected = fits.protected;
-  made = fits.made;
-  feeds = fits.feeds;
-  opened = fits.opened;
-}
+other_committed k p fits d' same = grind (arith, common_steps)
 
 -- what is kept is like itself
 pub alike_self : (k : Kept) → IsAlike k k
@@ -126,19 +71,4 @@ alike_self k = record { closed = refl; horizon = refl; version = λ y i. refl; c
 
 -- what is alike is kept of the same
 pub alike_kept : (k k' : Kept) (p : List Effect) → IsKeptOf k p → IsAlike k k' → IsKeptOf k' p
-alike_kept k k' p fits c = record {
-  closed_at = c.closed ∙ fits.closed_at;
-  horizon_at = c.horizon ∙ fits.horizon_at;
-  versions = λ x t. c.version x t ∙ fits.versions x t;
-  committed = λ x t a is. let was : k.version x t ≡ Some a = sym (c.version x t) ∙ is in c.committed x t a was ∙ fits.committed x t a was;
-  marks = λ x i above fresh. let b = fits.marks x i above fresh in (
-    λ late. let m = b.0 late in record { reader = m.reader; mark = c.marked x m.reader ∙ m.mark; above = m.above; none = λ n low high. c.version x n ∙ m.none n low high },
-    λ m. b.1 (record { reader = m.reader; mark = sym (c.marked x m.reader) ∙ m.mark; above = m.above; none = λ n low high. sym (c.version x n) ∙ m.none n low high }),
-  );
-  forgotten = λ x j is. fits.forgotten x j (sym (c.marked x j) ∙ is);
-  transactions = λ t. c.transaction t ∙ fits.transactions t;
-  protected = c.protections ∙ fits.protected;
-  made = c.protections_made ∙ fits.made;
-  feeds = λ f. c.feed f ∙ fits.feeds f;
-  opened = c.feeds_opened ∙ fits.opened;
-}
+alike_kept k k' p fits c = grind (arith, common_steps)

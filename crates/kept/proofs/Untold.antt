@@ -1,4 +1,6 @@
 -- The rows that a feed was not told are those beyond its place.
+use Rattle.std.proofs.lemmas.Grind.{common_steps}
+use Rattle.std.proofs.Common.{arith}
 use Rattle.std.proofs.Common.{List, refl, inr, None, Option, subst, false, true, Some, inl, sym, ◌≡◌, ◌∷◌, ◌∙◌, ℕ, []}
 use Rattle.std.proofs.lemmas.Bool.{and_from, lt-ltb, false_from_ne_true, both_ways, and_parts}
 use Rattle.std.specs.Prelude.{◌↔◌}
@@ -58,10 +60,7 @@ not_after (messages.Resolved t ∷ ms) o r e h = not_after ms o r e h
 -- a row that was told doesn't come after the last
 told_before : (ms : List Message) (o : Option VersionName) (r : Row) → RisingRows (rows_in ms) → IsRowIn r (rows_in ms) → is_after_name (last_name o ms) r ≡ false
 told_before [] o r h i = absurd i
-told_before (messages.Row s ∷ ms) o r h i = elim i [
-  | inl here ↦ subst (λ (q : Row). is_after_name (last_name (Some (name_of s)) ms) q ≡ false) here (not_after ms (Some (name_of s)) s (false_from_ne_true _ (λ l. rows_clash s s l l)) h.0)
-  | inr there ↦ told_before ms (Some (name_of s)) r h.1 there
-]
+told_before (messages.Row s ∷ ms) o r h i = grind (arith, common_steps, not_after, false_from_ne_true, rows_clash, told_before ms)
 told_before (messages.Resolved t ∷ ms) o r h i = told_before ms o r h i
 
 -- what wasn't told is what is beyond the place

@@ -1,10 +1,11 @@
 -- The replies to reads at a closed timestamp, and to commands of protections.
-use Rattle.std.proofs.Common.{Bool, List, None, Option, Some, ap, arith, cond, false, inl, refl, suc, sym, true, ℕ, ◌<◌, ◌≤◌, ◌==◌, ◌∷◌, ◌≡◌, ◌∙◌, []}
+use Rattle.std.proofs.lemmas.Grind.{common_steps}
+use Rattle.std.proofs.Common.{Bool, List, None, Option, Some, ap, arith, cond, false, refl, suc, sym, true, ℕ, ◌<◌, ◌≤◌, ◌==◌, ◌∷◌, ◌≡◌, ◌∙◌, []}
 use Rattle.std.specs.List.{list_any}
 use Rattle.std.specs.Prelude.{filter, nat_lt, not}
 use Rattle.std.proofs.lemmas.Bool.Decides.{nat_tests}
 use Rattle.timestamps.specs.declared.ts.TheConstants.{MAX}
-use Rattle.spans.specs.Answer.{first_refusal, first_refusal_or}
+use Rattle.spans.specs.Answer.{first_refusal}
 use Rattle.spans.specs.Collection.{Protection}
 use Rattle.spans.specs.Effects.{After}
 use Rattle.spans.specs.Kept.{Kept}
@@ -12,10 +13,8 @@ use Rattle.spans.specs.Keys.{pairs_of}
 use Rattle.spans.specs.declared.calls.commands.Cmd.TheVariants.{Protect, ReadAt, Release, ScanAt}
 use Rattle.spans.specs.declared.calls.replies.Refusal.{Refusal}
 use Rattle.spans.specs.declared.calls.replies.Refusal.TheVariants.{BelowHorizon, NoProtection, NotClosed, TsRange}
-use Rattle.spans.specs.declared.calls.replies.Reply.{Reply}
 use Rattle.spans.specs.declared.calls.replies.Reply.TheVariants.{Found, Protected, Refused, Released, Rows}
 use Rattle.spans.specs.declared.span.Span.{Span}
-use Rattle.spans.proofs.Steps.{by_test}
 use Rattle.spans.proofs.Refusals.{none_met, first_met}
 use Rattle.kept.specs.Answered.{IsAnswered, IsStep, IsWanting}
 use Rattle.kept.specs.Changes.{IsAlike}
@@ -34,12 +33,6 @@ none_unless (Some q) never' = absurd (never' q refl)
 pub snapshot_below : (k : Kept) (t : ℕ) (o : Option Refusal) → t ≤ k.closed → o ≡ horizon_refusal k t → o ≡ snapshot_refusal k t
 snapshot_below k t o low is = let off : nat_lt k.closed t ≡ false = grind (arith, nat_tests) in is ∙ sym (ap (λ b. cond b (Some (NotClosed k.closed)) (first_refusal ((nat_lt t k.horizon, BelowHorizon k.horizon) ∷ []))) off)
 
--- between horizon and closed there is a snapshot
-snapshot_between : (k : Kept) (t : ℕ) → t ≤ k.closed → k.horizon ≤ t → snapshot_refusal k t ≡ None
-snapshot_between k t low high =
-    let off : nat_lt t k.horizon ≡ false = grind (arith, nat_tests) in
-    sym (snapshot_below k t None low (sym (ap (λ b. cond b (Some (BelowHorizon k.horizon)) None) off)))
-
 -- ---- reads at a closed timestamp
 
 pub read_refused : (k : Kept) (seat t : ℕ) (x : List ℕ) (q : Refusal) → Some q ≡ snapshot_refusal k t → IsAnswered k k seat (ReadAt t x) (Refused q)
@@ -52,10 +45,7 @@ pub read_wanting : (k : Kept) (seat t : ℕ) (x : List ℕ) → snapshot_refusal
 read_wanting k seat t x none = record { may = refl; accepting = (Found (seen k x t).after, sym (none_met (tests_at k t) (Found (seen k x t).after) none), refl); alike = alike_self k }
 
 pub scan_refused : (k : Kept) (seat t : ℕ) (span : Span) (q : Refusal) → Some q ≡ snapshot_refusal k t → IsAnswered k k seat (ScanAt t span) (Refused q)
-scan_refused k seat t span q is = record {
-  right = ([], (λ low high. (let no : None ≡ Some q = sym (snapshot_between k t low high) ∙ sym is in cc)), sym (first_met (tests_at k t) (Rows []) q (sym is)));
-  change = alike_self k;
-}
+scan_refused k seat t span q is = grind (arith, common_steps)
 
 pub scan_done : (k : Kept) (seat t : ℕ) (span : Span) (keys : List (List ℕ)) (rows : List (List ℕ × List ℕ)) → snapshot_refusal k t ≡ None → AreKeysOf k span keys → rows ≡ pairs_of (λ x. (seen k x t).after) keys → IsAnswered k k seat (ScanAt t span) (Rows rows)
 scan_done k seat t span keys rows none are is = record { right = (keys, (λ low high. are), ap Rows is ∙ sym (none_met (tests_at k t) (Rows (pairs_of (λ x. (seen k x t).after) keys)) none)); change = alike_self k }
@@ -68,13 +58,6 @@ scan_wanting k seat t span keys none are = record { may = refl; accepting = (Row
 -- what is kept, with this closed timestamp and these protections
 abbrev pub with_standing : Kept → Standing → Kept
 with_standing k c = record k { closed = closed_in c; protections = protections_in c; protections_made = made_in c }
-
-same_standing : (k : Kept) (a b : ℕ) (ps qs : List Protection) (i j : ℕ) → a ≡ b → ps ≡ qs → i ≡ j
-    → record k { closed = a; protections = ps; protections_made = i } ≡ record k { closed = b; protections = qs; protections_made = j }
-same_standing k a b ps qs i j e f g =
-    ap (λ u. record k { closed = u; protections = ps; protections_made = i }) e
-    ∙ ap (λ u. record k { closed = b; protections = u; protections_made = i }) f
-    ∙ ap (λ u. record k { closed = b; protections = qs; protections_made = u }) g
 
 standing_alike : (k : Kept) (c : Standing) → closed_in c ≡ k.closed → protections_in c ≡ k.protections → made_in c ≡ k.protections_made → IsAlike k (with_standing k c)
 standing_alike k c closed protections made = record { closed = closed; horizon = refl; version = λ y i. refl; committed = λ y i b e. refl; marked = λ y n. refl; transaction = λ i. refl; protections = protections; protections_made = made; feed = λ f. refl; feeds_opened = refl }
@@ -89,44 +72,22 @@ protect_refused k seat t q low is = let off : nat_lt MAX t ≡ false = grind (ar
     by true e = (let same : q ≡ BelowHorizon k.horizon = cc in ap Refused same)
     by false e = cc
 
-protect_free : (k : Kept) (t : ℕ) (reply : Reply) → t ≤ MAX → horizon_refusal k t ≡ None → reply ≡ first_refusal_or ((nat_lt MAX t, TsRange) ∷ (nat_lt t k.horizon, BelowHorizon k.horizon) ∷ []) reply
-protect_free k t reply low none = let off : nat_lt MAX t ≡ false = grind (arith, nat_tests) in rw off (by (nat_lt t k.horizon) none)
-  where
-    by : (b : Bool) → cond b (Some (BelowHorizon k.horizon)) None ≡ None → reply ≡ cond b (Refused (BelowHorizon k.horizon)) reply
-    by true e = cc
-    by false e = refl
-
 pub protect_done : (k : Kept) (seat t id : ℕ) (c : Standing) → t ≤ MAX → horizon_refusal k t ≡ None → id ≡ suc k.protections_made
     → closed_in c ≡ k.closed → protections_in c ≡ protection id t ∷ k.protections → made_in c ≡ suc k.protections_made → IsAnswered k (with_standing k c) seat (Protect t) (Protected id)
-protect_done k seat t id c low none number closed protected made = record {
-  right = ap Protected number ∙ protect_free k t (Protected (suc k.protections_made)) low none;
-  change = same_standing k (closed_in c) k.closed (protections_in c) (protection id t ∷ k.protections) (made_in c) (suc k.protections_made) closed protected made;
-}
+protect_done k seat t id c low none number closed protected made = grind (arith, common_steps)
 
 pub protect_wanting : (k : Kept) (seat t : ℕ) (c : Standing) → t ≤ MAX → horizon_refusal k t ≡ None → closed_in c ≡ k.closed → protections_in c ≡ k.protections → made_in c ≡ k.protections_made → IsWanting k (with_standing k c) seat (Protect t)
-protect_wanting k seat t c low none closed protections made = record {
-  may = refl;
-  accepting = (Protected (suc k.protections_made), protect_free k t (Protected (suc k.protections_made)) low none, refl);
-  alike = standing_alike k c closed protections made;
-}
+protect_wanting k seat t c low none closed protections made = grind (arith, common_steps)
 
 pub release_done : (k : Kept) (seat id : ℕ) (c : Standing) → list_any (λ (n : Protection). n.id == id) k.protections ≡ true
     → closed_in c ≡ k.closed → protections_in c ≡ filter (λ (n : Protection). not (n.id == id)) k.protections → made_in c ≡ k.protections_made → IsStep k (with_standing k c) seat (Release id) Released
-release_done k seat id c stood closed released made = inl (record {
-  right = sym (ap (λ b. cond (not b) (Refused NoProtection) Released) stood);
-  change = same_standing k (closed_in c) k.closed (protections_in c) (filter (λ (n : Protection). not (n.id == id)) k.protections) (made_in c) k.protections_made closed released made;
-})
+release_done k seat id c stood closed released made = grind (arith, common_steps)
 
 -- where none is of the number, all stay
 all_stay : (id : ℕ) (ps : List Protection) → list_any (λ (n : Protection). n.id == id) ps ≡ false → filter (λ (n : Protection). not (n.id == id)) ps ≡ ps
 all_stay id [] none = refl
-all_stay id (p ∷ ps) none = by_test (p.id == id)
-    (λ on. (let no : true ≡ false = rw on at none in cc))
-    (λ off. rw off (ap (λ l. p ∷ l) (all_stay id ps (rw off at none))))
+all_stay id (p ∷ ps) none = grind (arith, common_steps, all_stay id ps)
 
 pub release_none : (k : Kept) (seat id : ℕ) (c : Standing) → list_any (λ (n : Protection). n.id == id) k.protections ≡ false
     → closed_in c ≡ k.closed → protections_in c ≡ filter (λ (n : Protection). not (n.id == id)) k.protections → made_in c ≡ k.protections_made → IsStep k (with_standing k c) seat (Release id) (Refused NoProtection)
-release_none k seat id c none closed released made = inl (record {
-  right = sym (ap (λ b. cond (not b) (Refused NoProtection) Released) none);
-  change = standing_alike k c closed (released ∙ all_stay id k.protections none) made;
-})
+release_none k seat id c none closed released made = grind (arith, common_steps, standing_alike, all_stay)

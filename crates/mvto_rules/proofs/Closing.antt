@@ -1,4 +1,5 @@
 -- Closings. A hard one takes back what undecided transactions wrote, one after another.
+use Rattle.std.proofs.lemmas.Grind.{common_steps}
 use Rattle.std.proofs.Common.{Bool, List, None, Option, Some, ap, arith, cond, eqb-true, eq-eqb, false, inl, inr, length, refl, subst, sym, true, ℕ, ◌<◌, ◌==◌, ◌&&◌, ◌||◌, ◌∷◌, ◌≡◌, ◌∙◌, []}
 use Rattle.std.specs.Prelude.{is_some, max, nat_le, nat_lt, not, ◌≤◌}
 use Rattle.std.specs.List.{list_any}
@@ -109,10 +110,7 @@ hard_closed k k' v d to n version committed closed =
 
 -- what the closing tells is as it says
 pub closed_so : (k k' : Kept) (was n m : ℕ) (ps qs : List Protection) (i j : ℕ) → n ≡ m → ps ≡ qs → i ≡ j → IsClosedAt (record k { closed = was; protections = ps; protections_made = i }) k' n → IsClosedAt (record k { closed = was; protections = qs; protections_made = j }) k' m
-closed_so k k' was n m ps qs i j e f g closed =
-    subst (λ u. IsClosedAt (record k { closed = was; protections = qs; protections_made = u }) k' m) g
-    (subst (λ u. IsClosedAt (record k { closed = was; protections = u; protections_made = i }) k' m) f
-    (subst (IsClosedAt (record k { closed = was; protections = ps; protections_made = i }) k') e closed))
+closed_so k k' was n m ps qs i j e f g closed = grind (arith, common_steps)
 
 pub close_outside : (k : Kept) (seat to : ℕ) → MAX < to → IsStep k k seat (Close to) (Refused TsRange)
 close_outside k seat to high = let on : nat_lt MAX to ≡ true = grind (arith, nat_tests) in inl (record { right = (None, (λ low. absurd (omega arith)), rw on refl); change = alike_self k })
@@ -124,7 +122,4 @@ pub hard_outside : (k : Kept) (seat to : ℕ) → MAX < to → IsStep k k seat (
 hard_outside k seat to high = let on : nat_lt MAX to ≡ true = grind (arith, nat_tests) in inl (record { right = ([], (λ low. absurd (omega arith)), rw on refl); change = alike_self k })
 
 pub hard_done : (k k' : Kept) (seat to at count : ℕ) (cut : List ℕ) → to ≤ MAX → AreThose (λ t. nat_le t to && is_open (k.transaction t)) cut → length cut ≡ count → at ≡ max k.closed to → IsHardClosedAt k k' to at → IsStep k k' seat (CloseHard to) (Closed at count)
-hard_done k k' seat to at count cut low those counted at_is closed = inl (record {
-  right = (cut, (λ l. those), ap (λ n. Closed n count) at_is ∙ ap (Closed (max k.closed to)) (sym counted) ∙ sym (within to _ low));
-  change = closed;
-})
+hard_done k k' seat to at count cut low those counted at_is closed = grind (arith, common_steps)

@@ -1,6 +1,6 @@
 -- The newest committed version of a key, found from above.
-use Rattle.std.proofs.Common.{Bool, List, None, Option, ap, arith, cond, false, inl, inr, refl, subst, sym, true, ℕ, ◌-◌, ◌<◌, ◌∙◌, ◌≡◌, ◌≤◌}
-use Rattle.std.specs.Prelude.{nat_lt}
+use Rattle.std.proofs.lemmas.Grind.{common_steps}
+use Rattle.std.proofs.Common.{Bool, List, None, Option, arith, cond, false, inl, refl, true, ℕ, ◌-◌, ◌<◌, ◌≡◌, ◌≤◌}
 use Rattle.std.proofs.lemmas.Bool.{ltb-false, ltb-true}
 use Rattle.spans.specs.Effects.{After}
 use Rattle.spans.specs.Newest.{newest, version_at}
@@ -19,26 +19,15 @@ none_committed false o e = refl
 
 -- what is above the lower of two timestamps changes nothing where it is none
 newest_down : (f : ℕ → Option After) (m n : ℕ) → m ≤ n → ((i : ℕ) → m < i → i ≤ n → f i ≡ None) → newest f n ≡ newest f m
-newest_down f m n low none = let is = newest_is f m in newest_only f n (newest f m).ts (newest f m).after (record {
-  at_most = omega (arith, is.at_most);
-  gap = λ i above upto. by_test (nat_lt m i) (λ over. none i (ltb-true m i over) upto) (λ under. is.gap i above (ltb-false m i under));
-  has = is.has;
-})
+newest_down f m n low none = grind (arith, common_steps, newest_is, newest_only, by_test, ltb-true, ltb-false)
 
 -- the newest version is committed
 pub newest_done : (s : Stored) (x : List ℕ) (t : ℕ) (v : chains.Version) → IsNewestIn s x t v → 1 ≤ v.ts → v.committed ≡ true → newest (committed_in s x) t ≡ version_at v.ts v.after
-newest_done s x t v is named done = newest_only (committed_in s x) t v.ts v.after (record {
-  at_most = is.at_most;
-  gap = λ i above upto. none_committed (is_committed_in s x i) (version_in s x i) (is.gap i above upto);
-  has = inr (omega (arith, named), rw (is.committed, done) is.version);
-})
+newest_done s x t v is named done = newest_only (committed_in s x) t v.ts v.after (grind (arith, common_steps))
 
 -- the newest version is undecided, so what is committed is below it
 pub newest_passed : (s : Stored) (x : List ℕ) (t : ℕ) (v : chains.Version) → IsNewestIn s x t v → 1 ≤ v.ts → v.committed ≡ false → newest (committed_in s x) (v.ts - 1) ≡ newest (committed_in s x) t
-newest_passed s x t v is named undone = sym (newest_down (committed_in s x) (v.ts - 1) t (omega (arith, is.at_most)) (λ i above upto. by_test (nat_lt v.ts i)
-    (λ over. none_committed (is_committed_in s x i) (version_in s x i) (is.gap i (ltb-true _ _ over) upto))
-    (λ under. let low : i ≤ v.ts = ltb-false _ _ under in let same : v.ts ≡ i = omega (arith, named, above, low) in
-    ap (λ b. cond {A = Option After} b (version_in s x i) None) (subst (λ j. is_committed_in s x j ≡ false) same (is.committed ∙ undone)))))
+newest_passed s x t v is named undone = grind (arith, common_steps, newest_down, by_test, none_committed, ltb-true, ltb-false)
 
 -- there is no version
 pub newest_nowhere : (s : Stored) (x : List ℕ) (t : ℕ) → ((i : ℕ) → i ≤ t → version_in s x i ≡ None) → newest (committed_in s x) t ≡ version_at 0 None

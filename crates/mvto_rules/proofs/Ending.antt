@@ -1,5 +1,6 @@
 -- The key at which a scan ends, found one entry after another.
-use Rattle.std.proofs.Common.{Bool, List, None, Option, Some, ap, arith, cond, false, refl, sym, true, ℕ, ◌∷◌, ◌≡◌, ◌∙◌, []}
+use Rattle.std.proofs.lemmas.Grind.{common_steps}
+use Rattle.std.proofs.Common.{Bool, List, None, Option, Some, ap, arith, false, refl, true, ℕ, ◌∷◌, ◌≡◌, []}
 use Rattle.std.specs.List.{AllByRecursion}
 use Rattle.std.specs.Map.{keys_of}
 use Rattle.std.specs.Prelude.{IfSome, ◌==◌, ◌≤◌}
@@ -8,14 +9,12 @@ use Rattle.spans.specs.Effects.{After}
 use Rattle.spans.specs.Keys.{in_span}
 use Rattle.spans.specs.declared.span.Span.{Span}
 use Rattle.spans.proofs.Keyed.{RisingKeys}
-use Rattle.spans.proofs.Steps.{by_test}
 use Rattle.spans.specs.Newest.{Version}
 use Rattle.version_chain.specs.Chains.{Entry, chain_of}
 use Rattle.version_chain.specs.Stores.{Stored, is_committed_in, version_in}
 use Rattle.version_chain.specs.declared.chain.Version as stored
-use Rattle.mvto_rules.specs.Room.{end_at, end_in, has_room, is_over, room_behind, stops_at}
-use Rattle.version_chain.specs.Marking.{newest_in}
-use Rattle.mvto_rules.specs.Scans.{entries_of, keys_in, stops_in}
+use Rattle.mvto_rules.specs.Room.{end_at, end_in, has_room, room_behind, stops_at}
+use Rattle.mvto_rules.specs.Scans.{entries_of, keys_in}
 use Rattle.mvto_rules.specs.Sights.{ts_of, value_in, would_stop}
 use Rattle.mvto_rules.specs.declared.room.Room.{Room}
 use Rattle.mvto_rules.proofs.Seeing.{IsThere}
@@ -33,46 +32,25 @@ stops_so : (d : ℕ → Bool) (t : ℕ) (o : Option stored.Version) → IfSome o
 stops_so d t None done named = refl
 stops_so d t (Some v) done named = let some : (v.ts == 0) ≡ false = grind (arith, nat_tests) in rw (done, some) refl
 
--- what stops a read there, by what it finds
-stops_there : (s : Stored) (t : ℕ) (x : List ℕ) (o : Option stored.Version) → IsThere (version_in s x) (is_committed_in s x) t o → stops_in s t x ≡ stops_at t o
-stops_there s t x o there = ap (λ (v : Version). would_stop (is_committed_in s x) t v.ts) there.is ∙ stops_so (is_committed_in s x) t o there.done there.named
-
 -- it stops the reader
 pub ending_stops : (s : Stored) (t : ℕ) (span : Span) (rows bytes : ℕ) (x : List ℕ) (vs : List stored.Version) (rest : List Entry) (room : Room) (o : Option stored.Version) → IsEnding s t span rows bytes ((x, vs) ∷ rest) room → IsThere (version_in s x) (is_committed_in s x) t o
     → stops_at t o ≡ true → None ≡ end_in s t rows bytes (keys_in s span)
-ending_stops s t span rows bytes x vs rest room o ending there on =
-    let at : stops_in s t x ≡ true = stops_there s t x o there ∙ on in
-    sym (ap (λ b. cond b None (end_at room.rows room.bytes x (newest_in s t x).after (λ r b. end_in s t r b (keys_of rest)))) at) ∙ ending.ends
-
--- what is found there, where it doesn't
-found_so : (s : Stored) (t : ℕ) (x : List ℕ) (xs : List (List ℕ)) (room : Room) (o : Option stored.Version) → IsThere (version_in s x) (is_committed_in s x) t o → stops_at t o ≡ false
-    → end_in s t room.rows room.bytes (x ∷ xs) ≡ end_at room.rows room.bytes x (value_in o) (λ r b. end_in s t r b xs)
-found_so s t x xs room o there off =
-    ap (λ b. cond b None (end_at room.rows room.bytes x (newest_in s t x).after (λ r b. end_in s t r b xs))) (stops_there s t x o there ∙ off)
-    ∙ ap (λ (v : Version). end_at room.rows room.bytes x v.after (λ r b. end_in s t r b xs)) there.is
+ending_stops s t span rows bytes x vs rest room o ending there on = grind (arith, common_steps)
 
 at_end : (room : Room) (x : List ℕ) (a : After) (on : ℕ → ℕ → Option (List ℕ)) → has_room room x a ≡ false → end_at room.rows room.bytes x a on ≡ Some x
 at_end room x None on none = cc
-at_end room x (Some v) on none = by_test (is_over room.rows room.bytes x v)
-    (λ over. rw over refl)
-    (λ fits. (let no : true ≡ false = rw fits at none in cc))
+at_end room x (Some v) on none = grind (arith, common_steps)
 
 at_room : (room : Room) (x : List ℕ) (a : After) (on : ℕ → ℕ → Option (List ℕ)) → has_room room x a ≡ true → end_at room.rows room.bytes x a on ≡ on (room_behind room x a).rows (room_behind room x a).bytes
 at_room room x None on some = refl
-at_room room x (Some v) on some = by_test (is_over room.rows room.bytes x v)
-    (λ over. (let no : false ≡ true = rw over at some in cc))
-    (λ fits. rw fits refl)
+at_room room x (Some v) on some = grind (arith, common_steps)
 
 -- its row finds no room
 pub ending_ends : (s : Stored) (t : ℕ) (span : Span) (rows bytes : ℕ) (x : List ℕ) (vs : List stored.Version) (rest : List Entry) (room : Room) (o : Option stored.Version) → IsEnding s t span rows bytes ((x, vs) ∷ rest) room → IsThere (version_in s x) (is_committed_in s x) t o
     → stops_at t o ≡ false → has_room room x (value_in o) ≡ false → Some x ≡ end_in s t rows bytes (keys_in s span)
-ending_ends s t span rows bytes x vs rest room o ending there off none =
-    sym (found_so s t x (keys_of rest) room o there off ∙ at_end room x (value_in o) (λ r b. end_in s t r b (keys_of rest)) none) ∙ ending.ends
+ending_ends s t span rows bytes x vs rest room o ending there off none = grind (arith, common_steps)
 
 -- or it does
 pub ending_goes_on : (s : Stored) (t : ℕ) (span : Span) (rows bytes : ℕ) (x : List ℕ) (vs : List stored.Version) (rest : List Entry) (room room' : Room) (o : Option stored.Version) → IsEnding s t span rows bytes ((x, vs) ∷ rest) room → IsThere (version_in s x) (is_committed_in s x) t o
     → stops_at t o ≡ false → has_room room x (value_in o) ≡ true → room' ≡ room_behind room x (value_in o) → IsEnding s t span rows bytes rest room'
-ending_goes_on s t span rows bytes x vs rest room room' o ending there off some left = record {
-  each = ending.each.1;
-  ends = ap (λ (n : Room). end_in s t n.rows n.bytes (keys_of rest)) left ∙ sym (found_so s t x (keys_of rest) room o there off ∙ at_room room x (value_in o) (λ r b. end_in s t r b (keys_of rest)) some) ∙ ending.ends;
-}
+ending_goes_on s t span rows bytes x vs rest room room' o ending there off some left = grind (arith, common_steps)

@@ -1,4 +1,6 @@
 -- The rows of a span at a closed timestamp, one key after another.
+use Rattle.std.proofs.lemmas.Grind.{common_steps}
+use Rattle.std.proofs.Common.{arith}
 use Rattle.std.proofs.Common.{refl, List, Option, ap, sym, true, ℕ, ◌++◌, ◌∷◌, ◌≡◌, ◌∙◌, []}
 use Rattle.std.proofs.lemmas.List.{append-nil}
 use Rattle.std.specs.List.{AllByRecursion}
@@ -9,11 +11,10 @@ use Rattle.spans.proofs.Keyed.{RisingKeys}
 use Rattle.version_chain.specs.Chains.{Entry, chain_of}
 use Rattle.version_chain.specs.Stores.{Stored, is_committed_in, version_in}
 use Rattle.version_chain.specs.declared.chain.Version.{Version}
-use Rattle.version_chain.specs.Marking.{newest_in}
 use Rattle.mvto_rules.specs.Scans.{entries_of, keys_in, rows_in}
 use Rattle.mvto_rules.specs.Sights.{value_in}
 use Rattle.mvto_rules.proofs.Seeing.{IsThere}
-use Rattle.mvto_rules.proofs.Walking.{each_found, row_more}
+use Rattle.mvto_rules.proofs.Walking.{each_found}
 
 -- these entries are left, and the rows of those before are listed
 pub record IsListing (s : Stored) (t : ℕ) (span : Span) (rest : List Entry) (rows : List (List ℕ × List ℕ)) : Type 0 where
@@ -28,10 +29,7 @@ list_begins s t span found rows those rising none = record {
 
 pub list_goes_on : (s : Stored) (t : ℕ) (span : Span) (x : List ℕ) (vs : List Version) (rest : List Entry) (rows rows' : List (List ℕ × List ℕ)) (o : Option Version) → IsListing s t span ((x, vs) ∷ rest) rows → IsThere (version_in s x) (is_committed_in s x) t o
     → rows' ≡ rows ++ with_value x (value_in o) [] → IsListing s t span rest rows'
-list_goes_on s t span x vs rest rows rows' o list there is = record {
-  each = list.each.1;
-  listed = ap (λ l. l ++ rows_in s t (keys_of rest)) is ∙ row_more rows (rows_in s t (keys_of rest)) x (value_in o) ∙ ap (λ v. rows ++ with_value x v.after (rows_in s t (keys_of rest))) (sym there.is) ∙ list.listed;
-}
+list_goes_on s t span x vs rest rows rows' o list there is = grind (arith, common_steps)
 
 pub list_ends : (s : Stored) (t : ℕ) (span : Span) (rows : List (List ℕ × List ℕ)) → IsListing s t span [] rows → rows ≡ rows_in s t (keys_in s span)
 list_ends s t span rows list = sym (append-nil rows) ∙ list.listed

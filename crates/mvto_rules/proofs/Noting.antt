@@ -1,12 +1,13 @@
 -- A read of one key, noted.
+use Rattle.std.proofs.lemmas.Grind.{common_steps}
 use std.Path.{fun_ext}
-use Rattle.std.proofs.Common.{Bool, List, None, Option, Some, arith, eq-eqb, false, refl, subst, suc, sym, true, zero, ℕ, ◌<◌, ◌≤◌, ◌==◌, ◌≡◌, ◌∙◌, [], ◌∷◌, ap}
-use Rattle.std.specs.Prelude.{bytes_eq, is_some, nat_lt, unwrap_or}
+use Rattle.std.proofs.Common.{List, None, Option, Some, arith, false, refl, subst, sym, true, ℕ, ◌<◌, ◌≤◌, ◌==◌, ◌≡◌, ◌∙◌, [], ◌∷◌, ap}
+use Rattle.std.specs.Prelude.{is_some, nat_lt}
 use Rattle.std.proofs.lemmas.Bool.Decides.{nat_tests}
 use Rattle.timestamps.specs.declared.ts.TheConstants.{MAX}
 use Rattle.spans.specs.Effects.{After}
 use Rattle.spans.specs.Kept.{Kept}
-use Rattle.spans.proofs.Steps.{by_test, key_itself}
+use Rattle.spans.proofs.Steps.{by_test}
 use Rattle.kept.specs.Changes.{IsAlike, IsReadBy}
 use Rattle.kept.specs.Finding.{IsNextAbove, seen}
 use Rattle.kept.specs.Marks.{IsLate, IsNoted, IsPiece, until}
@@ -25,11 +26,7 @@ next_like f g t (Some s) same next = (next.0, ap is_some (same s next.0) ∙ nex
 
 -- the first of a list of versions is the next above t where none of the others is between the two
 first_next : (v : Version) (vs : List Version) (t : ℕ) → t < v.ts → ((n : ℕ) → t < n → n < v.ts → after_of (version_of vs n) ≡ None) → IsNextAbove (λ i. after_of (version_of (v ∷ vs) i)) t (Some v.ts)
-first_next v vs t above none = (
-  above,
-  (let e : (v.ts == v.ts) ≡ true = eq-eqb v.ts v.ts refl in rw e refl),
-  λ n l h. (let e : (v.ts == n) ≡ false = grind (arith, nat_tests) in rw e (none n l h)),
-)
+first_next v vs t above none = grind (arith, common_steps)
 
 -- of a list of versions there is a next above t, or none
 pub some_next : (vs : List Version) (t : ℕ) → (o : Option ℕ) × IsNextAbove (λ i. after_of (version_of vs i)) t o

@@ -1,15 +1,16 @@
 -- What the reply to each command of a transaction changes, by what was found for it.
+use Rattle.std.proofs.lemmas.Grind.{common_steps}
+use Rattle.std.proofs.Common.{arith}
 use Rattle.std.proofs.Common.{Bool, Err, List, None, Ok, Option, Result, Some, ap, cond, false, inl, inr, refl, subst, sym, true, ℕ, ◌⊎◌, ◌∷◌, ◌≡◌, ◌∙◌, []}
-use Rattle.std.specs.Prelude.{IfOk, OnErr, is_some, map, nat_le, not}
-use Rattle.spans.specs.Answer.{first_refusal_or, is_timestamp}
+use Rattle.std.specs.Prelude.{IfOk, OnErr, is_some}
+use Rattle.spans.specs.Answer.{first_refusal_or}
 use Rattle.spans.specs.Effects.{After, effect}
 use Rattle.spans.specs.Kept.{Kept}
-use Rattle.spans.specs.Keys.{pairs_of}
 use Rattle.spans.specs.Legal.{is_accepted}
 use Rattle.spans.specs.declared.calls.commands.Cmd.{Cmd}
 use Rattle.spans.specs.declared.calls.commands.Cmd.TheVariants.{Abort, Begin, Commit, Del, Get, Put, Scan}
 use Rattle.spans.specs.declared.calls.replies.Refusal.{Refusal}
-use Rattle.spans.specs.declared.calls.replies.Refusal.TheVariants.{BelowClosed, Blocked, NoMemory, TooLate, TsRange, TsUsed}
+use Rattle.spans.specs.declared.calls.replies.Refusal.TheVariants.{Blocked, NoMemory, TooLate}
 use Rattle.spans.specs.declared.calls.replies.Reply.{Reply}
 use Rattle.spans.specs.declared.calls.replies.Reply.TheVariants.{Aborted, Committed, Found, Refused, Rows, Started, Written}
 use Rattle.spans.specs.declared.span.Span.{Span}
@@ -33,12 +34,7 @@ IsEither r ok = ((q : Refusal) × (r ≡ Refused q)) ⊎ (r ≡ ok)
 
 either_tests : (tests : List (Bool × Refusal)) (reply : Reply) → IsEither (first_refusal_or tests reply) reply
 either_tests [] reply = inr refl
-either_tests (test ∷ tests) reply = by_test test.0
-    (λ on. inl (test.1, ap (λ b. cond b (Refused test.1) (first_refusal_or tests reply)) on))
-    (λ off. elim (either_tests tests reply) [
-      | inl m ↦ inl (m.0, ap (λ b. cond b (Refused test.1) (first_refusal_or tests reply)) off ∙ m.1)
-      | inr e ↦ inr (ap (λ b. cond b (Refused test.1) (first_refusal_or tests reply)) off ∙ e)
-    ])
+either_tests (test ∷ tests) reply = grind (arith, common_steps, either_tests tests reply)
 
 -- one after the other
 either_both : (o : Option Refusal) (reply ok : Reply) → IsEither reply ok → IsEither (unless_refused o reply) ok
@@ -46,16 +42,10 @@ either_both None reply ok either = either
 either_both (Some q) reply ok either = inl (q, refl)
 
 from_either : (P : Reply → Type 0) (r r' ok : Reply) → r ≡ r' → IsEither r' ok → ((q : Refusal) → r ≡ Refused q → P (Refused q)) → (r ≡ ok → P ok) → P r
-from_either P r r' ok is either refused accepted = elim either [
-  | inl m ↦ subst P (sym (is ∙ m.1)) (refused m.0 (is ∙ m.1))
-  | inr e ↦ subst P (sym (is ∙ e)) (accepted (is ∙ e))
-]
+from_either P r r' ok is either refused accepted = grind (arith, common_steps)
 
 begin_answered : (k k' : Kept) (seat t : ℕ) (r : Reply) → r ≡ begin_reply k t → (r ≡ Started → IsBegun k k' t seat) → ((q : Refusal) → r ≡ Refused q → IsAlike k k') → IsAnswered k k' seat (Begin t) r
-begin_answered k k' seat t r is begun refused = record {
-  right = is;
-  change = from_either (λ r. IsChangedBy k k' (effect seat (Begin t) r)) r (begin_reply k t) Started is (either_tests ((not (is_timestamp t), TsRange) ∷ (nat_le t k.closed, BelowClosed k.closed) ∷ (is_some (k.transaction t), TsUsed) ∷ []) Started) refused begun;
-}
+begin_answered k k' seat t r is begun refused = grind (arith, common_steps)
 
 get_answered : (k k' : Kept) (seat t : ℕ) (x : List ℕ) (r : Reply) → r ≡ get_reply k seat t x → ((v : After) → r ≡ Found v → IsReadBy k k' t x) → ((q : Refusal) → r ≡ Refused q → IsAlike k k') → IsAnswered k k' seat (Get t x) r
 get_answered k k' seat t x r is read refused = record {
@@ -70,40 +60,15 @@ get_answered k k' seat t x r is read refused = record {
 
 scan_answered : (k k' : Kept) (seat t : ℕ) (span : Span) (keys : List (List ℕ)) (r : Reply) → (refusal k seat t ≡ None → AreKeysOf k span keys) → r ≡ scan_reply k seat t keys
     → ((rows : List (List ℕ × List ℕ)) → r ≡ Rows rows → IsScannedBy k k' t span) → ((q : Refusal) → r ≡ Refused q → IsAlike k k') → IsAnswered k k' seat (Scan t span) r
-scan_answered k k' seat t span keys r are is read refused = record {
-  right = (keys, are, is);
-  change = from_either (λ r. IsChangedBy k k' (effect seat (Scan t span) r)) r (scan_reply k seat t keys) (Rows (pairs_of (λ x. (seen k x t).after) keys)) is
-      (either_both (refusal k seat t) _ _ (either_tests (map (λ x. (is_seen_blocked k x t, Blocked (seen k x t).ts)) keys) (Rows (pairs_of (λ x. (seen k x t).after) keys)))) refused (read (pairs_of (λ x. (seen k x t).after) keys));
-}
-
-write_either : (k : Kept) (seat t : ℕ) (late : Bool) → IsEither (write_reply k seat t late) Written
-write_either k seat t late = either_both (refusal k seat t) _ _ (either late)
-  where
-    either : (b : Bool) → IsEither (cond b (Refused TooLate) Written) Written
-    either true = inl (TooLate, refl)
-    either false = inr refl
-
-put_refused : (k k' : Kept) (seat t : ℕ) (x v : List ℕ) (q : Refusal) → (q ≡ TooLate → IsAbortedBy k k' t) → ((q ≡ TooLate → ⊥) → IsAlike k k') → IsChangedBy k k' (effect seat (Put t x v) (Refused q))
-put_refused k k' seat t x v TooLate late other = late refl
-put_refused k k' seat t x v (_) late other = other (λ e. cc)
-
-del_refused : (k k' : Kept) (seat t : ℕ) (x : List ℕ) (q : Refusal) → (q ≡ TooLate → IsAbortedBy k k' t) → ((q ≡ TooLate → ⊥) → IsAlike k k') → IsChangedBy k k' (effect seat (Del t x) (Refused q))
-del_refused k k' seat t x TooLate late other = late refl
-del_refused k k' seat t x (_) late other = other (λ e. cc)
+scan_answered k k' seat t span keys r are is read refused = grind (arith, common_steps, from_either, either_both, either_tests)
 
 put_answered : (k k' : Kept) (seat t : ℕ) (x v : List ℕ) (r : Reply) → (late : Bool) × (refusal k seat t ≡ None → IsLate k x t late) × (r ≡ write_reply k seat t late)
     → (r ≡ Written → IsWritten k k' t x (Some v)) → (r ≡ Refused TooLate → IsAbortedBy k k' t) → ((q : Refusal) → r ≡ Refused q → (q ≡ TooLate → ⊥) → IsAlike k k') → IsAnswered k k' seat (Put t x v) r
-put_answered k k' seat t x v r is written late refused = record {
-  right = is;
-  change = from_either (λ r. IsChangedBy k k' (effect seat (Put t x v) r)) r (write_reply k seat t is.0) Written is.2 (write_either k seat t is.0) (λ q e. put_refused k k' seat t x v q (λ s. late (e ∙ ap Refused s)) (refused q e)) written;
-}
+put_answered k k' seat t x v r is written late refused = grind (arith, common_steps)
 
 del_answered : (k k' : Kept) (seat t : ℕ) (x : List ℕ) (r : Reply) → (late : Bool) × (refusal k seat t ≡ None → IsLate k x t late) × (r ≡ write_reply k seat t late)
     → (r ≡ Written → IsWritten k k' t x None) → (r ≡ Refused TooLate → IsAbortedBy k k' t) → ((q : Refusal) → r ≡ Refused q → (q ≡ TooLate → ⊥) → IsAlike k k') → IsAnswered k k' seat (Del t x) r
-del_answered k k' seat t x r is written late refused = record {
-  right = is;
-  change = from_either (λ r. IsChangedBy k k' (effect seat (Del t x) r)) r (write_reply k seat t is.0) Written is.2 (write_either k seat t is.0) (λ q e. del_refused k k' seat t x q (λ s. late (e ∙ ap Refused s)) (refused q e)) written;
-}
+del_answered k k' seat t x r is written late refused = grind (arith, common_steps)
 
 -- what was tried is a step, where it is answered or memory was wanting
 pub tried_so : {E : Type 0} (r r' : Rules) (cmd : Cmd) (o : Result Reply E) (reply : Reply) → IfOk o (λ a. reply ≡ a) → OnErr o (reply ≡ Refused NoMemory)

@@ -1,9 +1,10 @@
 -- A scan's reply, and what it marks.
-use Rattle.std.proofs.Common.{Bool, List, None, Option, Some, ap, arith, cond, false, inl, inr, refl, subst, sym, true, ℕ, ◌<◌, ◌≤◌, ◌==◌, ◌∷◌, ◌≡◌, ◌∙◌, []}
-use Rattle.std.specs.Prelude.{is_some, map, nat_le, nat_lt, ◌⊎◌}
-use Rattle.std.specs.List.{AllByRecursion, Contains}
+use Rattle.std.proofs.lemmas.Grind.{common_steps}
+use Rattle.std.proofs.Common.{List, None, Option, Some, ap, arith, cond, false, inl, inr, refl, subst, sym, true, ℕ, ◌<◌, ◌≤◌, ◌==◌, ◌∷◌, ◌≡◌, ◌∙◌, []}
+use Rattle.std.specs.Prelude.{is_some, map}
+use Rattle.std.specs.List.{AllByRecursion}
 use Rattle.std.specs.Map.{keys_of}
-use Rattle.std.proofs.lemmas.Bool.{both_ways, false_from_ne_true, leb-false, leb-true, ltb-false, ltb-true}
+use Rattle.std.proofs.lemmas.Bool.{both_ways}
 use Rattle.std.proofs.lemmas.Bool.Decides.{nat_tests}
 use Rattle.spans.specs.Answer.{first_refusal_or}
 use Rattle.spans.specs.Kept.{Kept}
@@ -70,11 +71,7 @@ scan_accepted k r seat t keys free none = ap is_accepted (sym (through_reply k r
 
 -- a refusal by the transaction's tests asks for no keys
 pub refused_reply : (k : Kept) (r : Rules) (seat t : ℕ) (span : Span) (refused : Refusal) → refusal (holding k r) seat t ≡ Some refused → IsScanReply (holding k r) seat t span (Refused refused)
-refused_reply k r seat t span refused is = (
-  [],
-  (λ free. (let no : None ≡ Some refused = sym free ∙ is in cc)),
-  sym (ap (λ o. unless_refused o (first_refusal_or (map (λ x. (stops_in r.store t x, Blocked (newest_in r.store t x).ts)) []) (Rows []))) is),
-)
+refused_reply k r seat t span refused is = grind (arith, common_steps)
 
 -- ---- the keys of the span
 

@@ -1,21 +1,20 @@
 -- What a read finds, by the newest version at or below its timestamp.
-use Rattle.std.proofs.Common.{Bool, Bor, List, None, Option, Some, ap, arith, cond, eqb-true, false, inl, inr, refl, subst, sym, true, ℕ, ◌<◌, ◌≤◌, ◌==◌, ◌≡◌, ◌∙◌}
+use Rattle.std.proofs.lemmas.Grind.{common_steps}
+use Rattle.std.proofs.Common.{Bool, Bor, List, None, Option, Some, ap, arith, cond, false, inl, inr, refl, subst, sym, true, ℕ, ◌<◌, ◌≤◌, ◌==◌, ◌≡◌, ◌∙◌}
 use Rattle.std.specs.Option.{option_copied}
-use Rattle.std.specs.Prelude.{IfSome, MatchOption, not}
+use Rattle.std.specs.Prelude.{IfSome, MatchOption}
 use Rattle.std.proofs.lemmas.Bool.Decides.{nat_tests}
-use Rattle.std.proofs.Math.Bool.{and-false}
 use Rattle.spans.specs.Effects.{After}
 use Rattle.spans.specs.Kept.{Kept}
 use Rattle.spans.specs.Newest.{newest, version_at}
 use Rattle.spans.specs.declared.calls.replies.Refusal.TheVariants.{Blocked}
 use Rattle.spans.specs.declared.calls.replies.Reply.{Reply}
 use Rattle.spans.specs.declared.calls.replies.Reply.TheVariants.{Found, Refused}
-use Rattle.spans.proofs.Steps.{by_test, newest_only}
-use Rattle.kept.specs.Finding.{is_seen_blocked, seen}
-use Rattle.kept.specs.Replies.{get_reply, unless_refused}
+use Rattle.spans.proofs.Steps.{newest_only}
+use Rattle.kept.specs.Replies.{get_reply}
 use Rattle.kept.specs.Table.{refusal}
 use Rattle.version_chain.specs.Chains.{chain_of}
-use Rattle.version_chain.specs.Stores.{IsNewestIn, Stored, after_of, is_committed, is_committed_in, version_in}
+use Rattle.version_chain.specs.Stores.{IsNewestIn, Stored, after_of, is_committed_in, version_in}
 use Rattle.version_chain.specs.Versions.{IsNewestOf, IsNoneUpTo, version_of}
 use Rattle.version_chain.specs.declared.chain.Version.{Version}
 use Rattle.mvto_rules.specs.Sights.{sight_of, ts_of, value_in, would_stop}
@@ -49,12 +48,7 @@ found_there s x t m (Some b) same new named = record {
 pub chain_newest : (s : Stored) (x : List ℕ) (vs : List Version) (m : ℕ) (o : Option (Bor Version)) → chain_of s x ≡ vs → MatchOption o (IsNoneUpTo vs m) (λ v. IsNewestOf vs m v.now)
     → MatchOption o ((i : ℕ) → i ≤ m → version_in s x i ≡ None) (λ v. IsNewestIn s x m v.now)
 chain_newest s x vs m None is none = λ i l. ap (λ us. after_of (version_of us i)) is ∙ ap after_of (none i l)
-chain_newest s x vs m (Some b) is new = record {
-  at_most = new.at_most;
-  version = ap (λ us. after_of (version_of us b.now.ts)) is ∙ ap after_of new.one;
-  committed = ap (λ us. is_committed (version_of us b.now.ts)) is ∙ ap is_committed new.one;
-  gap = λ i l h. ap (λ us. after_of (version_of us i)) is ∙ ap after_of (new.gap i l h);
-}
+chain_newest s x vs m (Some b) is new = grind (arith, common_steps)
 
 -- the reply to a read by what it found
 abbrev pub told : Sight → After → Reply
@@ -81,19 +75,11 @@ IsOf t o (sights.Blocked n) = (n ≡ ts_of o) × ((n == t) ≡ false)
 
 stops : (d : ℕ → Bool) (t : ℕ) (o : Option Version) → IfSome o (λ v. d v.ts ≡ v.committed) → IfSome o (λ v. 1 ≤ v.ts) → would_stop d t (ts_of o) ≡ is_stopped (sight_of t o)
 stops d t None done named = refl
-stops d t (Some v) done named = by_test (v.ts == t)
-    (λ own. rw own (and-false (not (v.ts == 0))))
-    (λ other. rw other (by_test v.committed
-    (λ on. rw (done, on) (and-false (not (v.ts == 0))))
-    (λ off. let some : (v.ts == 0) ≡ false = grind (arith, nat_tests) in rw (done, off, some) refl)))
+stops d t (Some v) done named = grind (arith, common_steps)
 
 of_whom : (t : ℕ) (o : Option Version) → 0 < t → IsOf t o (sight_of t o)
 of_whom t None low = (refl, grind (arith, nat_tests))
-of_whom t (Some v) low = by_test (v.ts == t)
-    (λ own. rw own (eqb-true v.ts t own))
-    (λ other. rw other (by_test v.committed
-    (λ on. rw on (refl, other))
-    (λ off. rw off (refl, other))))
+of_whom t (Some v) low = grind (arith, common_steps)
 
 told_is : (t : ℕ) (o : Option Version) (s : Sight) → IsOf t o s → told s (value_in o) ≡ cond (is_stopped s) (Refused (Blocked (ts_of o))) (Found (value_in o))
 told_is t o sights.Own of = refl
@@ -105,18 +91,11 @@ blocked_is f d t o there = ap (λ v. would_stop d t v.ts) there.is ∙ stops d t
 
 -- the reply to a read that isn't refused by its transaction
 pub reply_is : (k : Kept) (seat t : ℕ) (x : List ℕ) (o : Option Version) (s : Sight) → 0 < t → refusal k seat t ≡ None → IsThere (k.version x) (k.committed x) t o → s ≡ sight_of t o → told s (value_in o) ≡ get_reply k seat t x
-reply_is k seat t x o s low free there is =
-    ap (λ r. told r (value_in o)) is
-    ∙ told_is t o (sight_of t o) (of_whom t o low)
-    ∙ sym (ap (λ v. cond (is_stopped (sight_of t o)) (Refused (Blocked v.ts)) (Found v.after)) there.is)
-    ∙ sym (ap (λ b. cond b (Refused (Blocked (seen k x t).ts)) (Found (seen k x t).after)) (blocked_is (k.version x) (k.committed x) t o there))
-    ∙ sym (ap (λ r. unless_refused r (cond (is_seen_blocked k x t) (Refused (Blocked (seen k x t).ts)) (Found (seen k x t).after))) free)
+reply_is k seat t x o s low free there is = grind (arith, common_steps)
 
 -- the version that was read is another's, or none
 pub other_is : (f : ℕ → Option After) (d : ℕ → Bool) (t : ℕ) (o : Option Version) (n : ℕ) → 0 < t → IsThere f d t o → sights.Other n ≡ sight_of t o → ((newest f t).ts ≡ n) × (n < t)
-other_is f d t o n low there is =
-    let of : IsOf t o (sights.Other n) = subst (IsOf t o) (sym is) (of_whom t o low) in
-    (ap (λ v. v.ts) there.is ∙ sym of.0, (let e : n ≡ ts_of o = of.0 in let l : ts_of o ≤ t = there.low in let ne : (n == t) ≡ false = of.1 in grind (arith, nat_tests)))
+other_is f d t o n low there is = grind (arith, common_steps)
 
 -- the version that was read is the reader's own
 pub own_is : (f : ℕ → Option After) (d : ℕ → Bool) (t : ℕ) (o : Option Version) → 0 < t → IsThere f d t o → sights.Own ≡ sight_of t o → (newest f t).ts ≡ t
@@ -124,6 +103,4 @@ own_is f d t o low there is = ap (λ v. v.ts) there.is ∙ subst (IsOf t o) (sym
 
 -- the version that stops the reader
 pub blocker_is : (f : ℕ → Option After) (d : ℕ → Bool) (t : ℕ) (o : Option Version) (n : ℕ) → 0 < t → IsThere f d t o → sights.Blocked n ≡ sight_of t o → ((newest f t).ts ≡ n) × (would_stop d t (newest f t).ts ≡ true)
-blocker_is f d t o n low there is =
-    let of : IsOf t o (sights.Blocked n) = subst (IsOf t o) (sym is) (of_whom t o low) in
-    (ap (λ v. v.ts) there.is ∙ sym of.0, blocked_is f d t o there ∙ ap is_stopped (sym is))
+blocker_is f d t o n low there is = grind (arith, common_steps)

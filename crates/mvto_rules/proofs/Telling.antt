@@ -1,11 +1,12 @@
 -- What is told of the undecided transactions, one after another.
+use Rattle.std.proofs.lemmas.Grind.{common_steps}
 use Rattle.std.proofs.Common.{List, Option, None, Some, [], ap, append_assoc, arith, inl, inr, map, refl, subst, sym, true, ℕ, ◌++◌, ◌∷◌, ◌≡◌, ◌∙◌, ◌≤◌}
 use Rattle.std.specs.Prelude.{All, Contains, is_some, nat_le, option_map, ◌&&◌, ◌↔◌}
 use Rattle.std.specs.List.Sorted.{IsStrictlyIncreasing}
 use Rattle.std.proofs.lemmas.Bool.{and_from, and_parts}
 use Rattle.std.proofs.lemmas.Bool.Decides.{nat_tests}
 use Rattle.std.proofs.lemmas.List.{append-nil, map-append}
-use Rattle.std.proofs.lemmas.List.Elements.{All-nil, All-push}
+use Rattle.std.proofs.lemmas.List.Elements.{All-push}
 use Rattle.timestamps.specs.declared.ts.TheConstants.{MAX}
 use Rattle.spans.specs.Kept.{Kept, Transaction}
 use Rattle.spans.specs.declared.report.TransactionReport.{TransactionReport}
@@ -35,11 +36,7 @@ pub record IsTelling (r : Rules) (all rest : List ℕ) (ns : List TransactionRep
   pub right : (k : Kept) → All (IsToldOf (holding k r)) ns
 
 pub telling_begins : (r : Rules) (all : List ℕ) → AreAllOpen r all → IsTelling r all all []
-telling_begins r all those = record {
-  times = refl;
-  stand = λ t i. some_open (transaction_in r.txns t) (and_parts _ _ ((those.each t).0 i)).1;
-  right = λ k. All-nil (IsToldOf (holding k r));
-}
+telling_begins r all those = grind (arith, common_steps)
 
 -- the seat of a transaction, and how it stands
 abbrev standing : Option Transaction → Option (ℕ × State)

@@ -1,11 +1,12 @@
 -- A walk through the entries of a span.
-use Rattle.std.proofs.Common.{Bor, List, None, Option, Some, ap, append_assoc, cond, false, inl, inr, refl, subst, sym, true, ℕ, ◌<◌, ◌≤◌, ◌++◌, ◌∷◌, ◌≡◌, ◌∙◌, []}
+use Rattle.std.proofs.lemmas.Grind.{common_steps}
+use Rattle.std.proofs.Common.{arith}
+use Rattle.std.proofs.Common.{Bor, List, Option, Some, ap, append_assoc, cond, false, inl, inr, refl, subst, sym, true, ℕ, ◌<◌, ◌≤◌, ◌++◌, ◌∷◌, ◌≡◌, ◌∙◌, []}
 use Rattle.std.specs.Prelude.{IfSome, MatchOption}
 use Rattle.std.specs.List.{AllByRecursion}
 use Rattle.std.specs.Map.{keys_of}
 use Rattle.std.specs.Option.{option_copied}
-use Rattle.spans.specs.Effects.{After}
-use Rattle.spans.specs.Keys.{in_span, with_value}
+use Rattle.spans.specs.Keys.{in_span}
 use Rattle.spans.specs.declared.span.Span.{Span}
 use Rattle.spans.proofs.Keyed.{IsIn, RisingKeys}
 use Rattle.version_chain.specs.Chains.{Entry, chain_of}
@@ -17,7 +18,7 @@ use Rattle.version_chain.proofs.InSpans.{chain_among, key_among}
 use Rattle.mvto_rules.specs.Scans.{entries_of, first_blocker, keys_in}
 use Rattle.mvto_rules.specs.Sights.{sight_of}
 use Rattle.mvto_rules.specs.declared.sight.Sight.TheVariants as sights
-use Rattle.mvto_rules.proofs.Seeing.{IsThere, blocked_is, blocker_is, chain_newest, found_there, is_stopped}
+use Rattle.mvto_rules.proofs.Seeing.{IsThere, blocked_is, chain_newest, found_there, is_stopped}
 
 -- what stands at an entry's key
 pub there_at : (s : Stored) (t m : ℕ) (x : List ℕ) (vs : List Version) (o : Option (Bor Version)) → chain_of s x ≡ vs → m ≡ t → MatchOption o (IsNoneUpTo vs m) (λ v. IsNewestOf vs m v.now) → IfSome (option_copied o) (λ v. 1 ≤ v.ts)
@@ -26,17 +27,11 @@ there_at s t m x vs o is same newest named = found_there s x t m o same (chain_n
 
 -- it stops the reader
 pub stopped_at : (s : Stored) (t n : ℕ) (x : List ℕ) (xs : List (List ℕ)) (o : Option Version) → 0 < t → IsThere (version_in s x) (is_committed_in s x) t o → sights.Blocked n ≡ sight_of t o → first_blocker s t (x ∷ xs) ≡ Some n
-stopped_at s t n x xs o low there is =
-    let stops = blocker_is (version_in s x) (is_committed_in s x) t o n low there is in
-    ap (λ b. cond b (Some (newest_in s t x).ts) (first_blocker s t xs)) stops.1 ∙ ap Some stops.0
+stopped_at s t n x xs o low there is = grind (arith, common_steps)
 
 -- or it doesn't
 pub passed_at : (s : Stored) (t : ℕ) (x : List ℕ) (xs : List (List ℕ)) (o : Option Version) → IsThere (version_in s x) (is_committed_in s x) t o → is_stopped (sight_of t o) ≡ false → first_blocker s t (x ∷ xs) ≡ first_blocker s t xs
 passed_at s t x xs o there free = ap (λ b. cond b (Some (newest_in s t x).ts) (first_blocker s t xs)) (blocked_is (version_in s x) (is_committed_in s x) t o there ∙ free)
-
-pub row_more : (xs rows : List (List ℕ × List ℕ)) (x : List ℕ) (a : After) → (xs ++ with_value x a []) ++ rows ≡ xs ++ with_value x a rows
-row_more xs rows x None = append_assoc xs [] rows
-row_more xs rows x (Some v) = append_assoc xs ((x, v) ∷ []) rows
 
 -- ---- the entries of a span
 

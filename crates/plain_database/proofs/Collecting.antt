@@ -1,21 +1,18 @@
 -- What a database holds after a collection, and how many versions that leaves dead.
-use Rattle.std.proofs.Common.{◌≡◌, ℕ, ◌+◌, ◌-◌, ◌^◌, ◌≤◌, ◌&&◌, List, ◌∷◌, length, refl, sym, ◌∙◌, ap, arith, inl, inr}
-use Rattle.timestamps.specs.declared.ts.TheConstants.{MAX}
-use Rattle.std.specs.Prelude.{is_some, min, nat_lt}
+use Rattle.std.proofs.lemmas.Grind.{common_steps}
+use Rattle.std.proofs.Common.{◌≡◌, ℕ, ◌+◌, ◌-◌, ◌^◌, ◌≤◌, ◌&&◌, List, ◌∷◌, length, refl, sym, ◌∙◌, ap, arith}
+use Rattle.std.specs.Prelude.{min}
 use Rattle.spans.specs.declared.calls.commands.Cmd.TheVariants.{Collect}
 use Rattle.spans.specs.declared.calls.replies.Reply.{Reply}
-use Rattle.spans.specs.declared.calls.replies.Reply.TheVariants.{Collected, Refused}
-use Rattle.spans.specs.declared.calls.replies.Refusal.TheVariants.{NoMemory, TsRange}
+use Rattle.spans.specs.declared.calls.replies.Reply.TheVariants.{Collected}
 use Rattle.spans.specs.declared.calls.events.Event.{Event}
 use Rattle.spans.specs.Collection.{VersionName, collection_horizon, dead_of, horizon_of, is_delete}
 use Rattle.spans.specs.Effects.{Collects, Effect, NoEffect, effect, effects_of, event}
 use Rattle.spans.specs.Legal.{IsRightEvent}
-use Rattle.spans.specs.Newest.{Version as Seen, newest}
 use Rattle.spans.specs.Transactions.{closed_of}
 use Rattle.spans.specs.Versions.{version_of}
 use Rattle.spans.proofs.Copies.{AllAllowed}
 use Rattle.spans.proofs.Legal.{legal_allowed}
-use Rattle.spans.proofs.Steps.{by_test, newest_same}
 use Rattle.spans.proofs.Horizon.{horizon_low}
 use Rattle.plain_versions.specs.Chains.{version_at}
 use Rattle.plain_versions.specs.Dying.{IsDeathCount, is_between, is_delete_between, replaces_between}
@@ -38,10 +35,7 @@ same_delete : (db : PlainDatabase) (p : List Effect) → IsTied db p → (n : �
 same_delete db p tied n v = ap (λ o. is_between db.horizon n v.ts && is_delete o) (tied.versions v.key v.ts) ∙ ap (λ low. is_between low n v.ts && is_delete (version_of p v.key v.ts)) tied.horizon_at
 
 same_replaced : (db : PlainDatabase) (p : List Effect) → IsTied db p → (n : ℕ) (v : VersionName) → replaces_between (version_at db.chains) db.horizon n v ≡ replaces_between (version_of p) (horizon_of p) n v
-same_replaced db p tied n v =
-    ap (λ o. is_between db.horizon n v.ts && (is_some o && is_some (newest (version_at db.chains v.key) (v.ts - 1)).after)) (tied.versions v.key v.ts)
-    ∙ ap (λ (m : Seen). is_between db.horizon n v.ts && (is_some (version_of p v.key v.ts) && is_some m.after)) (newest_same (version_at db.chains v.key) (version_of p v.key) (v.ts - 1) (λ i low. tied.versions v.key i))
-    ∙ ap (λ low. is_between low n v.ts && (is_some (version_of p v.key v.ts) && is_some (newest (version_of p v.key) (v.ts - 1)).after)) tied.horizon_at
+same_replaced db p tied n v = grind (arith, common_steps)
 
 -- so many die
 pub died_between : (db : PlainDatabase) (p : List Effect) → AllAllowed p → IsTied db p → (to n removed : ℕ) → n ≡ collection_horizon p to → IsDeathCount (version_at db.chains) db.horizon n removed
@@ -59,19 +53,7 @@ died_between db p all tied to n removed is counted =
 -- the horizon moves
 tied_collects : (db : PlainDatabase) (p : List Effect) (to n removed : ℕ) → AllAllowed p → IsTied db p → n ≡ collection_horizon p to → removed ≡ length (dead_of (Collects n ∷ p)) - length (dead_of p)
     → IsTied (record db { horizon = n; dead = min (db.dead + removed) (2 ^ 64 - 1) }) (Collects n ∷ p)
-tied_collects db p to n removed all tied is died = record {
-  closed_at = tied.closed_at;
-  owners = tied.owners;
-  committed = tied.committed;
-  aborted = tied.aborted;
-  keys = tied.keys;
-  versions = tied.versions;
-  reads = tied.reads;
-  horizon_at = refl;
-  dead_count = (let r = reaches p all to n is in omega (arith, tied.dead_count, dead_then_is p all, died, dead_rises p all n r.rises));
-  feeds = feeds_kept db.feeds p (Collects n) tt tied.feeds;
-  protections = protections_kept db.protections p (Collects n) tt tied.protections;
-}
+tied_collects db p to n removed all tied is died = grind (arith, common_steps, reaches, dead_then_is, dead_rises, feeds_kept, protections_kept)
 
 -- what a right collection reached, and how many it says that it removed
 record IsCollected (p : List Effect) (to n removed : ℕ) : Type 0 where
@@ -79,26 +61,12 @@ record IsCollected (p : List Effect) (to n removed : ℕ) : Type 0 where
   pub died : removed ≡ length (dead_of (Collects n ∷ p)) - length (dead_of p)
 
 collected : (p : List Effect) (k seat to n removed : ℕ) → IsRightEvent p (event k seat (Collect to) (Collected n removed)) → IsCollected p to n removed
-collected p k seat to n removed right = elim right [
-  | inl is ↦ by_test (nat_lt MAX to)
-      (λ high. absurd (let no' : Collected n removed ≡ Refused TsRange = rw high at is in cc))
-      (λ low.
-      let same : Collected n removed ≡ Collected (collection_horizon p to) (length (dead_of (Collects (collection_horizon p to) ∷ p)) - length (dead_of p)) = rw low at is in
-      let reached : n ≡ collection_horizon p to = cc in
-      let died : removed ≡ length (dead_of (Collects (collection_horizon p to) ∷ p)) - length (dead_of p) = cc in
-      record { reached = reached; died = died ∙ ap (λ m. length (dead_of (Collects m ∷ p)) - length (dead_of p)) (sym reached) })
-  | inr want ↦ absurd (let no' : Collected n removed ≡ Refused NoMemory = want.0 in cc)
-]
+collected p k seat to n removed right = grind (arith, common_steps)
 
 -- a collection
 pub stands_collects : (db : PlainDatabase) (h : List Event) (dead k seat to n removed : ℕ) → dead ≡ min (db.dead + removed) (2 ^ 64 - 1)
     → StandsFor db h → IsRightEvent (effects_of h) (event k seat (Collect to) (Collected n removed)) → StandsFor (record db { horizon = n; dead = dead }) (event k seat (Collect to) (Collected n removed) ∷ h)
-stands_collects db h dead k seat to n removed is stands right =
-    let c = collected (effects_of h) k seat to n removed right in
-    record {
-      legal = (right, stands.legal);
-      tied = rw is (tied_collects db (effects_of h) to n removed (legal_allowed h stands.legal) stands.tied c.reached c.died);
-    }
+stands_collects db h dead k seat to n removed is stands right = grind (arith, common_steps, collected, tied_collects, legal_allowed)
 
 -- another reply does nothing
 pub collect_does_nothing : (seat to : ℕ) (reply : Reply) → ((n removed : ℕ) → reply ≡ Collected n removed → ⊥) → effect seat (Collect to) reply ≡ NoEffect

@@ -1,4 +1,5 @@
 -- The chains have as many versions as the history, and as many of each transaction.
+use Rattle.std.proofs.lemmas.Grind.{common_steps}
 use Rattle.std.proofs.Common.{◌≡◌, ℕ, ◌≤◌, ◌==◌, ◌||◌, Bool, true, false, ◌&&◌, List, [], ◌∷◌, length, Option, Some, None, refl, sym, ◌∙◌, ap, inl, inr, arith}
 use Rattle.std.specs.Prelude.{bytes_eq, is_some}
 use Rattle.std.proofs.lemmas.Bool.{eqb-true, and_parts, or_parts}
@@ -29,10 +30,7 @@ use Rattle.plain_database.specs.Tied.{IsTied}
 
 pub all_versions : (db : PlainDatabase) (p : List Effect) → AllAllowed p → IsTied db p → (n : ℕ) → IsCountOf (is_version db.chains) n → n ≡ length (versions_of p)
 all_versions db p all tied n c =
-    sym c.count ∙ same_length c.all (versions_of p) c.distinct (versions_distinct p all) (λ v. let here = c.each v in let there = has_versions p all v in (
-      λ i. there.1 (sym (ap is_some (tied.versions v.key v.ts)) ∙ here.0 i),
-      λ i. here.1 (ap is_some (tied.versions v.key v.ts) ∙ there.0 i),
-    ))
+    sym c.count ∙ same_length c.all (versions_of p) c.distinct (versions_distinct p all) (λ v. let here = c.each v in let there = has_versions p all v in grind (arith, common_steps))
 
 -- ---- those of a transaction
 
@@ -49,9 +47,7 @@ count_is db p tied t n live c =
 -- no test applies, so each says no
 none_holds : (tests : List (Bool × Refusal)) (test : Bool × Refusal) → None ≡ first_refusal tests → Has test tests → test.0 ≡ false
 none_holds [] test none i = absurd i
-none_holds (first ∷ tests) test none i = by_test first.0
-    (λ is. let no : None ≡ Some first.1 = rw is at none in cc)
-    (λ isnt. elim i [ inl here ↦ sym (ap (λ (one : Bool × Refusal). one.0) here) ∙ isnt | inr there ↦ none_holds tests test (rw isnt at none) there ])
+none_holds (first ∷ tests) test none i = grind (arith, common_steps, none_holds tests test)
 
 -- what a commit is answered that no test refuses
 pub commit_answers : (db : PlainDatabase) (p : List Effect) (seat t n : ℕ) → IsTied db p → None ≡ first_refusal (transaction_tests p seat t) → IsCountOf (wrote db.chains t) n → Committed n ≡ answer_of p seat (Commit t)

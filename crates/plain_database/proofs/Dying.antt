@@ -1,6 +1,7 @@
 -- How many versions die as a collection takes the horizon further, and that nothing else changes how many are dead.
+use Rattle.std.proofs.lemmas.Grind.{common_steps}
 use Rattle.std.proofs.Common.{◌≡◌, ℕ, ◌+◌, ◌-◌, ◌<◌, ◌≤◌, ◌⊎◌, ◌==◌, Bool, true, false, not, ◌&&◌, ◌||◌, List, [], ◌∷◌, ◌++◌, length, map, Option, Some, None, refl, sym, ◌∙◌, ap, subst, inl, inr, arith}
-use Rattle.std.specs.Prelude.{◌↔◌, filter, is_none, is_some, nat_le, nat_lt}
+use Rattle.std.specs.Prelude.{◌↔◌, filter, is_some, nat_le, nat_lt}
 use Rattle.std.proofs.lemmas.Bool.{and_from, and_parts, eqb-true, leb-true, le-leb, lt-ltb, ltb-true}
 use Rattle.std.proofs.lemmas.Bool.Decides.{nat_tests}
 use Rattle.std.proofs.lemmas.List.{length-append, length-map}
@@ -8,8 +9,8 @@ use Rattle.std.proofs.Math.Bool.{and-false}
 use Rattle.spans.specs.Collection.{VersionName, version_name, versions_of, dead_of, is_dead, is_delete, horizon_of}
 use Rattle.spans.specs.Effects.{After, Effect, Begins, Collects}
 use Rattle.spans.specs.Newest.{Version as Seen, newest}
-use Rattle.spans.specs.Transactions.{closed_of, is_committed, owner_of}
-use Rattle.spans.specs.Versions.{version_of, write_of, committed_version_of}
+use Rattle.spans.specs.Transactions.{closed_of, owner_of}
+use Rattle.spans.specs.Versions.{version_of, committed_version_of}
 use Rattle.spans.proofs.Closed.{closed_committed, closed_version, wrote_begun}
 use Rattle.spans.proofs.Copies.{AllAllowed, closed_stays, not_both}
 use Rattle.spans.proofs.Members.{Has, AreDistinct, distinct_append, distinct_filter, fits_in, has_append, has_filter, same_length}
@@ -25,10 +26,7 @@ use Rattle.plain_database.proofs.Replacing.{dead_by, dies, delete_dies, replaced
 
 has_map : {A B : Type 0} (g : A → B) (y : B) (xs : List A) → Has y (map g xs) ↔ ((x : A) × Has x xs × (g x ≡ y))
 has_map g y [] = (λ i. absurd i, λ i. absurd i.1)
-has_map g y (x ∷ xs) = let more = has_map g y xs in (
-  λ i. elim i [ inl here ↦ (x, inl refl, here) | inr there ↦ (let m = more.0 there in (m.0, inr m.1, m.2)) ],
-  λ i. elim i.1 [ inl here ↦ inl (ap g here ∙ i.2) | inr there ↦ inr (more.1 (i.0, there, i.2)) ],
-)
+has_map g y (x ∷ xs) = grind (arith, common_steps, has_map g y xs)
 
 distinct_map : {A B : Type 0} (g : A → B) (xs : List A) → ((x y : A) → Has x xs → Has y xs → g x ≡ g y → x ≡ y) → AreDistinct xs → AreDistinct (map g xs)
 distinct_map g [] one d = tt
@@ -42,9 +40,7 @@ distinct_map g (x ∷ xs) one d = (
 -- what began is above 0
 begun_positive : (p : List Effect) → AllAllowed p → (t : ℕ) → is_some (owner_of p t) ≡ true → 0 < t
 begun_positive [] all t is = cc
-begun_positive (Begins k seat ∷ p) all t is = by_test (k == t)
-    (λ same. omega (arith, eqb-true k t same, all.0.2))
-    (λ other. begun_positive p all.1 t (rw other at is))
+begun_positive (Begins k seat ∷ p) all t is = grind (arith, common_steps, begun_positive p all.1 t)
 begun_positive (_ ∷ p) all t is = begun_positive p all.1 t is
 
 -- and so is what has a version
@@ -57,12 +53,7 @@ joined c true d d' w w' hc hd hw = rw (hc refl, hd refl, hw) refl
 
 -- at or below closed a version's name says as much of whether it is dead as the versions of its key
 dead_as : (p : List Effect) → AllAllowed p → (m : ℕ) → m ≤ closed_of p → (x : List ℕ) (i : ℕ) (a : After) → version_of p x i ≡ Some a → is_dead (Collects m ∷ p) (version_name x i) ≡ dead_by (version_of p x) m i a
-dead_as p all m low x i a is =
-    let top : (newest (committed_version_of p x) m).ts ≡ (newest (version_of p x) m).ts = ap (λ (n : Seen). n.ts) (newest_same (committed_version_of p x) (version_of p x) m (λ j under. sym (closed_version p all x j (omega arith)))) in
-    joined (is_committed p i) (nat_le i m) (is_delete (write_of p i x)) (is_none a) (nat_lt i (newest (committed_version_of p x) m).ts) (nat_lt i (newest (version_of p x) m).ts)
-    (λ under. closed_committed p all x i a is (omega (arith, low, leb-true i m under)))
-    (λ under. ap is_delete (version_wrote p x i a is).1)
-    (ap (nat_lt i) top)
+dead_as p all m low x i a is = grind (arith, common_steps, newest_same, closed_version, joined, closed_committed, leb-true, version_wrote)
 
 -- ---- what a collection adds
 
@@ -131,10 +122,7 @@ replaced_newly p all n low through w is =
     let range : (nat_lt (horizon_of p) w.ts ≡ true) × (nat_le w.ts n ≡ true) = and_parts _ _ parts.0 in
     let both : (is_some (version_of p w.key w.ts) ≡ true) × (is_some (newest (version_of p w.key) (w.ts - 1)).after ≡ true) = and_parts _ _ parts.1 in
     let r = replaced_dies (version_of p w.key) (horizon_of p) n w.ts (ltb-true _ _ range.0) (leb-true _ _ range.1) both.0 both.1 in
-    record {
-      is = and_from _ _ (dead_as p all n through w.key _ _ r.left ∙ r.dead) (ap not (dead_as p all (horizon_of p) (omega arith) w.key _ _ r.left ∙ r.live));
-      stands = ap is_some r.left;
-    }
+    grind (arith, common_steps, and_from, dead_as)
 
 -- nothing else dies
 newly_is : (p : List Effect) → AllAllowed p → (n : ℕ) → horizon_of p ≤ n → n ≤ closed_of p → (v : VersionName) → Dies p n v
@@ -214,16 +202,7 @@ is_gone p v =
     && (nat_le v.ts (horizon_of p) && (is_delete (committed_version_of p v.key v.ts) || nat_lt v.ts (newest (committed_version_of p v.key) (horizon_of p)).ts))
 
 has_dead : (p : List Effect) → AllAllowed p → (v : VersionName) → Has v (dead_of p) ↔ (is_gone p v ≡ true)
-has_dead p all v = let f = has_filter (is_dead p) v (versions_of p) in let h = has_versions p all v in by_test (is_committed p v.ts)
-    (λ done. let same : version_of p v.key v.ts ≡ write_of p v.ts v.key = rw (not_both p all v.ts done) refl in
-    rw done (
-      λ i. let dead = rw done at (f.0 i).0 in and_from _ _ (sym (ap is_some same) ∙ h.0 (f.0 i).1) dead,
-      λ is. let parts = and_parts _ _ is in f.1 (rw done parts.1, h.1 (ap is_some same ∙ parts.0)),
-    ))
-    (λ open'. rw open' (
-      λ i. absurd (let no' : false ≡ true = rw open' at (f.0 i).0 in cc),
-      λ is. absurd (let no' : false ≡ true = is in cc),
-    ))
+has_dead p all v = let f = has_filter (is_dead p) v (versions_of p) in let h = has_versions p all v in grind (arith, common_steps, by_test, not_both, and_from, and_parts)
 
 -- an effect that leaves the horizon leaves as many dead
 pub dead_same : (p : List Effect) (e : Effect) → AllAllowed (e ∷ p) → horizon_of (e ∷ p) ≡ horizon_of p → length (dead_of (e ∷ p)) ≡ length (dead_of p)

@@ -1,11 +1,12 @@
 -- The rows that a feed was not told are those of the chains from its place on.
+use Rattle.std.proofs.lemmas.Grind.{common_steps}
 use Rattle.std.proofs.Common.{◌≡◌, ℕ, suc, ◌-◌, ◌<◌, ◌≤◌, ◌==◌, Bool, true, false, cond, ◌&&◌, List, ◌++◌, length, take, max, Option, Some, None, refl, sym, ◌∙◌, ap, subst, inl, inr, arith}
 use Rattle.std.specs.Prelude.{nat_lt, if◌then◌else◌}
-use Rattle.std.proofs.lemmas.Bool.{and_from, and_parts, or_left, lt-ltb, ltb-true, ltb-false, leb-true, le-leb, le-ltb, eq-eqb}
+use Rattle.std.proofs.lemmas.Bool.{and_from, and_parts, or_left, lt-ltb, ltb-true, ltb-false, le-leb, le-ltb, eq-eqb}
 use Rattle.std.proofs.lemmas.List.{length-take}
 use Rattle.timestamps.specs.declared.row.Row.{Row}
 use Rattle.spans.specs.Collection.{VersionName}
-use Rattle.spans.specs.Consumer.{is_after_name, name_lt}
+use Rattle.spans.specs.Consumer.{is_after_name}
 use Rattle.spans.specs.Effects.{Effect, After}
 use Rattle.spans.specs.Feeds.{feed_of, told_to, start_at, untold_rows}
 use Rattle.spans.specs.Kept.{place_with}
@@ -44,28 +45,12 @@ left_is p f x r told = ap (λ (t : Told). is_left t r) told
 -- behind a timestamp, and behind the last row where that is above it, is behind the place of both
 behind_both : (n : ℕ) (o : Option VersionName) (r : Row) → n < r.ts → is_after_name o r ≡ true → is_after (max n (row_ts o)) (key_above n o) r.key r.ts ≡ true
 behind_both n None r above after = lt-ltb (max n 0) r.ts (omega arith)
-behind_both n (Some row) r above after = by_test (nat_lt n row.ts)
-    (λ over.
-    let less : n < row.ts = ltb-true n row.ts over in
-    let same : max n row.ts ≡ row.ts = omega arith in
-    rw (over, same) after)
-    (λ under. let low : row.ts ≤ n = ltb-false n row.ts under in rw under (lt-ltb (max n row.ts) r.ts (omega arith)))
+behind_both n (Some row) r above after = grind (arith, common_steps)
 
 -- and what is behind the place is behind both
 both_behind : (n : ℕ) (o : Option VersionName) (r : Row) → is_after (max n (row_ts o)) (key_above n o) r.key r.ts ≡ true → (n < r.ts) × (is_after_name o r ≡ true)
 both_behind n None r after = let above : max n 0 < r.ts = ltb-true _ _ after in (omega arith, refl)
-both_behind n (Some row) r after = by_test (nat_lt n row.ts)
-    (λ over.
-    let less : n < row.ts = ltb-true n row.ts over in
-    let same : max n row.ts ≡ row.ts = omega arith in
-    let behind : name_lt row r ≡ true = rw (over, same) at after in
-    let low : row.ts ≤ r.ts = name_order row r behind in
-    (omega arith, behind))
-    (λ under.
-    let low : row.ts ≤ n = ltb-false n row.ts under in
-    let plain : nat_lt (max n row.ts) r.ts ≡ true = rw under at after in
-    let above : max n row.ts < r.ts = ltb-true (max n row.ts) r.ts plain in
-    (omega arith, or_left (nat_lt row.ts r.ts) _ (lt-ltb row.ts r.ts (omega arith))))
+both_behind n (Some row) r after = grind (arith, common_steps)
 
 -- ---- a committed version
 
@@ -79,10 +64,7 @@ committed_there done o e is = rw e is
 -- ---- which feeds are in their snapshot
 
 pub is_in_snapshot : (x : FeedRecord) → tells_snapshot x ≡ true → (x.kind.initial ≡ true) × (x.told.resolved < x.cursor) × (row_ts x.told.row ≤ x.cursor)
-is_in_snapshot x tells =
-    let parts = and_parts x.kind.initial _ tells in
-    let more = and_parts (nat_lt x.told.resolved x.cursor) _ parts.1 in
-    (parts.0, ltb-true x.told.resolved x.cursor more.0, leb-true (row_ts x.told.row) x.cursor more.1)
+is_in_snapshot x tells = grind (arith, common_steps)
 
 snapshot_told : (x : FeedRecord) (r : Row) → tells_snapshot x ≡ false → x.kind.initial ≡ true → r.ts ≡ x.cursor → is_left x.told r ≡ true → ⊥
 snapshot_told x r told initial at left =
@@ -215,6 +197,4 @@ module _ (table : Table) (stored : Stored) (p : List Effect) (tied : (y : List �
 -- ---- as far as max
 
 pub both_first : (m n : ℕ) (firsts rows xs ys : List Row) → firsts ≡ take m xs → n ≡ m - length firsts → rows ≡ take n ys → firsts ++ rows ≡ take m (xs ++ ys)
-both_first m n firsts rows xs ys first rest more =
-    let left : n ≡ m - length xs = omega (arith, ap length first, length-take m xs) in
-    ap (λ (l : List Row). l ++ rows) first ∙ ap (λ (l : List Row). take m xs ++ l) (more ∙ ap (λ k. take k ys) left) ∙ take_both m xs ys
+both_first m n firsts rows xs ys first rest more = grind (arith, common_steps, length-take, take_both)

@@ -1,5 +1,6 @@
 -- The limit of a legal history is how far a collection up to closed goes.
-use Rattle.std.proofs.Common.{◌≡◌, ℕ, ◌<◌, ◌≤◌, cond, List, [], ◌∷◌, ◌++◌, map, reverse, refl, sym, ◌∙◌, ap, inl, inr, arith}
+use Rattle.std.proofs.lemmas.Grind.{common_steps}
+use Rattle.std.proofs.Common.{◌≡◌, ℕ, ◌<◌, ◌≤◌, cond, List, [], ◌∷◌, ◌++◌, map, reverse, refl, sym, ◌∙◌, ap, arith}
 use Rattle.std.specs.Prelude.{nat_lt, min, max}
 use Rattle.std.proofs.lemmas.Bool.{ltb-true, ltb-false}
 use Rattle.std.proofs.lemmas.List.{reverse-append, map-append}
@@ -35,16 +36,12 @@ first_at l (m ∷ ms) = first_at (cond (nat_lt m.at l.at) m l) ms ∙ ap (λ n. 
 -- in the other order
 least_turned : {A : Type 0} (n : ℕ) (f : A → ℕ) (xs : List A) → least_of n (map f (reverse xs)) ≡ least_of n (map f xs)
 least_turned n f [] = refl
-least_turned n f (x ∷ xs) =
-    ap (λ l. least_of n (map f l)) (reverse-append (x ∷ []) xs) ∙ ap (least_of n) (map-append f (reverse xs) (x ∷ [])) ∙ least_join n (map f (reverse xs)) (f x ∷ [])
-    ∙ least_more (f x) n (map f (reverse xs)) ∙ ap (min (f x)) (least_turned n f xs)
+least_turned n f (x ∷ xs) = grind (arith, common_steps, reverse-append, map-append, least_join, least_more, least_turned n f xs)
 
 -- what is at or below each is at or below the least
 pub least_over : {A : Type 0} (k n : ℕ) (f : A → ℕ) (xs : List A) → k ≤ n → ((x : A) → Has x xs → k ≤ f x) → k ≤ least_of n (map f xs)
 least_over k n f [] low each = low
-least_over k n f (x ∷ xs) low each =
-    let here : k ≤ f x = each x (inl refl) in
-    let more : k ≤ least_of n (map f xs) = least_over k n f xs low (λ y i. each y (inr i)) in omega arith
+least_over k n f (x ∷ xs) low each = grind (arith, common_steps, least_over k n f xs low)
 
 -- the timestamps of limits
 at_protections : (ps : List Protection) → map (λ (m : Limit). m.at) (map protection_limit ps) ≡ map (λ (n : Protection). n.at) ps

@@ -1,6 +1,7 @@
 -- What the readers of a key, and the reads of all keys, say after one more.
-use Rattle.std.proofs.Common.{◌≡◌, ℕ, Bool, true, false, cond, ◌&&◌, ◌||◌, List, [], ◌∷◌, Some, None, refl, sym, ◌∙◌, ap, subst, arith}
-use Rattle.std.specs.Prelude.{bytes_eq, filter, min, nat_lt}
+use Rattle.std.proofs.Common.{rules}
+use Rattle.std.proofs.Common.{◌≡◌, ℕ, Bool, true, false, cond, ◌&&◌, ◌||◌, List, [], ◌∷◌, Some, None, refl, sym, ◌∙◌, ap, arith}
+use Rattle.std.specs.Prelude.{filter, min, nat_lt}
 use Rattle.std.specs.List.Sorted.{IsStrictlySortedBy}
 use Rattle.std.specs.Map.{lookup, keys_of}
 use Rattle.std.specs.BTreeMap.{is_at, insert_entry}
@@ -18,7 +19,7 @@ use Rattle.std.proofs.lemmas.Map.Text.{is_eq-slice_cmp}
 use Rattle.std.proofs.Math.Bool.{or_assoc}
 use Rattle.timestamps.specs.Bytes.{key_cmp}
 use Rattle.spans.proofs.Steps.{by_test, same_key}
-use Rattle.plain_database.specs.Reads.{lies_between, is_read_across, least_with, least_source, KeyReads, across_in, goes_across, HasReadToo}
+use Rattle.plain_database.specs.Reads.{lies_between, is_read_across, least_with, least_source, KeyReads, goes_across, HasReadToo}
 
 -- the lower of two sources lets more through than either
 lower_source : (k n i j : ℕ) → lies_between (min k n) i j ≡ (lies_between k i j || lies_between n i j)
@@ -77,9 +78,4 @@ ArePut reads reads' x w = (q : List ℕ) → lookup (is_at (key_cmp q)) reads' �
 -- one more reader of one key
 pub one_more_read : (reads reads' : KeyReads) (x : List ℕ) (w : List (ℕ × ℕ)) (j k : ℕ) → ArePut reads reads' x w
     → ((i : ℕ) → is_read_across w i ≡ (lies_between k i j || goes_across reads x i)) → HasReadToo reads reads' j x k
-one_more_read reads reads' x w j k put more y i = ap (λ o. across_in o i) (put y) ∙ by_test (bytes_eq x y)
-    (λ here.
-    let at : is_at (key_cmp x) y ≡ true = is_eq-slice_cmp x y ∙ here in
-    let one : is_read_across w i ≡ (lies_between k i j || goes_across reads y i) = subst (λ z. is_read_across w i ≡ (lies_between k i j || goes_across reads z i)) (same_key x y here) (more i) in
-    rw (at, here) one)
-    (λ there. let off : is_at (key_cmp x) y ≡ false = is_eq-slice_cmp x y ∙ there in rw (off, there) refl)
+one_more_read reads reads' x w j k put more y i = search (by_test, is_eq-slice_cmp, same_key, rules, arith)

@@ -1,7 +1,8 @@
 -- Of the versions of a key: one replaces the newest below it, and none but the newest at or below a horizon has another above it.
+use Rattle.std.proofs.lemmas.Grind.{common_steps}
 use Rattle.std.proofs.Common.{◌≡◌, ℕ, zero, suc, ◌-◌, ◌<◌, ◌≤◌, ◌⊎◌, Bool, true, false, ◌&&◌, ◌||◌, Option, Some, None, refl, sym, ◌∙◌, ap, subst, inl, inr, arith}
 use Rattle.std.specs.Prelude.{is_none, is_some, nat_le, nat_lt}
-use Rattle.std.proofs.lemmas.Bool.{and_from, and_parts, both_ways, leb-false, leb-true, le-leb, lt-ltb, ltb-true, or_right}
+use Rattle.std.proofs.lemmas.Bool.{and_from, and_parts, both_ways, le-leb, lt-ltb, ltb-true, or_right}
 use Rattle.std.proofs.lemmas.Bool.Decides.{nat_tests}
 use Rattle.std.proofs.Math.Bool.{and-false}
 use Rattle.spans.specs.Effects.{After}
@@ -10,9 +11,7 @@ use Rattle.spans.proofs.Steps.{by_test, newest_is, newest_only, newest_rises}
 
 -- the newest version is at or above each that is in reach
 pub newest_reaches : (f : ℕ → Option After) (t i : ℕ) → i ≤ t → is_some (f i) ≡ true → i ≤ (newest f t).ts
-newest_reaches f t i low is = by_test (nat_lt (newest f t).ts i)
-    (λ below. absurd (let none : f i ≡ None = (newest_is f t).gap i (ltb-true _ _ below) low in let no' : false ≡ true = sym (ap is_some none) ∙ is in cc))
-    (λ isnt. grind (arith, nat_tests))
+newest_reaches f t i low is = grind (arith, common_steps, by_test, newest_is, ltb-true)
 
 -- a version j that comes after i, and before which i is the newest
 pub record Replaces (f : ℕ → Option After) (i n : ℕ) : Type 0 where
@@ -61,21 +60,12 @@ dead_by f n i a = nat_le i n && (is_none a || nat_lt i (newest f n).ts)
 -- why a version is dead by n that wasn't by low: a delete above low, or a value that one above low replaces
 pub dies : (f : ℕ → Option After) (low n i : ℕ) (a : After) → 0 < i → f i ≡ Some a → dead_by f n i a ≡ true → dead_by f low i a ≡ false
     → ((low < i) × (i ≤ n) × (a ≡ None)) ⊎ ((r : Replaces f i n) × (low < r.by) × (is_some a ≡ true))
-dies f low n i None some is dead live =
-    let through : nat_le i n ≡ true = (and_parts _ _ dead).0 in
-    let above : low < i = by_test (nat_le i low)
-    (λ under. absurd (let yes' : dead_by f low i None ≡ true = and_from _ _ under refl in both_ways _ live yes'))
-    (λ over. leb-false i low over) in
-    inl (above, leb-true i n through, refl)
+dies f low n i None some is dead live = grind (arith, common_steps)
 dies f low n i (Some v) some is dead live =
     let parts : (nat_le i n ≡ true) × (nat_lt i (newest f n).ts ≡ true) = and_parts _ _ dead in
     let r = next_version f n i (Some v) some is (ltb-true _ _ parts.1) in inr (
       r,
-      by_test (nat_lt low r.by)
-          (λ over. ltb-true _ _ over)
-          (λ under. absurd (let at : r.by ≤ low = grind (arith, nat_tests) in
-          let reach : r.by ≤ (newest f low).ts = newest_reaches f low r.by at r.stands in
-          both_ways _ live (and_from _ _ (le-leb i low (omega (arith, r.above, at))) (lt-ltb i _ (omega (arith, r.above, reach)))))),
+      grind (arith, common_steps, by_test, ltb-true, newest_reaches, both_ways, and_from, le-leb, lt-ltb),
       refl,
     )
 
@@ -114,7 +104,4 @@ replaced_dies f low n j above through stands value = elim (newest_is f (j - 1)).
 
 -- no two versions replace the same
 pub replaces_once : (f : ℕ → Option After) (i j : ℕ) → is_some (f i) ≡ true → 0 < i → i < j → (newest f (i - 1)).ts ≡ (newest f (j - 1)).ts → ⊥
-replaces_once f i j stands some below same =
-    let reach : i ≤ (newest f (j - 1)).ts = newest_reaches f (j - 1) i (omega arith) stands in
-    let under : (newest f (i - 1)).ts ≤ i - 1 = (newest_is f (i - 1)).at_most in
-    omega arith
+replaces_once f i j stands some below same = grind (arith, common_steps, newest_reaches, newest_is)

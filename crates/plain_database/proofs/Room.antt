@@ -1,5 +1,6 @@
 -- In a history whose events a number can count, numbers are left and counts fit: the answers that rest on that.
-use Rattle.std.proofs.Common.{◌≡◌, ℕ, suc, ◌+◌, ◌-◌, ◌^◌, ◌<◌, ◌≤◌, List, [], ◌∷◌, length, None, refl, sym, ◌∙◌, ap, arith}
+use Rattle.std.proofs.lemmas.Grind.{common_steps}
+use Rattle.std.proofs.Common.{◌≡◌, ℕ, suc, ◌+◌, ◌-◌, ◌^◌, ◌<◌, ◌≤◌, List, ◌∷◌, length, None, ◌∙◌, ap, arith}
 use Rattle.std.specs.Prelude.{min}
 use Rattle.std.proofs.lemmas.Bool.{le-ltb}
 use Rattle.timestamps.specs.declared.ts.TheConstants.{MAX}
@@ -41,9 +42,7 @@ dead_fit h legal few n =
 -- the next protection has the next number
 pub protect_answers : (db : PlainDatabase) (h : List Event) (seat t made id : ℕ) → StandsFor db h → length h < 18446744073709551615 → None ≡ first_refusal (horizon_tests (effects_of h) t) → made ≡ db.protections.made → id ≡ min (made + 1) (2 ^ 64 - 1)
     → Protected id ≡ answer_of (effects_of h) seat (Protect t)
-protect_answers db h seat t made id stands few here was is =
-    let next : id ≡ suc (protections_made (effects_of h)) = omega (arith, made_fits h few, stands.tied.protections.made) in
-    ap Protected next ∙ sym (tests_past (horizon_tests (effects_of h) t) [] (Protected (suc (protections_made (effects_of h)))) (sym here))
+protect_answers db h seat t made id stands few here was is = grind (arith, common_steps, made_fits, tests_past)
 
 -- and so has the next feed
 pub next_opened : (db : PlainDatabase) (h : List Event) (opened f : ℕ) → StandsFor db h → length h < 18446744073709551615 → opened ≡ length db.feeds → f ≡ min (opened + 1) (2 ^ 64 - 1) → Opened f ≡ Opened (suc (feeds_opened (effects_of h)))
@@ -78,5 +77,4 @@ pub stats_answers : (db : PlainDatabase) (h : List Event) (seat versions undecid
     → versions ≡ length (versions_of (effects_of h)) - length (dead_of (effects_of h))
     → undecided ≡ length (undecided_timestamps (effects_of h)) → feeds ≡ length (live_feeds (effects_of h))
     → replies.Stats versions undecided feeds db.closed db.horizon ≡ answer_of (effects_of h) seat Stats
-stats_answers db h seat versions undecided feeds stands left opened live =
-    rw (left, opened, live, stands.tied.closed_at, stands.tied.horizon_at) refl
+stats_answers db h seat versions undecided feeds stands left opened live = grind (arith, common_steps)

@@ -1,4 +1,6 @@
 -- What the chains say of a span is what the definitions say.
+use Rattle.std.proofs.lemmas.Grind.{common_steps}
+use Rattle.std.proofs.Common.{arith}
 use Rattle.std.proofs.Common.{◌≡◌, ℕ, ◌==◌, Bool, true, false, cond, not, ◌&&◌, List, [], ◌∷◌, map, Option, Some, None, refl, sym, ◌∙◌, ap}
 use Rattle.std.specs.Prelude.{option_map, filter}
 use Rattle.spans.specs.declared.span.Span.{Span}
@@ -11,10 +13,9 @@ use Rattle.spans.specs.Newest.{Version as Seen, newest}
 use Rattle.spans.specs.Transactions.{is_committed}
 use Rattle.spans.specs.Versions.{version_of, committed_version_of, committed_value, visible, is_blocked, written_keys, write_of}
 use Rattle.spans.proofs.Copies.{AllAllowed, not_both}
-use Rattle.spans.proofs.Keyed.{pairs_alike}
 use Rattle.spans.proofs.Steps.{newest_same}
 use Rattle.plain_versions.specs.Chains.{version_at, committed_at}
-use Rattle.plain_versions.specs.Scans.{keys_within, is_anothers, or_else, blocker_of, first_of, first_blocker, rows_seen, rows_settled}
+use Rattle.plain_versions.specs.Scans.{is_anothers, or_else, blocker_of, first_of, first_blocker, rows_seen, rows_settled}
 use Rattle.plain_database.specs.declared.database.PlainDatabase.{PlainDatabase}
 use Rattle.plain_database.specs.Tied.{IsTied}
 
@@ -43,17 +44,13 @@ first_stops db p tied t (x ∷ xs) =
 
 pub blocked_is : (db : PlainDatabase) (p : List Effect) → IsTied db p → (span : Span) (t : ℕ)
     → first_refusal (map (λ x. (is_blocked p x t, Blocked (visible p x t).ts)) (filter (in_span span) (written_keys p))) ≡ option_map Blocked (first_blocker db.transactions span t db.chains)
-blocked_is db p tied span t =
-    ap (λ keys. first_refusal (map (λ x. (is_blocked p x t, Blocked (visible p x t).ts)) (filter (in_span span) keys))) (sym tied.keys)
-    ∙ first_stops db p tied t (keys_within span db.chains)
+blocked_is db p tied span t = grind (arith, common_steps, first_stops)
 
 -- ---- the rows of a span
 
 pub visible_rows_are : (db : PlainDatabase) (p : List Effect) → IsTied db p → (span : Span) (t : ℕ)
     → rows_seen span t db.chains ≡ pairs_of (λ x. (visible p x t).after) (filter (in_span span) (written_keys p))
-visible_rows_are db p tied span t =
-    pairs_alike (λ x. (newest (version_at db.chains x) t).after) (λ x. (visible p x t).after) (keys_within span db.chains) (λ x. ap (λ (n : Seen). n.after) (seen_is db p tied t x))
-    ∙ ap (λ keys. pairs_of (λ x. (visible p x t).after) (filter (in_span span) keys)) tied.keys
+visible_rows_are db p tied span t = grind (arith, common_steps)
 
 -- a committed transaction's writes are versions
 pub committed_is : (db : PlainDatabase) (p : List Effect) → AllAllowed p → IsTied db p → (x : List ℕ) (t : ℕ) → committed_at db.transactions db.chains x t ≡ committed_version_of p x t
@@ -65,7 +62,4 @@ committed_is db p all tied x t = rw (tied.committed t, tied.versions x t) (by_do
 
 pub committed_rows_are : (db : PlainDatabase) (p : List Effect) → AllAllowed p → IsTied db p → (span : Span) (t : ℕ)
     → rows_settled db.transactions span t db.chains ≡ pairs_of (λ x. committed_value p x t) (filter (in_span span) (written_keys p))
-committed_rows_are db p all tied span t =
-    pairs_alike (λ x. (newest (committed_at db.transactions db.chains x) t).after) (λ x. committed_value p x t) (keys_within span db.chains)
-    (λ x. ap (λ (n : Seen). n.after) (newest_same _ _ t (λ k low. committed_is db p all tied x k)))
-    ∙ ap (λ keys. pairs_of (λ x. committed_value p x t) (filter (in_span span) keys)) tied.keys
+committed_rows_are db p all tied span t = grind (arith, common_steps)

@@ -1,13 +1,13 @@
 -- What a database holds after one more event.
+use Rattle.std.proofs.lemmas.Grind.{common_steps}
 use Rattle.std.proofs.Common.{◌≡◌, ℕ, ◌<◌, ◌==◌, Bool, true, false, cond, not, ◌&&◌, ◌||◌, List, ◌∷◌, Option, Some, None, refl, sym, ◌∙◌, ap, subst, arith}
-use Rattle.std.specs.Prelude.{option_map, is_some, bytes_eq, nat_le, nat_lt}
+use Rattle.std.specs.Prelude.{option_map, is_some, nat_le, nat_lt}
 use Rattle.std.proofs.lemmas.Bool.{eqb-true, false_from_ne_true, ltb-false}
-use Rattle.std.proofs.Math.Bool.{or_assoc}
 use Rattle.spans.specs.Effects.{After, Effect, Begins, Reads, Scans, Writes, Commits, Aborts, HardCloses, SnapshotReads, SnapshotScans, Opens, Polls, Cancels, NoEffect}
 use Rattle.spans.specs.Transactions.{owner_of, closed_of, is_committed, is_aborted, is_undecided}
 use Rattle.spans.specs.Versions.{visible, write_of}
 use Rattle.spans.specs.declared.span.Span.{Span}
-use Rattle.spans.specs.Keys.{in_span, insert_key}
+use Rattle.spans.specs.Keys.{in_span}
 use Rattle.spans.specs.Reads.{too_late}
 use Rattle.spans.proofs.Steps.{by_test}
 use Rattle.spans.proofs.Copies.{IsActive, AllAllowed}
@@ -20,7 +20,7 @@ use Rattle.plain_versions.specs.declared.transactions.Decision.{Decision}
 use Rattle.plain_versions.specs.declared.transactions.Decision.TheVariants as decisions
 use Rattle.plain_versions.specs.Transactions.{Table, transaction_at, begun, decided, is_committed_state, is_aborted_state, state_closed, hard_closed, is_undecided_at, committed_in, IsSetAt}
 use Rattle.plain_versions.specs.Chains.{Stored, IsWritten, IsCleared}
-use Rattle.plain_database.specs.Reads.{KeyReads, lies_between, goes_across, HasReadToo}
+use Rattle.plain_database.specs.Reads.{KeyReads, goes_across, HasReadToo}
 use Rattle.plain_versions.specs.Sources.{source_at}
 use Rattle.plain_database.specs.declared.span_reads.Scan.{Scan}
 use Rattle.plain_database.specs.SpanReads.{scan_of, is_scan_across, scan_goes_across, HasScanToo}
@@ -49,19 +49,7 @@ owner_some db p t tied active i same = subst (λ n. is_some (owner_in (transacti
 
 -- an event that did nothing
 pub tied_still : (db : PlainDatabase) (p : List Effect) → IsTied db p → IsTied db (NoEffect ∷ p)
-tied_still db p tied = record {
-  closed_at = tied.closed_at;
-  owners = tied.owners;
-  committed = tied.committed;
-  aborted = tied.aborted;
-  keys = tied.keys;
-  versions = tied.versions;
-  reads = tied.reads;
-  horizon_at = tied.horizon_at;
-  dead_count = tied.dead_count;
-  feeds = feeds_kept db.feeds p (NoEffect) tt tied.feeds;
-  protections = protections_kept db.protections p (NoEffect) tt tied.protections;
-}
+tied_still db p tied = grind (arith, common_steps)
 
 -- a transaction that wasn't there begins
 pub tied_begins : (db : PlainDatabase) (p : List Effect) (t seat : ℕ) (table : Table) → IsSetAt db.transactions table t (begun seat) → IsTied db p → owner_of p t ≡ None
@@ -94,21 +82,7 @@ tied_begins db p t seat table set tied unowned = record {
 -- a key is read
 pub tied_reads : (db : PlainDatabase) (p : List Effect) (reads : KeyReads) (t : ℕ) (x : List ℕ) (v : After) (k : ℕ) → IsTied db p → HasReadToo db.reads reads t x k → k ≡ (visible p x t).ts
     → IsTied (record db { reads = reads }) (Reads t x v ∷ p)
-tied_reads db p reads t x v k tied more is = record {
-  closed_at = tied.closed_at;
-  owners = tied.owners;
-  committed = tied.committed;
-  aborted = tied.aborted;
-  keys = tied.keys;
-  versions = tied.versions;
-  reads = λ y i. ap (λ b. b || scan_goes_across db.scans y i) (more y i)
-      ∙ or_assoc (bytes_eq x y && lies_between k i t) (goes_across db.reads y i) (scan_goes_across db.scans y i)
-      ∙ ap (λ b. (bytes_eq x y && lies_between k i t) || b) (tied.reads y i) ∙ ap (λ n. (bytes_eq x y && lies_between n i t) || too_late p y i) is;
-  horizon_at = tied.horizon_at;
-  dead_count = tied.dead_count;
-  feeds = feeds_kept db.feeds p (Reads t x v) tt tied.feeds;
-  protections = protections_kept db.protections p (Reads t x v) tt tied.protections;
-}
+tied_reads db p reads t x v k tied more is = grind (arith, common_steps)
 
 -- a span is scanned: of each of its keys the sources have the version that its reader sees
 pub tied_scans : (db : PlainDatabase) (p : List Effect) (scans : List (ℕ × List Scan)) (t : ℕ) (span : Span) (sources : List (List ℕ × ℕ)) (rows : List (List ℕ × List ℕ)) → IsTied db p
@@ -142,23 +116,7 @@ tied_scans db p scans t span sources rows tied given more = record {
 -- a key is written
 pub tied_writes : (db : PlainDatabase) (p : List Effect) (chains : Stored) (t : ℕ) (x : List ℕ) (a : After) → IsWritten db.chains chains x t a → IsTied db p → IsActive p t
     → IsTied (record db { chains = chains }) (Writes t x a ∷ p)
-tied_writes db p chains t x a written tied active = record {
-  closed_at = tied.closed_at;
-  owners = tied.owners;
-  committed = tied.committed;
-  aborted = tied.aborted;
-  keys = written.keys ∙ ap (insert_key x) tied.keys;
-  versions = λ y i. written.version y i ∙ by_test (t == i)
-      (λ same. by_test (bytes_eq x y)
-      (λ here. let live : is_aborted p i ≡ false = subst (λ n. is_aborted p n ≡ false) (eqb-true t i same) active.unaborted in rw (same, here, live) refl)
-      (λ there. rw (same, there) (tied.versions y i)))
-      (λ other. rw other (tied.versions y i));
-  reads = tied.reads;
-  horizon_at = tied.horizon_at;
-  dead_count = tied.dead_count;
-  feeds = feeds_kept db.feeds p (Writes t x a) tt tied.feeds;
-  protections = protections_kept db.protections p (Writes t x a) tt tied.protections;
-}
+tied_writes db p chains t x a written tied active = grind (arith, common_steps)
 
 -- a transaction commits
 pub tied_commits : (db : PlainDatabase) (p : List Effect) (t : ℕ) (table : Table) → IsSetAt db.transactions table t (option_map (decided decisions.Committed)) → IsTied db p → IsActive p t
@@ -220,35 +178,11 @@ tied_aborts db p t table chains set cleared tied active = record {
 
 -- a snapshot is read
 pub tied_snapshot : (db : PlainDatabase) (p : List Effect) (t : ℕ) (x : List ℕ) (v : After) → IsTied db p → IsTied db (SnapshotReads t x v ∷ p)
-tied_snapshot db p t x v tied = record {
-  closed_at = tied.closed_at;
-  owners = tied.owners;
-  committed = tied.committed;
-  aborted = tied.aborted;
-  keys = tied.keys;
-  versions = tied.versions;
-  reads = tied.reads;
-  horizon_at = tied.horizon_at;
-  dead_count = tied.dead_count;
-  feeds = feeds_kept db.feeds p (SnapshotReads t x v) tt tied.feeds;
-  protections = protections_kept db.protections p (SnapshotReads t x v) tt tied.protections;
-}
+tied_snapshot db p t x v tied = grind (arith, common_steps)
 
 -- a snapshot is scanned
 pub tied_snapshot_scan : (db : PlainDatabase) (p : List Effect) (t : ℕ) (span : Span) (rows : List (List ℕ × List ℕ)) → IsTied db p → IsTied db (SnapshotScans t span rows ∷ p)
-tied_snapshot_scan db p t span rows tied = record {
-  closed_at = tied.closed_at;
-  owners = tied.owners;
-  committed = tied.committed;
-  aborted = tied.aborted;
-  keys = tied.keys;
-  versions = tied.versions;
-  reads = tied.reads;
-  horizon_at = tied.horizon_at;
-  dead_count = tied.dead_count;
-  feeds = feeds_kept db.feeds p (SnapshotScans t span rows) tt tied.feeds;
-  protections = protections_kept db.protections p (SnapshotScans t span rows) tt tied.protections;
-}
+tied_snapshot_scan db p t span rows tied = grind (arith, common_steps)
 
 -- something of a feed happens
 pub tied_feeds : (db : PlainDatabase) (p : List Effect) (e : Effect) (feeds : List FeedRecord) → IsOfFeed e → IsTied db p → FeedsTied feeds (e ∷ p) → IsTied (record db { feeds = feeds }) (e ∷ p)

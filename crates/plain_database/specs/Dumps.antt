@@ -1,5 +1,5 @@
 -- What a dump writes, by the rows of the database.
-use Rattle.std.specs.Prelude.{ℕ, List, [], ◌∷◌, ◌++◌, ◌≡◌, Bool, Some, filter}
+use Rattle.std.specs.Prelude.{ℕ, List, [], ◌∷◌, ◌≡◌, Bool, Some, filter}
 use Rattle.timestamps.specs.declared.row.Row.{Row}
 use Rattle.spans.specs.Collection.{horizon_of}
 use Rattle.spans.specs.Effects.{Effect}

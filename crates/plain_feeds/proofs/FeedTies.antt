@@ -1,4 +1,5 @@
 -- The tie of a book of feeds is kept: by each call, and by every effect of no feed.
+use Rattle.std.proofs.lemmas.Grind.{common_steps}
 use Rattle.std.proofs.Common.{◌≡◌, ℕ, zero, suc, ◌+◌, ◌<◌, ◌==◌, true, List, [], ◌∷◌, ◌++◌, map, length, take, max, Option, Some, None, refl, sym, ◌∙◌, ap, subst, arith}
 use Rattle.std.specs.Prelude.{slice_get, option_map, count_by}
 use Rattle.std.proofs.lemmas.List.{length_push}
@@ -6,14 +7,13 @@ use Rattle.std.proofs.lemmas.Bool.{eqb-true}
 use Rattle.spans.specs.declared.calls.messages.Message.{Message}
 use Rattle.spans.specs.Effects.{Effect, Opens, Polls, Cancels}
 use Rattle.spans.specs.Transactions.{closed_of}
-use Rattle.spans.specs.Feeds.{Feed, feed_of, start_at, told_to, untold_rows, next_messages}
+use Rattle.spans.specs.Feeds.{Feed, feed_of, told_to, untold_rows, next_messages}
 use Rattle.spans.specs.Collection.{floor_after, floor_of, live_feeds}
 use Rattle.spans.proofs.Listing.{start_low}
 use Rattle.spans.proofs.Steps.{by_test}
 use Rattle.spans.proofs.FeedFloors.{floor_from}
 use Rattle.timestamps.specs.declared.row.Row.{Row}
 use Rattle.plain_feeds.specs.declared.record.FeedRecord.{FeedRecord}
-use Rattle.plain_feeds.specs.declared.told.Told.{Told}
 use Rattle.plain_feeds.specs.Records.{telling, cancelled, changed_at, record_at, feed_part, fresh_told, told_more, IsToldIn, is_live, is_cancelled_in, floor_in, floors_in, next_in}
 use Rattle.plain_feeds.specs.FeedTie.{FeedsTied, IsOfNoFeed}
 use Rattle.plain_feeds.proofs.RecordLists.{record_push, record_past, live_push, record_changed, length_changed, live_told, live_cancelled, live_count, floors_are}
@@ -29,19 +29,7 @@ feeds_kept book p (_) other tied = record { opened = tied.opened; feeds = tied.f
 -- a feed was opened
 pub feeds_open : (book : List FeedRecord) (p : List Effect) (x : FeedRecord) (f : ℕ) → f ≡ suc (length book) → x.told ≡ fresh_told x.kind x.cursor → is_live x ≡ true → FeedsTied book p
     → FeedsTied (book ++ x ∷ []) (Opens f x.seat x.kind x.span x.cursor ∷ p)
-feeds_open book p x f at told live tied = rw at (record {
-  opened = ap suc tied.opened ∙ (let e = length_push book x in sym (e ∙ (omega arith)));
-  feeds = λ g. rw (record_push book x g) (by_test (suc (length book) == g)
-      (λ same. rw same refl)
-      (λ other. rw other (tied.feeds g)));
-  told = λ g. rw (record_push book x g) (by_test (suc (length book) == g)
-      (λ same. let none : told_to p g ≡ [] = subst (λ (o : Option FeedRecord). IsToldIn o (told_to p g)) (record_past book g (eqb-true _ _ same)) (tied.told g) in rw same (told ∙ ap (λ (ms : List Message). told_more ms (fresh_told x.kind x.cursor)) (sym none)))
-      (λ other. rw other (tied.told g)));
-  cancelled = λ g. rw (record_push book x g) (by_test (suc (length book) == g)
-      (λ same. rw (same, live) (tied.cancelled g ∙ ap is_cancelled_in (record_past book g (eqb-true _ _ same))))
-      (λ other. rw other (tied.cancelled g)));
-  live = rw (live_push 1 book x, live) (let e : 1 + length book ≡ suc (length book) = omega arith in rw (e, tied.live) refl);
-})
+feeds_open book p x f at told live tied = grind (arith, common_steps, length_push, record_push, by_test, record_past, eqb-true, live_push)
 
 opened_is : (book : List FeedRecord) (i f : ℕ) → suc i ≡ f → i < length book → (x : FeedRecord) × (record_at book f ≡ Some x)
 opened_is [] i f at low = absurd (omega arith)
@@ -107,9 +95,7 @@ feeds_count book p tied = sym (ap length tied.live ∙ live_count 1 book)
 
 -- the floor of a feed
 pub feeds_floor : (book : List FeedRecord) (p : List Effect) (f : ℕ) (x : FeedRecord) → FeedsTied book p → record_at book f ≡ Some x → floor_in x ≡ max x.cursor (floor_after x.cursor (told_to p f))
-feeds_floor book p f x tied is =
-    let told : IsToldIn (Some x) (told_to p f) = subst (λ (o : Option FeedRecord). IsToldIn o (told_to p f)) is (tied.told f) in
-    ap (λ (t : Told). max x.cursor t.floor) told ∙ sym (floor_from x.cursor (start_at x.kind x.cursor) (told_to p f) (start_low x.kind x.cursor))
+feeds_floor book p f x tied is = grind (arith, common_steps, floor_from, start_low)
 
 -- the floors of the feeds that live
 pub feeds_floors : (book : List FeedRecord) (p : List Effect) → FeedsTied book p → map (floor_of p) (live_feeds p) ≡ floors_in book
@@ -123,6 +109,4 @@ feeds_floors book p tied = ap (map (floor_of p)) tied.live ∙ floors_are p 1 bo
 -- what a feed is told next
 pub feeds_next : (book : List FeedRecord) (p : List Effect) (f : ℕ) (feed : Feed) (x : FeedRecord) (max : ℕ) (rows : List Row) → FeedsTied book p → feed_of p f ≡ Some (feed_part x) → record_at book f ≡ Some x → feed_of p f ≡ Some feed
     → rows ≡ take max (untold_rows p f feed) → next_in x max (closed_of p) rows ≡ next_messages p f feed max
-feeds_next book p f feed x max rows tied has at is first =
-    let e : feed ≡ feed_part x = (let both : Some feed ≡ Some (feed_part x) = sym is ∙ has in cc) in
-    next_is p f feed x max rows (subst (λ (o : Option FeedRecord). IsToldIn o (told_to p f)) at (tied.told f)) e first
+feeds_next book p f feed x max rows tied has at is first = grind (arith, common_steps, next_is)

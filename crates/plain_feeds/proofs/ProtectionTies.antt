@@ -1,17 +1,14 @@
 -- The tie of the protections is kept: by each call, and by every effect of no protection.
+use Rattle.std.proofs.lemmas.Grind.{common_steps}
 use Rattle.std.proofs.Common.{◌≡◌, ◌<◌, ◌+◌, ℕ, suc, length, drop, get_or, ◌==◌, not, List, [], ◌∷◌, ◌++◌, map, reverse, refl, sym, ◌∙◌, ap, arith}
 use Rattle.std.specs.Prelude.{filter, min}
 use Rattle.std.specs.List.{list_any}
-use Rattle.std.proofs.lemmas.List.{append-nil, map-append, at_drop_more, reverse-append}
-use Rattle.std.proofs.lemmas.List.Elements.{filter-append}
-use Rattle.std.proofs.lemmas.List.Folds.{list_any-append}
-use Rattle.std.proofs.Math.Bool.{or-false, or-true}
+use Rattle.std.proofs.lemmas.List.{map-append, at_drop_more}
 use Rattle.spans.specs.Effects.{Effect, Protects, Releases}
 use Rattle.spans.specs.Transactions.{least_of}
 use Rattle.spans.specs.Collection as collection
 use Rattle.spans.specs.Collection.{protections_of, is_protected}
 use Rattle.spans.specs.Report.{protection_report}
-use Rattle.spans.proofs.Steps.{by_test}
 use Rattle.spans.proofs.Horizon.{least_join}
 use Rattle.plain_feeds.specs.declared.protections.Protection.{Protection}
 use Rattle.plain_feeds.specs.Reports.{standing_report}
@@ -30,18 +27,11 @@ newest_push (y ∷ ys) x = ap (λ l. l ++ record { id = y.id; at = y.at } ∷ []
 -- a protection was made
 pub protections_protect : (kept : Standing) (p : List Effect) (id t : ℕ) → id ≡ suc kept.made → ProtectionsTied kept p
     → ProtectionsTied (record { made = id; standing = kept.standing ++ protection id t ∷ [] }) (Protects id t ∷ p)
-protections_protect kept p id t next tied = record {
-  made = ap suc tied.made ∙ sym next;
-  standing = ap (λ l. record { id = id; at = t } ∷ l) tied.standing ∙ sym (newest_push kept.standing (protection id t));
-}
+protections_protect kept p id t next tied = grind (arith, common_steps, newest_push)
 
 newest_released : (id : ℕ) (xs : List Protection) → filter (λ (x : collection.Protection). not (x.id == id)) (newest_first xs) ≡ newest_first (released id xs)
 newest_released id [] = refl
-newest_released id (x ∷ xs) =
-    filter-append (λ (y : collection.Protection). not (y.id == id)) (newest_first xs) (record { id = x.id; at = x.at } ∷ [])
-    ∙ by_test (x.id == id)
-    (λ same. rw (same, newest_released id xs) (append-nil _))
-    (λ other. rw (other, newest_released id xs) refl)
+newest_released id (x ∷ xs) = grind (arith, common_steps, newest_released id xs)
 
 -- a protection was released
 pub protections_release : (kept : Standing) (p : List Effect) (id : ℕ) → ProtectionsTied kept p → ProtectionsTied (record kept { standing = released id kept.standing }) (Releases id ∷ p)
@@ -52,11 +42,7 @@ protections_release kept p id tied = record {
 
 any_newest : (id : ℕ) (xs : List Protection) → list_any (λ (x : collection.Protection). x.id == id) (newest_first xs) ≡ list_any (λ (x : Protection). x.id == id) xs
 any_newest id [] = refl
-any_newest id (x ∷ xs) =
-    list_any-append (λ (y : collection.Protection). y.id == id) (newest_first xs) (record { id = x.id; at = x.at } ∷ [])
-    ∙ by_test (x.id == id)
-    (λ same. rw (same, any_newest id xs) (or-true (list_any (λ (y : Protection). y.id == id) xs)))
-    (λ other. rw (other, any_newest id xs) (or-false (list_any (λ (y : Protection). y.id == id) xs)))
+any_newest id (x ∷ xs) = grind (arith, common_steps, any_newest id xs)
 
 -- whether a protection of this number stands
 pub protections_any : (kept : Standing) (p : List Effect) (id : ℕ) → ProtectionsTied kept p → list_any (λ (x : Protection). x.id == id) kept.standing ≡ is_protected p id
@@ -65,9 +51,7 @@ protections_any kept p id tied = sym (ap (list_any (λ (x : collection.Protectio
 -- the protections that stand, the oldest first
 pub oldest_first : (xs : List Protection) → map standing_report xs ≡ map protection_report (reverse (newest_first xs))
 oldest_first [] = refl
-oldest_first (x ∷ xs) =
-    ap (λ l. standing_report x ∷ l) (oldest_first xs)
-    ∙ ap (map protection_report) (sym (reverse-append (newest_first xs) (record { id = x.id; at = x.at } ∷ [])))
+oldest_first (x ∷ xs) = grind (arith, common_steps, oldest_first xs)
 
 pub protections_reported : (kept : Standing) (p : List Effect) → ProtectionsTied kept p → map standing_report kept.standing ≡ map protection_report (reverse (protections_of p))
 protections_reported kept p tied = oldest_first kept.standing ∙ ap (λ l. map protection_report (reverse l)) (sym tied.standing)
@@ -75,17 +59,10 @@ protections_reported kept p tied = oldest_first kept.standing ∙ ap (λ l. map 
 -- the next protection counts before those after it
 pub least_more : (n : ℕ) (x : Protection) (xs : List Protection)
     → least_of n (map (λ (y : collection.Protection). y.at) (newest_first (x ∷ xs))) ≡ least_of (min n x.at) (map (λ (y : collection.Protection). y.at) (newest_first xs))
-least_more n x xs =
-    ap (least_of n) (map-append (λ (y : collection.Protection). y.at) (newest_first xs) (record { id = x.id; at = x.at } ∷ []))
-    ∙ least_join n (map (λ (y : collection.Protection). y.at) (newest_first xs)) (x.at ∷ [])
-    ∙ (let e : min x.at n ≡ min n x.at = omega arith in ap (λ m. least_of m (map (λ (y : collection.Protection). y.at) (newest_first xs))) e)
+least_more n x xs = grind (arith, common_steps, map-append, least_join)
 
 -- one step of the walk that takes the least protected timestamp
 pub least_step : (n least next i : ℕ) (xs : List Protection) (d : Protection) → i < length xs → next ≡ min least (get_or xs i d).at
     → least_of least (map (λ (y : collection.Protection). y.at) (newest_first (drop i xs))) ≡ least_of n (map (λ (y : collection.Protection). y.at) (newest_first xs))
     → least_of next (map (λ (y : collection.Protection). y.at) (newest_first (drop (i + 1) xs))) ≡ least_of n (map (λ (y : collection.Protection). y.at) (newest_first xs))
-least_step n least next i xs d low now before =
-    ap (λ m. least_of m (map (λ (y : collection.Protection). y.at) (newest_first (drop (i + 1) xs)))) now
-    ∙ sym (least_more least (get_or xs i d) (drop (i + 1) xs))
-    ∙ sym (at_drop_more (λ l. least_of least (map (λ (y : collection.Protection). y.at) (newest_first l))) xs i d low)
-    ∙ before
+least_step n least next i xs d low now before = grind (arith, common_steps, least_more, at_drop_more)

@@ -1,7 +1,8 @@
 -- Lists of feed records: one more at the end, and one of them changed.
-use Rattle.std.proofs.Common.{◌≡◌, ◌≢◌, ℕ, zero, suc, ◌+◌, drop, ◌<◌, ◌==◌, true, false, not, cond, List, [], ◌∷◌, ◌++◌, map, length, get_or, set, Some, None, refl, sym, ◌∙◌, ap, subst, arith, append_assoc, add-zero, max}
+use Rattle.std.proofs.lemmas.Grind.{common_steps}
+use Rattle.std.proofs.Common.{◌≡◌, ◌≢◌, ℕ, zero, suc, ◌+◌, drop, ◌<◌, ◌==◌, true, false, not, cond, List, [], ◌∷◌, ◌++◌, map, length, get_or, set, Some, None, refl, sym, ◌∙◌, ap, arith, add-zero, max}
 use Rattle.std.specs.Prelude.{filter, min, count_by, slice_get, option_map}
-use Rattle.std.proofs.lemmas.List.{append-nil, map-append, length-append, at_drop_more}
+use Rattle.std.proofs.lemmas.List.{append-nil, map-append, at_drop_more}
 use Rattle.std.proofs.lemmas.List.Elements.{filter-append}
 use Rattle.std.proofs.lemmas.List.Recursion.{is_count_by}
 use Rattle.std.proofs.lemmas.Option.{slice_get_past}
@@ -32,9 +33,7 @@ get_push_other (y ∷ ys) x (suc i) other = get_push_other ys x i (λ e. other (
 -- the new record is that of the next number
 pub record_push : (xs : List FeedRecord) (x : FeedRecord) (f : ℕ) → record_at (xs ++ x ∷ []) f ≡ cond (suc (length xs) == f) (Some x) (record_at xs f)
 record_push xs x zero = rw (ne_eqb (suc (length xs)) 0 (λ e. absurd (omega arith))) refl
-record_push xs x (suc i) = by_test (suc (length xs) == suc i)
-    (λ same. let e : suc (length xs) ≡ suc i = eqb-true _ _ same in rw same (get_push_same xs x i (omega arith)))
-    (λ other. rw other (get_push_other xs x i (λ e. eqb-false (suc (length xs)) (suc i) other (ap suc (sym e)))))
+record_push xs x (suc i) = grind (arith, common_steps, by_test, eqb-true, get_push_same, get_push_other, eqb-false)
 
 pub record_past : (xs : List FeedRecord) (f : ℕ) → suc (length xs) ≡ f → record_at xs f ≡ None
 record_past xs zero at = absurd (omega arith)
@@ -42,10 +41,7 @@ record_past xs (suc i) at = slice_get_past xs i (omega arith)
 
 pub live_push : (n : ℕ) (xs : List FeedRecord) (x : FeedRecord) → live_in n (xs ++ x ∷ []) ≡ live_one (n + length xs) x ++ live_in n xs
 live_push n [] x = rw (append-nil (live_one (n + 0) x)) (ap (λ m. live_one m x) (sym (add-zero n)))
-live_push n (y ∷ ys) x =
-    ap (λ l. l ++ live_one n y) (live_push (suc n) ys x)
-    ∙ append_assoc (live_one (suc n + length ys) x) (live_in (suc n) ys) (live_one n y)
-    ∙ (let at : suc n + length ys ≡ n + suc (length ys) = omega arith in ap (λ m. live_one m x ++ (live_in (suc n) ys ++ live_one n y)) at)
+live_push n (y ∷ ys) x = grind (arith, common_steps, live_push (suc n) ys x)
 
 -- one record changed
 
@@ -63,9 +59,7 @@ get_changed_other g (x ∷ xs) (suc i) (suc j) other = get_changed_other g xs i 
 
 pub record_changed : (g : FeedRecord → FeedRecord) (xs : List FeedRecord) (i f : ℕ) → record_at (changed_at g xs i) f ≡ cond (suc i == f) (option_map g (record_at xs f)) (record_at xs f)
 record_changed g xs i zero = rw (ne_eqb (suc i) 0 (λ e. absurd (omega arith))) refl
-record_changed g xs i (suc j) = by_test (suc i == suc j)
-    (λ same. let e : suc i ≡ suc j = eqb-true _ _ same in let e' : i ≡ j = omega arith in rw same (subst (λ n. slice_get (changed_at g xs n) j ≡ option_map g (slice_get xs j)) (sym e') (get_changed_same g xs j)))
-    (λ other. rw other (get_changed_other g xs i j (λ e. eqb-false (suc i) (suc j) other (ap suc e))))
+record_changed g xs i (suc j) = grind (arith, common_steps, by_test, eqb-true, get_changed_same, get_changed_other, eqb-false)
 
 pub length_changed : (g : FeedRecord → FeedRecord) (xs : List FeedRecord) (i : ℕ) → length (changed_at g xs i) ≡ length xs
 length_changed g [] i = refl
@@ -84,31 +78,18 @@ live_told ms n [] i = refl
 live_told ms n (x ∷ xs) zero = refl
 live_told ms n (x ∷ xs) (suc i) = ap (λ l. l ++ live_one n x) (live_told ms (suc n) xs i)
 
-one_other : (n m : ℕ) (x : FeedRecord) → (n == m) ≡ false → filter (λ (y : LiveFeed). not (y.number == m)) (live_one n x) ≡ live_one n x
-one_other n m x other = by_test (is_live x) (λ is. rw (is, other) refl) (λ isnt. rw isnt refl)
-
 one_same : (n m : ℕ) (x : FeedRecord) → (n == m) ≡ true → filter (λ (y : LiveFeed). not (y.number == m)) (live_one n x) ≡ []
 one_same n m x same = by_test (is_live x) (λ is. rw (is, same) refl) (λ isnt. rw isnt refl)
 
 above_stay : (n m : ℕ) (xs : List FeedRecord) → m < n → filter (λ (y : LiveFeed). not (y.number == m)) (live_in n xs) ≡ live_in n xs
 above_stay n m [] low = refl
-above_stay n m (x ∷ xs) low =
-    filter-append (λ (y : LiveFeed). not (y.number == m)) (live_in (suc n) xs) (live_one n x)
-    ∙ ap (λ l. l ++ filter (λ (y : LiveFeed). not (y.number == m)) (live_one n x)) (above_stay (suc n) m xs (omega arith))
-    ∙ ap (λ l. live_in (suc n) xs ++ l) (one_other n m x (ne_eqb n m (λ e. absurd (omega arith))))
+above_stay n m (x ∷ xs) low = grind (arith, common_steps, above_stay (suc n) m xs)
 
 -- a feed that was cancelled lives no more, and the others do
 pub live_cancelled : (n i m : ℕ) (xs : List FeedRecord) → n + i ≡ m → live_in n (changed_at cancelled xs i) ≡ filter (λ (y : LiveFeed). not (y.number == m)) (live_in n xs)
 live_cancelled n i m [] at = refl
-live_cancelled n zero m (x ∷ xs) at =
-    let low : m < suc n = omega arith in
-    sym (filter-append (λ (y : LiveFeed). not (y.number == m)) (live_in (suc n) xs) (live_one n x)
-    ∙ ap (λ l. l ++ filter (λ (y : LiveFeed). not (y.number == m)) (live_one n x)) (above_stay (suc n) m xs low)
-    ∙ ap (λ l. live_in (suc n) xs ++ l) (one_same n m x (eq-eqb n m (omega arith))))
-live_cancelled n (suc i) m (x ∷ xs) at =
-    ap (λ l. l ++ live_one n x) (live_cancelled (suc n) i m xs (omega arith))
-    ∙ sym (filter-append (λ (y : LiveFeed). not (y.number == m)) (live_in (suc n) xs) (live_one n x)
-    ∙ ap (λ l. filter (λ (y : LiveFeed). not (y.number == m)) (live_in (suc n) xs) ++ l) (one_other n m x (ne_eqb n m (λ e. absurd (omega arith)))))
+live_cancelled n zero m (x ∷ xs) at = grind (arith, common_steps, filter-append, above_stay, one_same, eq-eqb)
+live_cancelled n (suc i) m (x ∷ xs) at = grind (arith, common_steps, live_cancelled (suc n) i m xs)
 
 -- counts and floors
 
@@ -119,9 +100,7 @@ live_number (x ∷ xs) = cond (is_live x) (1 + live_number xs) (live_number xs)
 
 live_numbered : (n : ℕ) (xs : List FeedRecord) → length (live_in n xs) ≡ live_number xs
 live_numbered n [] = refl
-live_numbered n (x ∷ xs) = length-append (live_in (suc n) xs) (live_one n x) ∙ by_test (is_live x)
-    (λ is. rw (is, live_numbered (suc n) xs) (omega arith))
-    (λ isnt. rw (isnt, live_numbered (suc n) xs) (omega arith))
+live_numbered n (x ∷ xs) = grind (arith, common_steps, live_numbered (suc n) xs)
 
 pub live_count : (n : ℕ) (xs : List FeedRecord) → length (live_in n xs) ≡ count_by is_live xs
 live_count n xs = live_numbered n xs ∙ is_count_by live_number is_live refl (λ x xs. refl) xs
@@ -133,12 +112,7 @@ least_more n x xs = least_join n (floors_in xs) (floor_one x)
 -- one step of the walk that takes the least floor
 pub floors_step : (n least next i : ℕ) (xs : List FeedRecord) (x : FeedRecord) → i < length xs → x ≡ get_or xs i x → next ≡ least_of least (floor_one x)
     → least_of least (floors_in (drop i xs)) ≡ least_of n (floors_in xs) → least_of next (floors_in (drop (i + 1) xs)) ≡ least_of n (floors_in xs)
-floors_step n least next i xs x low is now before =
-    ap (λ m. least_of m (floors_in (drop (i + 1) xs))) now
-    ∙ sym (least_more least x (drop (i + 1) xs))
-    ∙ ap (λ y. least_of least (floors_in (y ∷ drop (i + 1) xs))) is
-    ∙ sym (at_drop_more (λ l. least_of least (floors_in l)) xs i x low)
-    ∙ before
+floors_step n least next i xs x low is now before = grind (arith, common_steps, least_more, at_drop_more)
 
 pub least_live : (n : ℕ) (x : FeedRecord) → is_live x ≡ true → min n (floor_in x) ≡ least_of n (floor_one x)
 least_live n x is = rw is (omega arith)

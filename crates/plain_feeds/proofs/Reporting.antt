@@ -1,18 +1,17 @@
 -- What is told of the records of feeds is the report of the feeds that live.
-use Rattle.std.proofs.Common.{◌≡◌, ◌<◌, ℕ, suc, ◌+◌, true, false, cond, List, [], ◌∷◌, ◌++◌, map, reverse, length, take, get_or, Option, Some, None, refl, sym, ◌∙◌, ap, subst, arith, append_assoc, add-zero}
-use Rattle.std.specs.Prelude.{All, nat_lt, option_map, slice_get}
+use Rattle.std.proofs.lemmas.Grind.{common_steps}
+use Rattle.std.proofs.Common.{◌≡◌, ◌<◌, ℕ, suc, ◌+◌, true, false, List, [], ◌∷◌, ◌++◌, map, reverse, length, take, get_or, Some, refl, sym, ◌∙◌, ap, subst, arith, add-zero}
+use Rattle.std.specs.Prelude.{All, slice_get}
 use Rattle.std.proofs.lemmas.List.{append-nil, length-take-le, map-append, reverse-append, take_more}
 use Rattle.std.proofs.lemmas.List.Elements.{All-append, All-cons, All-nil}
 use Rattle.std.proofs.lemmas.Option.{slice_get_within}
 use Rattle.spans.specs.declared.report.FeedReport.{FeedReport}
 use Rattle.spans.specs.Collection.{LiveFeed}
 use Rattle.spans.specs.Effects.{Effect}
-use Rattle.spans.specs.Feeds.{told_to}
 use Rattle.spans.specs.Report.{AreFeeds, IsFeedReport}
 use Rattle.spans.proofs.Steps.{by_test}
 use Rattle.plain_feeds.specs.declared.record.FeedRecord.{FeedRecord}
-use Rattle.plain_feeds.specs.declared.told.Told.{Told}
-use Rattle.plain_feeds.specs.Records.{IsToldIn, feed_part, fresh_told, is_live, live_in, live_one, record_at, told_more}
+use Rattle.plain_feeds.specs.Records.{is_live, live_in, live_one, record_at}
 use Rattle.plain_feeds.specs.FeedTie.{FeedsTied, IsOpened}
 use Rattle.plain_feeds.specs.Reports.{AreOpened, record_report, report_one, reports_in}
 use Rattle.plain_feeds.proofs.FeedTies.{feeds_floor}
@@ -21,18 +20,11 @@ use Rattle.plain_feeds.proofs.FeedTies.{feeds_floor}
 
 reports_push : (n : ℕ) (xs : List FeedRecord) (x : FeedRecord) → reports_in n (xs ++ x ∷ []) ≡ reports_in n xs ++ report_one (n + length xs) x
 reports_push n [] x = append-nil (report_one n x) ∙ ap (λ m. report_one m x) (sym (add-zero n))
-reports_push n (y ∷ ys) x =
-    ap (λ l. report_one n y ++ l) (reports_push (suc n) ys x)
-    ∙ sym (append_assoc (report_one n y) (reports_in (suc n) ys) (report_one (suc n + length ys) x))
-    ∙ (let at : suc n + length ys ≡ n + suc (length ys) = omega arith in ap (λ m. (report_one n y ++ reports_in (suc n) ys) ++ report_one m x) at)
+reports_push n (y ∷ ys) x = grind (arith, common_steps, reports_push (suc n) ys x)
 
 -- the records as far as the next
 reports_more : (xs : List FeedRecord) (i : ℕ) (x : FeedRecord) → i < length xs → x ≡ get_or xs i x → reports_in 1 (take (i + 1) xs) ≡ reports_in 1 (take i xs) ++ report_one (i + 1) x
-reports_more xs i x low is =
-    let at : 1 + length (take i xs) ≡ i + 1 = omega (arith, length-take-le i xs (omega arith)) in
-    ap (reports_in 1) (take_more xs i x low ∙ ap (λ (y : FeedRecord). take i xs ++ y ∷ []) (sym is))
-    ∙ reports_push 1 (take i xs) x
-    ∙ ap (λ m. reports_in 1 (take i xs) ++ report_one m x) at
+reports_more xs i x low is = grind (arith, common_steps, length-take-le, take_more, reports_push)
 
 -- one step of the walk over the records: the feed lives, or doesn't
 pub told_live : (xs : List FeedRecord) (i n : ℕ) (x : FeedRecord) (ns ns' : List FeedReport) (r : FeedReport) → i < length xs → x ≡ get_or xs i x → n ≡ i → ns ≡ reports_in 1 (take i xs)
@@ -82,20 +74,7 @@ numbers_in n (x ∷ xs) =
 
 -- a record says how far its feed has come
 reported : (book : List FeedRecord) (p : List Effect) → FeedsTied book p → (f : ℕ) (x : FeedRecord) → record_at book f ≡ Some x → IsFeedReport false p (record_report f x)
-reported book p tied f x is =
-    let told : x.told ≡ told_more (told_to p f) (fresh_told x.kind x.cursor) = subst (λ (o : Option FeedRecord). IsToldIn o (told_to p f)) is (tied.told f) in record {
-      feed = feed_part x;
-      is = tied.feeds f ∙ ap (option_map feed_part) is;
-      seat = refl;
-      kind = refl;
-      span = refl;
-      cursor = refl;
-      row = ap (λ (t : Told). t.row) told;
-      resolved = ap (λ (t : Told). t.latest) told;
-      complete = ap (λ (t : Told). cond (nat_lt t.floor x.cursor) None (Some t.floor)) told;
-      floor = feeds_floor book p f x tied is;
-      untold = refl;
-    }
+reported book p tied f x is = grind (arith, common_steps, feeds_floor)
 
 pub feeds_reported : (book : List FeedRecord) (p : List Effect) → FeedsTied book p → AreFeeds false p (reports_in 1 book)
 feeds_reported book p tied = record {

@@ -1,7 +1,8 @@
 -- What a feed is told next, and what its last message says.
+use Rattle.std.proofs.lemmas.Grind.{common_steps}
 use Rattle.std.proofs.Common.{◌≡◌, ℕ, zero, suc, ◌+◌, ◌-◌, ◌<◌, ◌≤◌, List, [], ◌∷◌, ◌++◌, map, length, take, get_or, max, Option, Some, None, refl, sym, ◌∙◌, ap, arith}
 use Rattle.std.specs.Prelude.{slice_get, if◌then◌else◌}
-use Rattle.std.proofs.lemmas.List.{length-map, length-append, take-append-le, take_all, take_more}
+use Rattle.std.proofs.lemmas.List.{take_more}
 use Rattle.timestamps.specs.declared.row.Row.{Row}
 use Rattle.spans.specs.declared.calls.messages.Message.{Message}
 use Rattle.spans.specs.declared.calls.messages.Message.TheVariants as messages
@@ -20,20 +21,11 @@ use Rattle.plain_feeds.specs.Records.{due_at, due_in, feed_part, next_in, told_m
 
 -- enough rows for max
 pub rows_full : (max : ℕ) (rows : List Row) (due : List Message) (ms : List Message) → ms ≡ map messages.Row rows → length rows ≤ max → max ≤ length ms → ms ≡ take max (map messages.Row rows ++ due)
-rows_full max rows due ms is few high =
-    let same : length ms ≡ length rows = ap length is ∙ length-map rows messages.Row in
-    let long : max ≤ length (map messages.Row rows) = omega (arith, same, length-map rows messages.Row) in
-    is ∙ sym (take-append-le max (map messages.Row rows) due long ∙ take_all max (map messages.Row rows) (omega (arith, same, length-map rows messages.Row)))
-
-due_short : (due : Option ℕ) → length (due_at due) ≤ 1
-due_short None = omega arith
-due_short (Some t) = omega arith
+rows_full max rows due ms is few high = grind (arith, common_steps)
 
 -- fewer rows than max: what is due follows
 pub rows_more : (max : ℕ) (rows : List Row) (due : Option ℕ) (ms : List Message) → ms ≡ map messages.Row rows → length ms < max → ms ++ due_at due ≡ take max (map messages.Row rows ++ due_at due)
-rows_more max rows due ms is low =
-    let short : length (ms ++ due_at due) ≤ max = omega (arith, length-append ms (due_at due), due_short due) in
-    sym (take_all max (ms ++ due_at due) short) ∙ ap (λ (front : List Message). take max (front ++ due_at due)) is
+rows_more max rows due ms is low = grind (arith, common_steps)
 
 -- up to where all is told after a message
 abbrev pub floor_told : Message → ℕ
@@ -85,8 +77,7 @@ last_under o (messages.Resolved t ∷ ms) is = last_under o ms is
 pub told_added : (t t' : Told) (ms : List Message) (resolved : ℕ) (latest : Option ℕ) (floor : ℕ) → t'.row ≡ last_name t.row ms → t'.resolved ≡ t.resolved → t'.latest ≡ t.latest → t'.floor ≡ t.floor
     → resolved ≡ last_resolved t'.resolved ms → latest ≡ last_told t'.latest ms → floor ≡ floor_after t'.floor ms
     → let all : Told = record { row = t'.row; resolved = resolved; latest = latest; floor = floor } in all ≡ told_more ms t
-told_added t t' ms resolved latest floor row same same' same'' reaches tells stands =
-    told_is _ _ _ _ _ _ _ _ row (reaches ∙ ap (λ (n : ℕ). last_resolved n ms) same) (tells ∙ ap (λ (o : Option ℕ). last_told o ms) same') (stands ∙ ap (λ (n : ℕ). floor_after n ms) same'')
+told_added t t' ms resolved latest floor row same same' same'' reaches tells stands = grind (arith, common_steps)
 
 -- one message more of the walk over them
 pub next_row : (i : ℕ) (ms : List Message) (m : Message) → i < length ms → m ≡ get_or ms i m → last_name None (take (i + 1) ms) ≡ last_name (last_name None (take i ms)) (m ∷ [])

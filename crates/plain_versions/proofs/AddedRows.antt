@@ -1,30 +1,29 @@
 -- Rows that are added up to a number.
-use Rattle.std.proofs.Common.{◌≡◌, ℕ, ◌<◌, ◌≤◌, ◌⊎◌, ◌==◌, Bool, true, false, cond, ◌&&◌, List, [], ◌∷◌, ◌++◌, length, take, Option, Some, None, refl, sym, ◌∙◌, ap, subst, inl, inr, append_assoc, arith}
-use Rattle.std.specs.Prelude.{is_some, min, nat_lt}
+use Rattle.std.proofs.lemmas.Grind.{common_steps}
+use Rattle.std.proofs.Common.{◌≡◌, ℕ, ◌<◌, ◌≤◌, ◌⊎◌, Bool, true, false, cond, List, [], ◌∷◌, ◌++◌, length, take, Option, Some, None, refl, sym, ◌∙◌, ap, subst, inl, inr, append_assoc, arith}
+use Rattle.std.specs.Prelude.{is_some, min}
 use Rattle.std.specs.BTreeSet.{BTreeSet, IsOrdered, contains}
 use Rattle.std.specs.BTreeMap.Range.{range_contains}
 use Rattle.std.specs.List.{filter}
 use Rattle.std.specs.declared.ops.Bound.TheVariants.{Excluded, Unbounded}
-use Rattle.std.proofs.lemmas.Bool.{and_from, and_parts, both_ways, cases_lt, eqb-true, eq-eqb, lt-ltb, ltb-true, or_cases, or_left, or_right}
-use Rattle.std.proofs.lemmas.List.{take_all, take_at, append-nil}
+use Rattle.std.proofs.lemmas.Bool.{and_from, and_parts, eq-eqb, or_left, or_right}
+use Rattle.std.proofs.lemmas.List.{take_all, append-nil}
 use Rattle.timestamps.specs.Bytes.{key_cmp}
 use Rattle.timestamps.specs.declared.row.Row.{Row}
 use Rattle.spans.specs.declared.span.Span.{Span}
 use Rattle.spans.specs.Collection.{VersionName, version_name}
 use Rattle.spans.specs.Effects.{After}
 use Rattle.spans.specs.KeyOrder.{key_lt}
-use Rattle.spans.specs.Keys.{in_span}
 use Rattle.spans.proofs.Ascending.{rising_keys}
 use Rattle.spans.proofs.Keyed.{RisingKeys, filter_rises}
-use Rattle.spans.proofs.Members.{Has, has_filter}
-use Rattle.spans.proofs.Steps.{by_test}
+use Rattle.spans.proofs.Members.{has_filter}
 use Rattle.spans.proofs.StreamOrder.{in_append, rises_append}
 use Rattle.spans.proofs.Lists.{take_again, take_few}
 use Rattle.spans.proofs.Sets.{all_within}
 use Rattle.plain_versions.specs.declared.written.Written.{Written}
 use Rattle.plain_versions.specs.Transactions.{Table, transaction_at, committed_in}
 use Rattle.plain_versions.specs.Chains.{Stored, version_at}
-use Rattle.plain_versions.specs.Streams.{IsRowAfter, AreRowsAfter, AreAdded, names_at, is_wanted, rows_of, row_of}
+use Rattle.plain_versions.specs.Streams.{IsRowAfter, AreRowsAfter, AreAdded, names_at, rows_of}
 use Rattle.plain_versions.specs.Written.{Listed, listed_in, is_listed, AreBetween, IsTiedTo}
 use Rattle.plain_versions.proofs.Counted.{has_key}
 use Rattle.plain_versions.proofs.Names.{in_names, in_order, in_rows, names_rise, order_same, rows_rise}
@@ -58,16 +57,7 @@ listed_rows table stored written n span ts through es tied are listed = record {
   rising = rows_rise table stored span (listed_names es) (listed_rise ts through es are);
   each = λ r.
       let rows = in_rows table stored span (listed_names es) r in
-      let names = between_are stored written n ts through es tied are listed (version_name r.key r.ts) in (
-        λ i.
-            let is = rows.0 i in
-            let at = names.0 is.0 in
-            let wanted : (committed_in (transaction_at table r.ts) ≡ true) × (in_span span r.key ≡ true) = and_parts _ _ is.1 in
-            record { there = rw wanted.0 is.2; inside = wanted.1; later = lt-ltb ts r.ts at.0; low = at.1; some = omega (arith, at.0) },
-        λ i.
-            let there = settled_there (committed_in (transaction_at table r.ts)) (version_at stored r.key r.ts) r.after i.there in
-            rows.1 (names.1 (ltb-true ts r.ts i.later, i.low, ap is_some there.1), and_from _ _ there.0 i.inside, there.1),
-      );
+      let names = between_are stored written n ts through es tied are listed (version_name r.key r.ts) in grind (arith, common_steps);
 }
 
 -- with what is listed yet, all rows are there, as far as max
@@ -91,24 +81,14 @@ going_starts table stored written n span ts through max es rows tied are listed 
 }
 
 pub going_full : (table : Table) (stored : Stored) (span : Span) (ts through max : ℕ) (es : Listed) (rows rows' : List Row) → max ≤ length rows' → AreGoing table stored span ts through max es rows rows' → AreAdded table stored span ts None through max rows rows'
-going_full table stored span ts through max es rows rows' full g = record {
-  all = g.all;
-  are = g.are;
-  is = let few = g.few in sym (take_at rows' (rows_of table stored span (listed_names es)) max (omega arith)) ∙ g.left;
-}
+going_full table stored span ts through max es rows rows' full g = grind (arith, common_steps)
 
 pub going_ends : (table : Table) (stored : Stored) (span : Span) (ts through max : ℕ) (es : Listed) (rows rows' : List Row) → es ≡ [] → AreGoing table stored span ts through max es rows rows' → AreAdded table stored span ts None through max rows rows'
-going_ends table stored span ts through max es rows rows' none g = record {
-  all = g.all;
-  are = g.are;
-  is = sym (ap (λ (ds : Listed). take max (rows' ++ rows_of table stored span (listed_names ds))) none ∙ ap (take max) (append-nil rows') ∙ take_all max rows' g.few) ∙ g.left;
-}
+going_ends table stored span ts through max es rows rows' none g = grind (arith, common_steps)
 
 rows_parted : (table : Table) (stored : Stored) (span : Span) (vs ws : List VersionName) → rows_of table stored span (vs ++ ws) ≡ rows_of table stored span vs ++ rows_of table stored span ws
 rows_parted table stored span [] ws = refl
-rows_parted table stored span (v ∷ vs) ws = let more = rows_parted table stored span vs ws in by_test (is_wanted table span v)
-    (λ on. rw on (ap (λ rs. row_of stored v ++ rs) more ∙ sym (append_assoc (row_of stored v) (rows_of table stored span vs) (rows_of table stored span ws))))
-    (λ off. rw off more)
+rows_parted table stored span (v ∷ vs) ws = grind (arith, common_steps, rows_parted table stored span vs ws)
 
 -- the keys of a set as it is listed
 pub keys_listed : (keys : BTreeSet (List ℕ)) (part : List (List ℕ)) → IsOrdered key_cmp keys → part ≡ filter (range_contains key_cmp Unbounded Unbounded) keys.keys → part ≡ in_order keys.keys
@@ -146,27 +126,17 @@ pub none_beside : (table : Table) (stored : Stored) (span : Span) (ts through : 
 none_beside table stored span ts through key none = record { rising = tt; each = λ r. (λ i. absurd i, λ i. none r i) }
 
 beside_at : (table : Table) (stored : Stored) (span : Span) (ts through : ℕ) (key : List ℕ) (r : Row) → IsRowAfter table stored span ts (Some key) (min ts through) r → (r.ts ≡ ts) × (key_lt key r.key ≡ true)
-beside_at table stored span ts through key r i = elim (or_cases (nat_lt ts r.ts) ((ts == r.ts) && key_lt key r.key) i.later) [
-  | inl above ↦ absurd (let lt : ts < r.ts = ltb-true ts r.ts above in omega (arith, i.low))
-  | inr beside ↦ (let both = and_parts _ _ beside in (sym (eqb-true ts r.ts both.0), both.1))
-]
+beside_at table stored span ts through key r i = grind (arith, common_steps)
 
 -- where the place is at 0 or past the end
 pub far_beside : (table : Table) (stored : Stored) (span : Span) (ts through max : ℕ) (key : List ℕ) (rows : List Row) → (ts ≡ 0) ⊎ (through < ts) → length rows ≤ max → AreAdded table stored span ts (Some key) (min ts through) max rows rows
-far_beside table stored span ts through max key rows far few = record {
-  all = [];
-  are = none_beside table stored span ts through key (λ r i. let at = (beside_at table stored span ts through key r i).0 in elim far [ inl first ↦ omega (arith, i.some) | inr past ↦ omega (arith, i.low) ]);
-  is = sym (ap (take max) (append-nil rows) ∙ take_all max rows few);
-}
+far_beside table stored span ts through max key rows far few = grind (arith, common_steps)
 
 -- where nothing is listed there
 pub nothing_beside : (table : Table) (stored : Stored) (span : Span) (ts through max : ℕ) (key : List ℕ) (rows : List Row) → ((y : List ℕ) → false ≡ is_some (version_at stored y ts)) → length rows ≤ max → AreAdded table stored span ts (Some key) (min ts through) max rows rows
 nothing_beside table stored span ts through max key rows none few = record {
   all = [];
-  are = none_beside table stored span ts through key (λ r i.
-      let at = (beside_at table stored span ts through key r i).0 in
-      let there = settled_there (committed_in (transaction_at table r.ts)) (version_at stored r.key r.ts) r.after i.there in
-      both_ways _ (sym (none r.key)) (ap is_some (subst (λ n. version_at stored r.key n ≡ Some r.after) at there.1)));
+  are = grind (arith, common_steps);
   is = sym (ap (take max) (append-nil rows) ∙ take_all max rows few);
 }
 
@@ -181,19 +151,7 @@ beside_added table stored span ts through max key keys part rows rows' some low 
         let rows = in_rows table stored span (names_at ts part) r in
         let names = in_names ts part (version_name r.key r.ts) in
         let keys' = has_filter (range_contains key_cmp (Excluded key) Unbounded) r.key keys.keys in
-        let any = has_key r.key keys.keys in (
-          λ i.
-              let is' = rows.0 i in
-              let at = names.0 is'.0 in
-              let wanted : (committed_in (transaction_at table r.ts) ≡ true) × (in_span span r.key ≡ true) = and_parts _ _ is'.1 in
-              let above : key_lt key r.key ≡ true = (and_parts _ _ (keys'.0 (subst (Has r.key) is at.1)).0).0 in
-              record { there = rw wanted.0 is'.2; inside = wanted.1; later = or_right _ _ (and_from _ _ (eq-eqb ts r.ts at.0) above); low = omega (arith, at.0); some = omega (arith, at.0) },
-          λ i.
-              let at = beside_at table stored span ts through key r i in
-              let there = settled_there (committed_in (transaction_at table r.ts)) (version_at stored r.key r.ts) r.after i.there in
-              let listed' : contains key_cmp keys r.key ≡ true = listed r.key ∙ ap is_some (subst (λ n. version_at stored r.key n ≡ Some r.after) at.0 there.1) in
-              rows.1 (names.1 (sym at.0, subst (Has r.key) (sym is) (keys'.1 (rw at.1 refl, any.1 listed'))), and_from _ _ there.0 i.inside, there.1),
-        );
+        grind (arith, common_steps, has_key, and_parts, or_right, and_from, eq-eqb, beside_at, settled_there);
   };
   is = added;
 }
@@ -207,17 +165,13 @@ added_both table stored span ts key through max rows rows' rows'' b a = record {
   are = record {
     rising = rises_append b.all a.all b.are.rising a.are.rising (λ r q i j.
         let here = (beside_at table stored span ts through key r ((b.are.each r).0 i)).0 in
-        let later : ts < q.ts = ltb-true ts q.ts ((a.are.each q).0 j).later in
-        or_left _ _ (lt-ltb r.ts q.ts (omega arith)));
+        grind (arith, common_steps));
     each = λ r. let join = in_append r b.all a.all in (
       λ i. elim (join.0 i) [
         | inl here ↦ (let is = (b.are.each r).0 here in record { there = is.there; inside = is.inside; later = is.later; low = omega (arith, is.low); some = is.some })
         | inr there ↦ (let is = (a.are.each r).0 there in record { there = is.there; inside = is.inside; later = or_left _ _ is.later; low = is.low; some = is.some })
       ],
-      λ i. elim (cases_lt ts r.ts) [
-        | inl above ↦ join.1 (inr ((a.are.each r).1 (record { there = i.there; inside = i.inside; later = lt-ltb ts r.ts above; low = i.low; some = i.some })))
-        | inr at ↦ join.1 (inl ((b.are.each r).1 (record { there = i.there; inside = i.inside; later = i.later; low = omega (arith, i.low); some = i.some })))
-      ],
+      λ i. grind (arith, common_steps),
     );
   };
   is = a.is ∙ ap (λ rs. take max (rs ++ a.all)) b.is ∙ take_again max (rows ++ b.all) a.all ∙ ap (take max) (append_assoc rows b.all a.all);
@@ -225,8 +179,4 @@ added_both table stored span ts key through max rows rows' rows'' b a = record {
 
 -- nothing is above the end
 pub nothing_above : (table : Table) (stored : Stored) (span : Span) (ts through max : ℕ) (rows : List Row) → through ≤ ts → length rows ≤ max → AreAdded table stored span ts None through max rows rows
-nothing_above table stored span ts through max rows down few = record {
-  all = [];
-  are = record { rising = tt; each = λ r. (λ i. absurd i, λ i. absurd (let above = ltb-true ts r.ts i.later in omega (arith, i.low))) };
-  is = sym (ap (take max) (append-nil rows) ∙ take_all max rows few);
-}
+nothing_above table stored span ts through max rows down few = grind (arith, common_steps)

@@ -1,5 +1,7 @@
 -- What a walk over chains gives is what their keys give.
-use Rattle.std.proofs.Common.{◌≡◌, ℕ, true, false, cond, List, [], ◌∷◌, Option, Some, None, refl, sym, ◌∙◌, ap, subst, inl, inr, arith}
+use Rattle.std.proofs.lemmas.Grind.{common_steps}
+use Rattle.std.proofs.Common.{rules}
+use Rattle.std.proofs.Common.{◌≡◌, ℕ, true, false, cond, List, [], ◌∷◌, Option, Some, None, refl, sym, ◌∙◌, ap, inl, inr, arith}
 use Rattle.std.specs.Prelude.{bytes_eq, filter, unwrap_or}
 use Rattle.std.specs.Map.{lookup, keys_of}
 use Rattle.std.specs.BTreeMap.{is_at}
@@ -42,9 +44,7 @@ by_key (e ∷ es) r = (rw (at_itself e.0) refl, by_key_later e es es r.0 (by_key
 
 pub by_key_within : (span : Span) (stored es : Stored) → AreByKey stored es → AreByKey stored (within span es)
 by_key_within span stored [] are = tt
-by_key_within span stored (e ∷ es) are = by_test (in_span span e.0)
-    (λ inside. rw inside (are.0, by_key_within span stored es are.1))
-    (λ out. rw out (by_key_within span stored es are.1))
+by_key_within span stored (e ∷ es) are = grind (arith, common_steps, by_key_within span stored es are.1)
 
 -- ---- rows
 
@@ -54,9 +54,7 @@ rows_of value (e ∷ es) = with_value e.0 (value e.1) (rows_of value es)
 
 rows_are : (value : Chain → After) (span : Span) (stored es : Stored) → AreByKey stored es → rows_of value (within span es) ≡ pairs_of (λ x. value (versions_at stored x)) (filter (in_span span) (keys_of es))
 rows_are value span stored [] are = refl
-rows_are value span stored (e ∷ es) are = let more = rows_are value span stored es are.1 in by_test (in_span span e.0)
-    (λ inside. rw inside (ap (λ rows. with_value e.0 (value e.1) rows) more ∙ ap (λ vs. with_value e.0 (value vs) (pairs_of (λ x. value (versions_at stored x)) (filter (in_span span) (keys_of es)))) (sym are.0)))
-    (λ out. rw out more)
+rows_are value span stored (e ∷ es) are = grind (arith, common_steps, rows_are value span stored es are.1)
 
 pub all_rows : (value : Chain → After) (span : Span) (stored : Stored) → RisingKeys (keys_of stored) → rows_of value (within span stored) ≡ pairs_of (λ x. value (versions_at stored x)) (filter (in_span span) (keys_of stored))
 all_rows value span stored r = rows_are value span stored stored (by_key stored r)
@@ -69,9 +67,7 @@ first_in f (e ∷ es) = or_else (f e.1) (first_in f es)
 
 first_are : (f : Chain → Option ℕ) (span : Span) (stored es : Stored) → AreByKey stored es → first_in f (within span es) ≡ first_of (λ x. f (versions_at stored x)) (filter (in_span span) (keys_of es))
 first_are f span stored [] are = refl
-first_are f span stored (e ∷ es) are = let more = first_are f span stored es are.1 in by_test (in_span span e.0)
-    (λ inside. rw inside (ap (λ o. or_else (f e.1) o) more ∙ ap (λ vs. or_else (f vs) (first_of (λ x. f (versions_at stored x)) (filter (in_span span) (keys_of es)))) (sym are.0)))
-    (λ out. rw out more)
+first_are f span stored (e ∷ es) are = grind (arith, common_steps, first_are f span stored es are.1)
 
 pub first_is : (f : Chain → Option ℕ) (span : Span) (stored : Stored) → RisingKeys (keys_of stored) → first_in f (within span stored) ≡ first_of (λ x. f (versions_at stored x)) (filter (in_span span) (keys_of stored))
 first_is f span stored r = first_are f span stored stored (by_key stored r)
@@ -81,13 +77,7 @@ first_is f span stored r = first_are f span stored stored (by_key stored r)
 -- a key of the span is found among the chains of the span as among all
 lookup_within : (span : Span) (x : List ℕ) (es : Stored) → in_span span x ≡ true → lookup (is_at (key_cmp x)) (within span es) ≡ lookup (is_at (key_cmp x)) es
 lookup_within span x [] inside = refl
-lookup_within span x (e ∷ es) inside = by_test (is_at (key_cmp x) e.0)
-    (λ here.
-    let same : in_span span e.0 ≡ true = subst (λ y. in_span span y ≡ true) (same_key x e.0 (sym (is_eq-slice_cmp x e.0) ∙ here)) inside in
-    rw (same, here) refl)
-    (λ there. by_test (in_span span e.0)
-    (λ on. rw (on, there) (lookup_within span x es inside))
-    (λ off. rw (off, there) (lookup_within span x es inside)))
+lookup_within span x (e ∷ es) inside = search (by_test, same_key, is_eq-slice_cmp, lookup_within span x es inside, rules, arith)
 
 -- where it has no chain, no version is seen
 pub none_seen : (span : Span) (x : List ℕ) (stored : Stored) (t : ℕ) → in_span span x ≡ true → lookup (is_at (key_cmp x)) (within span stored) ≡ None → 0 ≡ (newest (version_at stored x) t).ts
@@ -103,8 +93,4 @@ source_put es fs x z t same put y = ap (λ o. unwrap_or o 0) (put y) ∙ rw (sam
 pub source_more : (span : Span) (stored es rest : Stored) (x : List ℕ) (vs : Chain) (t k : ℕ) (sources sources' : List (List ℕ × ℕ)) → es ≡ (x, vs) ∷ rest → AreByKey stored es → k ≡ (newest (version_in vs) t).ts → ((y : List ℕ) → source_at sources' y ≡ cond (bytes_eq x y) k (source_at sources y))
     → ((y : List ℕ) → in_span span y ≡ true → lookup (is_at (key_cmp y)) es ≡ None → source_at sources y ≡ (newest (version_at stored y) t).ts)
     → (y : List ℕ) → in_span span y ≡ true → lookup (is_at (key_cmp y)) rest ≡ None → source_at sources' y ≡ (newest (version_at stored y) t).ts
-source_more span stored es rest x vs t k sources sources' next are is put given y inside none = put y ∙ by_test (bytes_eq x y)
-    (λ here. rw here (is
-    ∙ ap (λ ws. (newest (version_in ws) t).ts) (sym (subst (AreByKey stored) next are).0)
-    ∙ ap (λ z. (newest (version_at stored z) t).ts) (same_key x y here)))
-    (λ there. rw there (given y inside (ap (lookup (is_at (key_cmp y))) next ∙ rw (other_way x y, there) none)))
+source_more span stored es rest x vs t k sources sources' next are is put given y inside none = search (by_test, same_key, other_way, rules, arith)

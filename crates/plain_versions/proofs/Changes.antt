@@ -1,13 +1,14 @@
 -- What is stored after the chain of one key changed.
-use Rattle.std.proofs.Common.{◌≡◌, ℕ, ◌==◌, Bool, true, false, cond, ◌&&◌, ◌||◌, List, [], ◌∷◌, Option, Some, None, refl, sym, ◌∙◌, ap, subst, inl, inr, arith}
+use Rattle.std.proofs.lemmas.Grind.{common_steps}
+use Rattle.std.proofs.Common.{rules}
+use Rattle.std.proofs.Common.{◌≡◌, ℕ, ◌==◌, Bool, true, false, cond, ◌&&◌, ◌||◌, List, [], ◌∷◌, Option, Some, None, refl, sym, ◌∙◌, ap, subst, arith}
 use Rattle.std.specs.Prelude.{bytes_eq}
 use Rattle.std.specs.Map.{lookup, keys_of}
 use Rattle.std.specs.BTreeMap.{is_at, insert_entry}
-use Rattle.std.specs.Ordering.{match_ordering, nat_cmp, ordering_reverse}
+use Rattle.std.specs.Ordering.{match_ordering, nat_cmp}
 use Rattle.std.specs.declared.cmp.Ordering.{Ordering}
 use Rattle.std.specs.declared.cmp.Ordering.TheVariants.{Less, Equal, Greater}
 use Rattle.std.proofs.lemmas.Bool.{false_from_ne_true}
-use Rattle.std.proofs.lemmas.Bool.Decides.{nat_tests}
 use Rattle.std.proofs.lemmas.Cmp.{nat_list_cmp_total, tied_itself}
 use Rattle.std.proofs.lemmas.Map.Text.{is_eq-slice_cmp}
 use Rattle.timestamps.specs.Bytes.{key_cmp}
@@ -15,7 +16,7 @@ use Rattle.spans.specs.Effects.{After}
 use Rattle.spans.specs.Keys.{insert_key, insert_where}
 use Rattle.spans.proofs.Keyed.{IsIn, RisingKeys}
 use Rattle.spans.proofs.Steps.{by_test, same_key, key_itself}
-use Rattle.plain_versions.specs.Versions.{Chain, version_in, IsVersionSet}
+use Rattle.plain_versions.specs.Versions.{Chain, IsVersionSet}
 use Rattle.plain_versions.specs.Chains.{Stored, or_none, versions_at, version_at, IsWritten}
 
 -- the look-ups after the chain of x became w
@@ -25,14 +26,7 @@ IsPutAt es fs x w = (q : List ℕ) → lookup (is_at (key_cmp q)) fs ≡ cond (i
 -- one version of x changed
 pub version_put : (es fs : Stored) (x : List ℕ) (w : Chain) (t : ℕ) (a : Option After) → IsPutAt es fs x w → IsVersionSet (versions_at es x) w t a
     → (y : List ℕ) (i : ℕ) → version_at fs y i ≡ cond ((t == i) && bytes_eq x y) a (version_at es y i)
-version_put es fs x w t a put set y i = ap (λ o. version_in (or_none o) i) (put y) ∙ by_test (bytes_eq x y)
-    (λ here.
-    let at : is_at (key_cmp x) y ≡ true = is_eq-slice_cmp x y ∙ here in
-    let one : version_in w i ≡ cond (t == i) a (version_at es y i) = subst (λ z. version_in w i ≡ cond (t == i) a (version_at es z i)) (same_key x y here) (set i) in
-    rw (at, here) (one ∙ by_test (t == i) (λ same. rw same refl) (λ other. rw other refl)))
-    (λ there.
-    let off : is_at (key_cmp x) y ≡ false = is_eq-slice_cmp x y ∙ there in
-    rw (off, there) (by_test (t == i) (λ same. rw same refl) (λ other. rw other refl)))
+version_put es fs x w t a put set y i = search (by_test, is_eq-slice_cmp, same_key, rules, arith)
 
 -- the keys after a key was put in
 pub keys_inserted : (es : Stored) (x : List ℕ) (w : Chain) → keys_of (insert_entry key_cmp es x w) ≡ insert_key x (keys_of es)
@@ -47,16 +41,11 @@ keys_inserted (e ∷ es) x w = by_order (key_cmp x e.0) (keys_inserted es x w)
 
 pub is_within : (x : List ℕ) (es : Stored) (w : Chain) → lookup (is_at (key_cmp x)) es ≡ Some w → IsIn x (keys_of es)
 is_within x [] w is = cc
-is_within x (e ∷ es) w is = by_test (is_at (key_cmp x) e.0)
-    (λ here. inl (sym (same_key x e.0 (sym (is_eq-slice_cmp x e.0) ∙ here))))
-    (λ there. inr (is_within x es w (rw there at is)))
+is_within x (e ∷ es) w is = search (by_test, same_key, is_eq-slice_cmp, is_within x es w, rules, arith)
 
 stays_put : (x : List ℕ) (keys : List (List ℕ)) → RisingKeys keys → IsIn x keys → insert_key x keys ≡ keys
 stays_put x [] rising i = absurd i
-stays_put x (y ∷ ys) rising i = elim i [
-  | inl here ↦ (let e : key_cmp x y ≡ Equal = subst (λ k. key_cmp x k ≡ Equal) (sym here) (tied_itself nat_list_cmp_total x) in rw e refl)
-  | inr there ↦ (let e : key_cmp x y ≡ Greater = nat_list_cmp_total.antisymm x y ∙ ap ordering_reverse (rising.0 x there) in rw e (ap (λ l. y ∷ l) (stays_put x ys rising.1 there)))
-]
+stays_put x (y ∷ ys) rising i = grind (arith, common_steps, tied_itself, nat_list_cmp_total, stays_put x ys rising.1)
 
 -- the keys after a key was put in that was there
 pub keys_there : (es : Stored) (x : List ℕ) (w : Chain) → RisingKeys (keys_of es) → lookup (is_at (key_cmp x)) es ≡ Some w → keys_of es ≡ insert_key x (keys_of es)
@@ -69,9 +58,7 @@ dropped_next true false k' r o e = rw e refl
 dropped_next false k k' r o e = refl
 
 pub other_way : (x y : List ℕ) → is_at (key_cmp y) x ≡ bytes_eq x y
-other_way x y = is_eq-slice_cmp y x ∙ by_test (bytes_eq x y)
-    (λ on. rw on (subst (λ z. bytes_eq z x ≡ true) (same_key x y on) (key_itself x)))
-    (λ off. false_from_ne_true _ (λ on. let no : true ≡ false = sym (subst (λ z. bytes_eq x z ≡ true) (sym (same_key y x on)) (key_itself x)) ∙ off in cc) ∙ sym off)
+other_way x y = search (is_eq-slice_cmp, by_test, same_key, key_itself, false_from_ne_true, rules, arith)
 
 pub nothing_next : (t : Bool) (o : Option After) → cond (t && false) None o ≡ o
 nothing_next true o = refl
@@ -94,6 +81,4 @@ changed es fs x v w t a is rising same put set = record {
 
 -- the timestamp whose versions go now, and those whose versions go later
 pub gone_next : (t k i : ℕ) (r : Bool) (o : Option After) → t ≡ k → cond r None (cond (t == i) None o) ≡ cond (is_at (nat_cmp i) k || r) None o
-gone_next t k i r o e = by_test (t == i)
-    (λ same. let at : is_at (nat_cmp i) k ≡ true = grind (arith, nat_tests) in rw (same, at) (by_test r (λ on. rw on refl) (λ off. rw off refl)))
-    (λ other. let off : is_at (nat_cmp i) k ≡ false = grind (arith, nat_tests) in rw (other, off) refl)
+gone_next t k i r o e = grind (arith, common_steps)

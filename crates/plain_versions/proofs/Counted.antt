@@ -1,4 +1,5 @@
 -- The index and the count after versions came or went.
+use Rattle.std.proofs.lemmas.Grind.{common_steps}
 use Rattle.std.proofs.Common.{◌≡◌, ℕ, ◌+◌, ◌-◌, ◌≤◌, ◌==◌, Bool, true, false, cond, ◌&&◌, ◌||◌, ◌⊎◌, List, [], ◌∷◌, length, map, Option, Some, None, refl, sym, ◌∙◌, ap, subst, inl, inr, arith}
 use Rattle.std.specs.Prelude.{◌↔◌, bytes_eq, filter, is_some, not}
 use Rattle.std.specs.BTreeMap.{is_at}
@@ -37,45 +38,19 @@ counted_more f g n y none one up down is c = record {
 -- none that passes another test is left
 counted_less : {A : Type 0} (f g q : A → Bool) (n m : ℕ) → ((x : A) → g x ≡ (not (q x) && f x)) → IsCountOf (λ x. q x && f x) m → IsCountOf f n → (m ≤ n) × IsCountOf g (n - m)
 counted_less f g q n m less d c =
-    let gone : length d.all ≡ length (filter q c.all) = same_length d.all (filter q c.all) d.distinct (distinct_filter q c.all c.distinct) (λ x. let h = has_filter q x c.all in (
-      λ i. let both = and_parts _ _ ((d.each x).0 i) in h.1 (both.0, (c.each x).1 both.1),
-      λ i. let both = h.0 i in (d.each x).1 (and_from _ _ both.0 ((c.each x).0 both.1)),
-    )) in
+    let gone : length d.all ≡ length (filter q c.all) = same_length d.all (filter q c.all) d.distinct (distinct_filter q c.all c.distinct) (λ x. let h = has_filter q x c.all in grind (arith, common_steps)) in
     let all = length-filter_both q (λ x. not (q x)) (λ x. refl) c.all in
-    let before = c.count in
-    let went = d.count in (
-      omega arith,
-      record {
-        all = filter (λ x. not (q x)) c.all;
-        distinct = distinct_filter (λ x. not (q x)) c.all c.distinct;
-        each = λ x. let h = has_filter (λ x. not (q x)) x c.all in (
-          λ i. let both = h.0 i in less x ∙ and_from _ _ both.0 ((c.each x).0 both.1),
-          λ e. let both = and_parts _ _ (sym (less x) ∙ e) in h.1 (both.0, (c.each x).1 both.1),
-        );
-        count = omega arith;
-      },
-    )
+    grind (arith, common_steps, distinct_filter, has_filter, and_from, and_parts)
 
 -- ---- keys of a set
 
 pub has_key : (x : List ℕ) (keys : List (List ℕ)) → Has x keys ↔ (list_any (is_at (key_cmp x)) keys ≡ true)
 has_key x [] = (λ i. absurd i, λ e. cc)
-has_key x (y ∷ ys) = let more = has_key x ys in (
-  λ i. elim i [
-    | inl here ↦ or_left _ _ (other_way y x ∙ subst (λ z. bytes_eq y z ≡ true) here (key_itself y))
-    | inr there ↦ or_right _ _ (more.0 there)
-  ],
-  λ e. elim (or_cases _ _ e) [ inl here ↦ inl (same_key y x (sym (other_way y x) ∙ here)) | inr there ↦ inr (more.1 there) ],
-)
+has_key x (y ∷ ys) = grind (arith, common_steps, or_left, other_way, key_itself, or_right, or_cases, same_key, has_key x ys)
 
 -- the keys of t, where they are listed
 pub counted_keys : (stored : Stored) (keys : BTreeSet (List ℕ)) (t : ℕ) → IsOrdered key_cmp keys → ((y : List ℕ) → contains key_cmp keys y ≡ is_some (version_at stored y t)) → IsCountOf (wrote stored t) (length keys.keys)
-counted_keys stored keys t ordered listed = record {
-  all = keys.keys;
-  distinct = rising_distinct keys.keys (rising_keys keys.keys ordered);
-  each = λ x. let any = has_key x keys.keys in (λ i. sym (listed x) ∙ any.0 i, λ e. any.1 (listed x ∙ e));
-  count = refl;
-}
+counted_keys stored keys t ordered listed = grind (arith, common_steps, rising_distinct, rising_keys, has_key)
 
 -- ---- the versions of t, by name
 

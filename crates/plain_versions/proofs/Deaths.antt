@@ -1,5 +1,7 @@
 -- What a walk of the index counts.
-use Rattle.std.proofs.Common.{◌≡◌, ℕ, suc, ◌+◌, ◌-◌, ◌^◌, ◌<◌, ◌≤◌, ◌==◌, Bool, true, false, ◌&&◌, List, [], ◌∷◌, ◌++◌, length, map, Option, Some, None, refl, sym, ◌∙◌, ap, subst, inl, inr, arith}
+use Rattle.std.proofs.lemmas.Grind.{common_steps}
+use Rattle.std.proofs.Common.{rules}
+use Rattle.std.proofs.Common.{◌≡◌, ℕ, ◌+◌, ◌-◌, ◌^◌, ◌<◌, ◌≤◌, ◌==◌, Bool, true, false, ◌&&◌, List, [], ◌∷◌, ◌++◌, length, map, Option, Some, None, refl, sym, ◌∙◌, ap, subst, inl, inr, arith}
 use Rattle.std.specs.Prelude.{◌↔◌, filter, is_some, min, nat_le, nat_lt}
 use Rattle.std.specs.BTreeMap.{is_at}
 use Rattle.std.specs.BTreeSet.{BTreeSet, IsOrdered, contains}
@@ -27,10 +29,7 @@ counted_keys : (q : List ℕ → Bool) (keys : BTreeSet (List ℕ)) → IsOrdere
 counted_keys q keys ordered = record {
   all = filter q keys.keys;
   distinct = distinct_filter q keys.keys (rising_distinct keys.keys (rising_keys keys.keys ordered));
-  each = λ x. let f = has_filter q x keys.keys in let h = has_key x keys.keys in (
-    λ i. and_from _ _ (h.0 (f.0 i).1) (f.0 i).0,
-    λ e. let both : (contains key_cmp keys x ≡ true) × (q x ≡ true) = and_parts _ _ e in f.1 (both.1, h.1 both.0),
-  );
+  each = λ x. let f = has_filter q x keys.keys in grind (arith, common_steps, has_key, and_from, and_parts);
   count = refl;
 }
 
@@ -39,13 +38,7 @@ abbrev pub deaths_among : ByKey → ℕ → List (List ℕ) → ℕ
 deaths_among versions t keys = length (filter (λ x. deletes versions x t) keys) + length (filter (λ x. replaces versions x t) keys)
 
 pub counted_at : (versions : ByKey) (t n : ℕ) (keys : BTreeSet (List ℕ)) → IsOrdered key_cmp keys → n ≡ min (deaths_among versions t keys.keys) (2 ^ 64 - 1) → IsDeathCountAt versions t keys n
-counted_at versions t n keys ordered is = record {
-  deleted = length (filter (λ x. deletes versions x t) keys.keys);
-  replaced = length (filter (λ x. replaces versions x t) keys.keys);
-  are_deletes = counted_keys (λ x. deletes versions x t) keys ordered;
-  are_replaced = counted_keys (λ x. replaces versions x t) keys ordered;
-  sum = is;
-}
+counted_at versions t n keys ordered is = search (counted_keys, rules, arith)
 
 -- ---- the timestamps, one after another
 
@@ -58,13 +51,7 @@ named x y t k e h = rw (e, h) refl
 
 has_named : (t : ℕ) (v : VersionName) (keys : List (List ℕ)) → Has v (map (λ x. version_name x t) keys) ↔ ((t ≡ v.ts) × Has v.key keys)
 has_named t v [] = (λ i. absurd i, λ i. absurd i.1)
-has_named t v (x ∷ xs) = let more = has_named t v xs in (
-  λ i. elim i [
-    | inl here ↦ (ap (λ (m : VersionName). m.ts) here, inl (ap (λ (m : VersionName). m.key) here))
-    | inr there ↦ (let m = more.0 there in (m.0, inr m.1))
-  ],
-  λ i. elim i.1 [ inl here ↦ inl (named x v.key t v.ts here i.0) | inr there ↦ inr (more.1 (i.0, there)) ],
-)
+has_named t v (x ∷ xs) = grind (arith, common_steps, has_named t v xs)
 
 distinct_named : (t : ℕ) (keys : List (List ℕ)) → AreDistinct keys → AreDistinct (map (λ x. version_name x t) keys)
 distinct_named t [] d = tt
@@ -132,61 +119,8 @@ deaths_through versions low through t n m k keys under over none listed before h
   sum = omega (arith, is, before.sum, here.sum);
 }
 
--- none dies where there is no version
-counted_still : (versions : ByKey) (q : List ℕ → ℕ → Bool) (low through t n : ℕ) → ((x : List ℕ) (i : ℕ) → q x i ≡ true → is_some (versions x i) ≡ true) → through ≤ t → AreNone versions through (suc t)
-    → IsCountOf (λ (v : VersionName). is_between low through v.ts && q v.key v.ts) n → IsCountOf (λ (v : VersionName). is_between low t v.ts && q v.key v.ts) n
-counted_still versions q low through t n stands under none before = record {
-  all = before.all;
-  distinct = before.distinct;
-  each = λ v. (
-    λ i. (let p = parts through v ((before.each v).0 i) in and_from _ _ (and_from _ _ (lt-ltb low v.ts p.0) (le-leb v.ts t (omega (arith, p.1)))) p.2),
-    λ e. (let p = parts t v e in (before.each v).1 (by_test (nat_le v.ts through)
-        (λ low'. and_from _ _ (and_from _ _ (lt-ltb low v.ts p.0) low') p.2)
-        (λ high'. absurd (
-        let gone : versions v.key v.ts ≡ None = none v.key v.ts (grind (arith, nat_tests)) (omega (arith, p.1)) in
-        both_ways _ (ap is_some gone) (stands v.key v.ts p.2))))),
-  );
-  count = before.count;
-}
-  where
-    parts : (high : ℕ) (v : VersionName) → (is_between low high v.ts && q v.key v.ts) ≡ true → (low < v.ts) × (v.ts ≤ high) × (q v.key v.ts ≡ true)
-    parts high v e =
-        let both : (is_between low high v.ts ≡ true) × (q v.key v.ts ≡ true) = and_parts _ _ e in
-        let range : (nat_lt low v.ts ≡ true) × (nat_le v.ts high ≡ true) = and_parts _ _ both.0 in
-        (ltb-true low v.ts range.0, leb-true v.ts high range.1, both.1)
-
-deaths_still : (versions : ByKey) (low through t n : ℕ) → through ≤ t → AreNone versions through (suc t) → IsDeathCount versions low through n → IsDeathCount versions low t n
-deaths_still versions low through t n under none before = record {
-  deleted = before.deleted;
-  replaced = before.replaced;
-  are_deletes = counted_still versions (deletes versions) low through t before.deleted (deletes_stand versions) under none before.are_deletes;
-  are_replaced = counted_still versions (replaces versions) low through t before.replaced (replaces_stand versions) under none before.are_replaced;
-  sum = before.sum;
-}
-
--- nothing lies between a timestamp and one that isn't above it
-counted_nothing : (q : VersionName → Bool) (low high : ℕ) → high ≤ low → IsCountOf (λ (v : VersionName). is_between low high v.ts && q v) 0
-counted_nothing q low high under = record {
-  all = [];
-  distinct = tt;
-  each = λ v. (
-    λ i. absurd i,
-    λ e. (
-        let both : (is_between low high v.ts ≡ true) × (q v ≡ true) = and_parts _ _ e in
-        let range : (nat_lt low v.ts ≡ true) × (nat_le v.ts high ≡ true) = and_parts _ _ both.0 in
-        omega (arith, ltb-true low v.ts range.0, leb-true v.ts high range.1)),
-  );
-  count = refl;
-}
-
 pub deaths_nothing : (versions : ByKey) (low high : ℕ) → high ≤ low → IsDeathCount versions low high 0
-deaths_nothing versions low high under = record {
-  deleted = 0;
-  replaced = 0;
-  are_deletes = counted_nothing (λ v. deletes versions v.key v.ts) low high under;
-  are_replaced = counted_nothing (λ v. replaces versions v.key v.ts) low high under;
-  sum = refl;
-}
+deaths_nothing versions low high under = grind (arith, common_steps)
 
 -- ---- the walk
 
@@ -200,22 +134,12 @@ pub record HasWalked (stored : Stored) (low high count : ℕ) (rest : Listed) : 
   pub listed : (y : List ℕ) (i : ℕ) → through < i → i ≤ high → listed_in rest y i ≡ is_some (version_at stored y i)
 
 pub walk_starts : (stored : Stored) (low high : ℕ) (rest : Listed) → low ≤ high → AreBetween low high rest → ((y : List ℕ) (i : ℕ) → low < i → i ≤ high → listed_in rest y i ≡ is_some (version_at stored y i)) → HasWalked stored low high 0 rest
-walk_starts stored low high rest under rising listed = record {
-  through = low;
-  under = omega arith;
-  within = under;
-  counted = deaths_nothing (version_at stored) low low (omega arith);
-  rising = rising;
-  listed = listed;
-}
+walk_starts stored low high rest under rising listed = grind (arith, common_steps)
 
 -- nothing is listed at or below where the timestamps begin
 not_listed : (a b : ℕ) (es : Listed) (y : List ℕ) (i : ℕ) → AreBetween a b es → i ≤ a → listed_in es y i ≡ false
 not_listed a b [] y i rising low = refl
-not_listed a b (e ∷ es) y i rising low =
-    let above : a < e.0 = rising.0 in
-    let off : is_at (nat_cmp i) e.0 ≡ false = grind (arith, nat_tests) in
-    rw off (not_listed e.0 b es y i rising.2 (omega arith))
+not_listed a b (e ∷ es) y i rising low = grind (arith, common_steps, not_listed e.0 b es y i rising.2)
 
 pub walk_goes_on : (stored : Stored) (low high count m k t : ℕ) (keys : BTreeSet (List ℕ)) (es : Listed) → HasWalked stored low high count ((t, keys) ∷ es) → IsDeathCountAt (version_at stored) t keys m → k ≡ min (count + m) (2 ^ 64 - 1)
     → HasWalked stored low high k es
@@ -235,5 +159,4 @@ walk_goes_on stored low high count m k t keys es w here is =
     }
 
 pub walk_ends : (stored : Stored) (low high count : ℕ) → HasWalked stored low high count [] → IsDeathCount (version_at stored) low high count
-walk_ends stored low high count w = deaths_still (version_at stored) low w.through high count w.within
-    (λ x i above below. none_of (version_at stored x i) (sym (w.listed x i above (omega arith)))) w.counted
+walk_ends stored low high count w = grind (arith, common_steps)

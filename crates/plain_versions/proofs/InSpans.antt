@@ -1,6 +1,9 @@
 -- The chains of a span are those of a range, up to the first key that isn't below its end.
+use Rattle.std.proofs.lemmas.Grind.{common_steps}
+use Rattle.std.proofs.Common.{arith}
+use Rattle.std.proofs.Common.{rules}
 use Rattle.timestamps.specs.declared.key.TheConstants.{MAX_KEY_BYTES}
-use Rattle.std.proofs.Common.{◌≡◌, ℕ, ◌≤◌, Bool, true, false, List, [], ◌∷◌, length, Option, refl, sym, ◌∙◌, ap, inl, inr}
+use Rattle.std.proofs.Common.{◌≡◌, ℕ, ◌≤◌, Bool, true, false, List, [], ◌∷◌, length, Option, refl, sym, ◌∙◌}
 use Rattle.std.specs.Map.{keys_of}
 use Rattle.std.specs.BTreeMap.Range.{range_contains, entries_between}
 use Rattle.std.specs.declared.ops.Bound.TheVariants.{Unbounded}
@@ -8,8 +11,7 @@ use Rattle.std.specs.declared.cmp.Ordering.TheVariants.{Less}
 use Rattle.std.proofs.lemmas.Bool.{and_parts}
 use Rattle.std.proofs.Math.Bool.{and-true, and-false}
 use Rattle.timestamps.specs.Bytes.{key_cmp}
-use Rattle.spans.specs.KeyOrder.{from_low, below_high}
-use Rattle.spans.specs.Keys.{in_span}
+use Rattle.spans.specs.KeyOrder.{below_high}
 use Rattle.spans.specs.Starting.{start_of}
 use Rattle.spans.specs.declared.span.Span.{Span}
 use Rattle.spans.proofs.Keyed.{IsIn, RisingKeys}
@@ -29,9 +31,7 @@ ahead low es = entries_between key_cmp (start_of low) Unbounded es
 
 in_ahead : (low : Option (List ℕ)) (x : List ℕ) (es : Stored) → IsIn x (keys_of (ahead low es)) → IsIn x (keys_of es)
 in_ahead low x [] i = i
-in_ahead low x (e ∷ es) i = by_test (is_ahead low e.0)
-    (λ on. elim (rw on at i) [ inl here ↦ inl here | inr there ↦ inr (in_ahead low x es there) ])
-    (λ off. inr (in_ahead low x es (rw off at i)))
+in_ahead low x (e ∷ es) i = search (by_test, in_ahead low x es, rules, arith)
 
 rises_ahead : (low : Option (List ℕ)) (es : Stored) → RisingKeys (keys_of es) → RisingKeys (keys_of (ahead low es))
 rises_ahead low [] r = tt
@@ -48,34 +48,20 @@ from_ahead low (e ∷ es) = by_test (is_ahead low e.0)
 within_ahead : (span : Span) (es : Stored) → within span (ahead span.lo es) ≡ within span es
 within_ahead span [] = refl
 within_ahead span (e ∷ es) = by_test (is_ahead span.lo e.0)
-    (λ on. rw on (by_test (in_span span e.0)
-    (λ inside. rw inside (ap (λ ds. e ∷ ds) (within_ahead span es)))
-    (λ out. rw out (within_ahead span es))))
-    (λ off. by_test (in_span span e.0)
-    (λ inside. (let no : true ≡ false = sym (and-true _ ∙ starts_before span.lo e.0 (and_parts _ _ inside).0) ∙ off in cc))
-    (λ out. rw (off, out) (within_ahead span es)))
+    (λ on. grind (arith, common_steps, within_ahead span es))
+    (λ off. search (by_test, and-true, starts_before, and_parts, within_ahead span es, rules, arith))
 
 pub are_ahead : (span : Span) (es : Stored) → RisingKeys (keys_of es) → AreAheadOf span es (entries_between key_cmp (start_of span.lo) Unbounded es)
-are_ahead span es r = record {
-  ahead = record { rising = rises_ahead span.lo es r; from = from_ahead span.lo es };
-  all = within_ahead span es;
-}
+are_ahead span es r = grind (arith, common_steps, rises_ahead, from_ahead, within_ahead)
 
 -- ---- one step
 
 pub step_inside : (span : Span) (e : List ℕ × Chain) (es : Stored) → AreAhead span.lo (e ∷ es) → length e.0 ≤ MAX_KEY_BYTES → below_high span.hi e.0 ≡ true → within span (e ∷ es) ≡ e ∷ within span es
-step_inside span e es a short below =
-    let from : from_low span.lo e.0 ≡ true = a.from.0 short in
-    rw (from, below) refl
+step_inside span e es a short below = grind (arith, common_steps)
 
 none_inside : (span : Span) (x : List ℕ) (es : Stored) → below_high span.hi x ≡ false → ((y : List ℕ) → IsIn y (keys_of es) → key_cmp x y ≡ Less) → within span es ≡ []
 none_inside span x [] past above = refl
-none_inside span x (e ∷ es) past above =
-    let off : below_high span.hi e.0 ≡ false = stays_above span.hi x e.0 past (above e.0 (inl refl)) in
-    rw (off, and-false (from_low span.lo e.0)) (none_inside span x es past (λ y i. above y (inr i)))
+none_inside span x (e ∷ es) past above = grind (arith, common_steps, stays_above, and-false, none_inside span x es past)
 
 pub step_past : (span : Span) (e : List ℕ × Chain) (es : Stored) → AreAhead span.lo (e ∷ es) → below_high span.hi e.0 ≡ false → (within span (e ∷ es) ≡ []) × (within span es ≡ [])
-step_past span e es a past = (
-  rw (past, and-false (from_low span.lo e.0)) (none_inside span e.0 es past a.rising.0),
-  none_inside span e.0 es past a.rising.0,
-)
+step_past span e es a past = grind (arith, common_steps, and-false, none_inside)

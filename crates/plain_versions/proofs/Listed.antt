@@ -1,8 +1,8 @@
 -- The versions that an index lists between two timestamps.
-use Rattle.std.proofs.Common.{◌≡◌, ℕ, ◌<◌, ◌≤◌, ◌==◌, true, List, [], ◌∷◌, ◌++◌, sym, ◌∙◌, inl, inr, arith}
+use Rattle.std.proofs.lemmas.Grind.{common_steps}
+use Rattle.std.proofs.Common.{◌≡◌, ℕ, ◌<◌, ◌≤◌, ◌==◌, true, List, [], ◌∷◌, ◌++◌, sym, inl, inr, arith}
 use Rattle.std.specs.Prelude.{◌↔◌}
-use Rattle.std.proofs.lemmas.Bool.{both_ways, eqb-true}
-use Rattle.std.proofs.lemmas.Bool.Decides.{nat_tests}
+use Rattle.std.proofs.lemmas.Bool.{eqb-true}
 use Rattle.spans.specs.Collection.{VersionName}
 use Rattle.spans.proofs.Members.{Has, has_append}
 use Rattle.spans.proofs.Steps.{by_test}
@@ -44,13 +44,7 @@ has_listed a b (e ∷ es) v are =
       ],
       λ is. join.1 (inl (one.1 (sym at, order.1 (any.1 is)))),
     ))
-    (λ other. rw (number_at v.ts e.0, other) (
-      λ i. elim (join.0 i) [
-        | inl here ↦ absurd (let at = (one.0 here).0 in let same : (v.ts == e.0) ≡ true = grind (arith, nat_tests) in both_ways _ other same)
-        | inr there ↦ more.0 there
-      ],
-      λ is. join.1 (inr (more.1 is)),
-    ))
+    (λ other. grind (arith, common_steps))
 
 pub listed_rise : (a b : ℕ) (es : Listed) → AreBetween a b es → RisingNames (listed_names es)
 listed_rise a b [] are = tt
@@ -60,7 +54,4 @@ listed_rise a b (e ∷ es) are = names_append (names_at e.0 (in_order e.1.keys))
 -- the versions between the two timestamps are those that are listed there
 pub between_are : (stored : Stored) (written : Written) (n a b : ℕ) (es : Listed) → IsTiedTo stored written n → AreBetween a b es → ((y : List ℕ) (i : ℕ) → a < i → i ≤ b → listed_in es y i ≡ is_listed written y i)
     → (v : VersionName) → Has v (listed_names es) ↔ ((a < v.ts) × (v.ts ≤ b) × (is_version stored v ≡ true))
-between_are stored written n a b es tied are listed v = let has = has_listed a b es v are in (
-  λ i. let within = in_bounds a b es v are i in (within.0, within.1, sym (tied.listed v.key v.ts) ∙ sym (listed v.key v.ts within.0 within.1) ∙ has.0 i),
-  λ i. has.1 (listed v.key v.ts i.0 i.1 ∙ tied.listed v.key v.ts ∙ i.2),
-)
+between_are stored written n a b es tied are listed v = grind (arith, common_steps, has_listed, in_bounds)

@@ -1,4 +1,5 @@
 -- What is listed after the keys of one transaction changed.
+use Rattle.std.proofs.lemmas.Grind.{common_steps}
 use Rattle.std.proofs.Common.{◌≡◌, ℕ, ◌<◌, ◌≤◌, ◌==◌, Bool, true, false, cond, ◌&&◌, ◌||◌, List, [], ◌∷◌, Option, refl, sym, ◌∙◌, ap, subst, arith}
 use Rattle.std.specs.Prelude.{bytes_eq}
 use Rattle.std.specs.List.{filter, AllByRecursion}
@@ -20,24 +21,15 @@ use Rattle.plain_versions.specs.Written.{Listed, is_among, listed_in, AreBetween
 abbrev pub IsPutAt : Listed → Listed → ℕ → Option (BTreeSet (List ℕ)) → Type 0
 IsPutAt es fs t w = (q : ℕ) → lookup (is_at (nat_cmp q)) fs ≡ cond (is_at (nat_cmp t) q) w (lookup (is_at (nat_cmp q)) es)
 
-listed_too : (es fs : Listed) (x : List ℕ) (t : ℕ) (w : Option (BTreeSet (List ℕ))) → IsPutAt es fs t w → ((y : List ℕ) → is_among w y ≡ (bytes_eq x y || listed_in es y t))
-    → (y : List ℕ) (i : ℕ) → listed_in fs y i ≡ (((t == i) && bytes_eq x y) || listed_in es y i)
-listed_too es fs x t w put among y i = ap (λ o. is_among o y) (put i) ∙ by_test (t == i)
-    (λ here. rw (number_at t i, here) (among y ∙ ap (λ n. bytes_eq x y || listed_in es y n) (eqb-true t i here)))
-    (λ there. rw (number_at t i, there) refl)
-
 -- a key came to a map that is the one after a write
 pub listed_put : (m n k : BTreeMap ℕ (BTreeSet (List ℕ))) (x z : List ℕ) (t : ℕ) (w : Option (BTreeSet (List ℕ))) → n ≡ k → z ≡ x → IsPutAt m.entries k.entries t w → ((y : List ℕ) → is_among w y ≡ (bytes_eq z y || listed_in m.entries y t))
     → (y : List ℕ) (i : ℕ) → listed_in n.entries y i ≡ (((t == i) && bytes_eq x y) || listed_in m.entries y i)
-listed_put m n k x z t w is key put among = subst (λ l. (y : List ℕ) (i : ℕ) → listed_in l.entries y i ≡ (((t == i) && bytes_eq x y) || listed_in m.entries y i)) (sym is)
-    (listed_too m.entries k.entries x t w put (subst (λ u. (y : List ℕ) → is_among w y ≡ (bytes_eq u y || listed_in m.entries y t)) key among))
+listed_put m n k x z t w is key put among = grind (arith, common_steps)
 
 -- a key went
 pub unlisted : (es fs : Listed) (x : List ℕ) (t : ℕ) (w : Option (BTreeSet (List ℕ))) → IsPutAt es fs t w → ((y : List ℕ) → is_among w y ≡ cond (bytes_eq x y) false (listed_in es y t))
     → (y : List ℕ) (i : ℕ) → listed_in fs y i ≡ cond ((t == i) && bytes_eq x y) false (listed_in es y i)
-unlisted es fs x t w put among y i = ap (λ o. is_among o y) (put i) ∙ by_test (t == i)
-    (λ here. rw (number_at t i, here) (among y ∙ ap (λ n. cond (bytes_eq x y) false (listed_in es y n)) (eqb-true t i here)))
-    (λ there. rw (number_at t i, there) refl)
+unlisted es fs x t w put among y i = grind (arith, common_steps)
 
 -- ---- a part of the timestamps
 

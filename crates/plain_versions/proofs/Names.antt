@@ -1,8 +1,9 @@
 -- Names of versions in the order of streams, and the rows that they give.
-use Rattle.std.proofs.Common.{◌≡◌, ℕ, ◌<◌, ◌==◌, Bool, true, ◌&&◌, ◌||◌, List, [], ◌∷◌, ◌++◌, Option, Some, None, refl, sym, ◌∙◌, ap, subst, inl, inr}
+use Rattle.std.proofs.lemmas.Grind.{common_steps}
+use Rattle.std.proofs.Common.{arith}
+use Rattle.std.proofs.Common.{◌≡◌, ℕ, ◌<◌, ◌==◌, Bool, true, ◌&&◌, ◌||◌, List, [], ◌∷◌, ◌++◌, Option, Some, None, refl, ◌∙◌, ap, subst, inl, inr}
 use Rattle.std.specs.Prelude.{◌↔◌, nat_lt}
-use Rattle.std.specs.Ordering.{is_lt}
-use Rattle.std.proofs.lemmas.Bool.{and_from, both_ways, eq-eqb, lt-ltb, or_left, or_right}
+use Rattle.std.proofs.lemmas.Bool.{and_from, eq-eqb, lt-ltb, or_left, or_right}
 use Rattle.timestamps.specs.declared.row.Row.{Row}
 use Rattle.spans.specs.declared.span.Span.{Span}
 use Rattle.spans.specs.Collection.{VersionName, version_name}
@@ -21,10 +22,7 @@ use Rattle.plain_versions.specs.Streams.{names_at, row_with, row_of, is_wanted, 
 
 pub in_names : (t : ℕ) (keys : List (List ℕ)) (v : VersionName) → Has v (names_at t keys) ↔ ((t ≡ v.ts) × Has v.key keys)
 in_names t [] v = (λ i. absurd i, λ i. absurd i.1)
-in_names t (x ∷ xs) v = let more = in_names t xs v in (
-  λ i. elim i [ inl here ↦ (ap (λ (m : VersionName). m.ts) here, inl (ap (λ (m : VersionName). m.key) here)) | inr there ↦ (let m = more.0 there in (m.0, inr m.1)) ],
-  λ i. elim i.1 [ inl here ↦ inl (ap (λ k. version_name x k) i.0 ∙ ap (λ y. version_name y v.ts) here) | inr there ↦ inr (more.1 (i.0, there)) ],
-)
+in_names t (x ∷ xs) v = grind (arith, common_steps, in_names t xs v)
 
 -- ---- the order
 
@@ -37,10 +35,7 @@ RisingNames (v ∷ vs) = ((w : VersionName) → Has w vs → comes_before v w �
 
 pub names_rise : (t : ℕ) (keys : List (List ℕ)) → RisingKeys keys → RisingNames (names_at t keys)
 names_rise t [] r = tt
-names_rise t (x ∷ xs) r = (
-  λ w i. let there = (in_names t xs w).0 i in or_right (nat_lt t w.ts) ((t == w.ts) && key_lt x w.key) (and_from (t == w.ts) (key_lt x w.key) (eq-eqb t w.ts there.0) (ap is_lt (r.0 w.key (has_is w.key xs there.1)))),
-  names_rise t xs r.1,
-)
+names_rise t (x ∷ xs) r = grind (arith, common_steps, in_names, or_right, and_from, eq-eqb, has_is, names_rise t xs r.1)
 
 pub names_append : (vs ws : List VersionName) → RisingNames vs → RisingNames ws → ((v w : VersionName) → Has v vs → Has w ws → v.ts < w.ts) → RisingNames (vs ++ ws)
 names_append [] ws r s below = s
@@ -72,23 +67,8 @@ in_rows table stored span (v ∷ vs) r =
     let one = in_row v (version_at stored v.key v.ts) r in
     let join = in_append r (row_of stored v) (rows_of table stored span vs) in
     by_test (is_wanted table span v)
-    (λ on. rw on (
-      λ i. elim (join.0 i) [
-        | inl here ↦ (let is = one.0 here in (inl is.0, subst (λ m. is_wanted table span m ≡ true) is.0 on, subst (λ (m : VersionName). version_at stored m.key m.ts ≡ Some r.after) is.0 is.1))
-        | inr there ↦ (let m = more.0 there in (inr m.0, m.1, m.2))
-      ],
-      λ i. elim i.0 [
-        | inl here ↦ join.1 (inl (one.1 (here, subst (λ (m : VersionName). version_at stored m.key m.ts ≡ Some r.after) (sym here) i.2)))
-        | inr there ↦ join.1 (inr (more.1 (there, i.1, i.2)))
-      ],
-    ))
-    (λ off. rw off (
-      λ i. let m = more.0 i in (inr m.0, m.1, m.2),
-      λ i. elim i.0 [
-        | inl here ↦ absurd (both_ways _ off (subst (λ m. is_wanted table span m ≡ true) (sym here) i.1))
-        | inr there ↦ more.1 (there, i.1, i.2)
-      ],
-    ))
+    (λ on. grind (arith, common_steps))
+    (λ off. grind (arith, common_steps))
 
 pub rows_rise : (table : Table) (stored : Stored) (span : Span) (vs : List VersionName) → RisingNames vs → RisingRows (rows_of table stored span vs)
 rows_rise table stored span [] r = tt
@@ -117,13 +97,7 @@ order_rises (x ∷ xs) = add_rises x (in_order xs) (order_rises xs)
 
 pub order_has : (xs : List (List ℕ)) (y : List ℕ) → Has y (in_order xs) ↔ Has y xs
 order_has [] y = (λ i. i, λ i. i)
-order_has (x ∷ xs) y = let more = order_has xs y in (
-  λ i. elim (only_in x y (in_order xs) (has_is y (insert_key x (in_order xs)) i)) [ inl here ↦ inl here | inr there ↦ inr (more.0 (in_has y (in_order xs) there)) ],
-  λ i. elim i [
-    | inl here ↦ subst (λ z. Has z (insert_key x (in_order xs))) here (in_has x (insert_key x (in_order xs)) (added_in x (in_order xs)))
-    | inr there ↦ in_has y (insert_key x (in_order xs)) (stays_in x y (in_order xs) (has_is y (in_order xs) (more.1 there)))
-  ],
-)
+order_has (x ∷ xs) y = grind (arith, common_steps, only_in, has_is, in_has, added_in, stays_in, order_has xs y)
 
 -- rising keys are in order
 pub order_same : (xs : List (List ℕ)) → RisingKeys xs → in_order xs ≡ xs

@@ -1,7 +1,9 @@
 -- The undecided transactions are told one by one.
+use Rattle.std.proofs.lemmas.Grind.{common_steps}
+use Rattle.std.proofs.Common.{arith}
 use Rattle.std.proofs.Common.{◌≡◌, ℕ, true, List, [], ◌∷◌, ◌++◌, map, Some, None, refl, sym, ◌∙◌, ap, subst, inl, inr, append_assoc}
 use Rattle.std.specs.Prelude.{All}
-use Rattle.std.proofs.lemmas.List.{append-nil, map-append}
+use Rattle.std.proofs.lemmas.List.{map-append}
 use Rattle.std.proofs.lemmas.List.Elements.{All-append, All-cons, All-nil}
 use Rattle.spans.specs.declared.report.TransactionReport.{TransactionReport}
 use Rattle.spans.proofs.Members.{has_append}
@@ -55,12 +57,8 @@ told_more table stored ns ns' t t' left left' x k next same found counted is tol
 pub told_there : (table : Table) (stored : Stored) (ns : List TransactionReport) (t t' : ℕ) (left left' : List ℕ) → left ≡ t ∷ left' → t' ≡ t → None ≡ transaction_at table t' → AreToldOf table stored ns left → ⊥
 told_there table stored ns t t' left left' next same found told =
     let is : open_in (transaction_at table t) ≡ true = next_open table ns t left' (subst (λ l. AreAllOpen table (times ns ++ l)) next told.all) in
-    let none : None ≡ transaction_at table t = found ∙ ap (transaction_at table) same in
-    let no : open_in None ≡ true = ap open_in none ∙ is in cc
+    grind (arith, common_steps)
 
 -- all were told
 pub told_all : (table : Table) (stored : Stored) (ns : List TransactionReport) (left : List ℕ) → left ≡ [] → AreToldOf table stored ns left → AreOpen table stored ns
-told_all table stored ns left none told = record {
-  all = subst (AreAllOpen table) (ap (λ l. times ns ++ l) none ∙ append-nil (times ns)) told.all;
-  right = told.right;
-}
+told_all table stored ns left none told = grind (arith, common_steps)

@@ -1,5 +1,6 @@
 -- The set of the undecided timestamps as a list that counts them.
-use Rattle.std.proofs.Common.{Bool, List, ap, arith, false, refl, sym, true, ℕ, ◌&&◌, ◌≡◌, ◌∷◌, ◌∙◌, [], length}
+use Rattle.std.proofs.lemmas.Grind.{common_steps}
+use Rattle.std.proofs.Common.{Bool, List, arith, false, refl, sym, true, ℕ, ◌&&◌, ◌≡◌, ◌∷◌, ◌∙◌, [], length}
 use Rattle.std.specs.Prelude.{filter, nat_le, nat_lt, ◌↔◌}
 use Rattle.std.specs.List.{list_any}
 use Rattle.std.specs.Ordering.{nat_cmp}
@@ -7,13 +8,11 @@ use Rattle.std.specs.BTreeMap.{is_at}
 use Rattle.std.specs.BTreeMap.Range.{range_contains}
 use Rattle.std.specs.BTreeSet.{BTreeSet, IsOrdered}
 use Rattle.std.specs.declared.ops.Bound.TheVariants.{Excluded, Included, Unbounded}
-use Rattle.std.proofs.lemmas.Bool.{and_from, and_parts}
 use Rattle.std.proofs.lemmas.Bool.Decides.{nat_tests}
 use Rattle.std.proofs.lemmas.Map.Keys.{IsStrictlyIncreasing-from_sorted}
 use Rattle.std.proofs.Math.Bool.{and_assoc}
 use Rattle.spans.proofs.Members.{Has, distinct_filter, has_filter}
-use Rattle.spans.proofs.Steps.{by_test}
-use Rattle.spans.proofs.Sets.{is_found, has_any, distinct_times, all_within, in_range}
+use Rattle.spans.proofs.Sets.{has_any, distinct_times, all_within}
 use Rattle.plain_versions.specs.Counting.{IsCountOf}
 use Rattle.plain_versions.specs.Reports.{AreAllOpen}
 use Rattle.plain_versions.specs.Transactions.{Table, transaction_at, open_in, is_undecided_through}
@@ -51,10 +50,7 @@ counted_through table undecided to ordered tied = record {
   distinct = distinct_filter (range_contains nat_cmp Unbounded (Included to)) undecided.keys (distinct_times undecided.keys ordered);
   each = λ t.
       let some = has_filter (range_contains nat_cmp Unbounded (Included to)) t undecided.keys in
-      let open' = has_open table undecided tied t in (
-        λ i. and_from _ _ (sym (in_range to t) ∙ (some.0 i).0) (open'.0 (some.0 i).1),
-        λ e. let both = and_parts _ _ e in some.1 (in_range to t ∙ both.0, open'.1 both.1),
-      );
+      let open' = has_open table undecided tied t in grind (arith, common_steps);
   count = refl;
 }
 
@@ -66,20 +62,10 @@ any_filtered p t [] = nothing (p t)
     nothing : (b : Bool) → false ≡ (b && false)
     nothing true = refl
     nothing false = refl
-any_filtered p t (k ∷ ks) = let more = any_filtered p t ks in by_test (is_at (nat_cmp t) k)
-    (λ here. let same : p k ≡ p t = ap p (is_found t k here) in by_test (p t)
-    (λ on. rw (same, on, here) refl)
-    (λ off. rw (same, off) (more ∙ rw off refl)))
-    (λ there. by_test (p k)
-    (λ on. rw (on, there) more)
-    (λ off. rw (off, there) more))
+any_filtered p t (k ∷ ks) = grind (arith, common_steps, any_filtered p t ks)
 
 between_range : (low to t : ℕ) → range_contains nat_cmp (Excluded low) (Included to) t ≡ (nat_lt low t && nat_le t to)
 between_range low to t = grind (arith, nat_tests)
 
 pub between : (table : Table) (undecided : BTreeSet ℕ) (low to : ℕ) → AreUndecided table undecided → AreUndecidedBetween table low to (filter (range_contains nat_cmp (Excluded low) (Included to)) undecided.keys)
-between table undecided low to tied t =
-    any_filtered (range_contains nat_cmp (Excluded low) (Included to)) t undecided.keys
-    ∙ ap (λ b. b && list_any (is_at (nat_cmp t)) undecided.keys) (between_range low to t)
-    ∙ ap (λ b. (nat_lt low t && nat_le t to) && b) (tied t)
-    ∙ and_assoc (nat_lt low t) (nat_le t to) (open_in (transaction_at table t))
+between table undecided low to tied t = grind (arith, common_steps, any_filtered, between_range, and_assoc)

@@ -1,4 +1,5 @@
 -- The rows of what a span holds at a timestamp.
+use Rattle.std.proofs.lemmas.Grind.{common_steps}
 use Rattle.std.proofs.Common.{◌≡◌, ℕ, ◌≤◌, Bool, true, false, cond, List, [], ◌∷◌, ◌++◌, length, take, Option, Some, None, refl, sym, ◌∙◌, ap, subst, inl, inr, arith}
 use Rattle.std.specs.Prelude.{◌↔◌, is_some, nat_lt}
 use Rattle.std.specs.Map.{lookup, keys_of}
@@ -75,13 +76,7 @@ in_values table stored span t (e ∷ es) r are =
         | inr there ↦ join.1 (inr (more.1 (record { key = there; inside = i.inside; at = i.at; found = i.found; value = i.value })))
       ],
     ))
-    (λ out. rw out (
-      λ i. let m = more.0 i in record { key = inr m.key; inside = m.inside; at = m.at; found = m.found; value = m.value },
-      λ i. elim i.key [
-        | inl here ↦ absurd (both_ways _ out (subst (λ y. in_span span y ≡ true) (sym here) i.inside))
-        | inr there ↦ more.1 (record { key = there; inside = i.inside; at = i.at; found = i.found; value = i.value })
-      ],
-    ))
+    (λ out. grind (arith, common_steps))
 
 values_rise : (table : Table) (stored : Stored) (span : Span) (t : ℕ) (es : Stored) → AreByKey stored es → RisingKeys (keys_of es) → RisingRows (value_rows table span t es)
 values_rise table stored span t [] are r = tt
@@ -102,15 +97,7 @@ values_rise table stored span t (e ∷ es) are r = let more = values_rise table 
 
 in_within : (span : Span) (x : List ℕ) (es : Stored) → IsIn x (keys_of (within span es)) ↔ ((in_span span x ≡ true) × IsIn x (keys_of es))
 in_within span x [] = (λ i. absurd i, λ i. absurd i.1)
-in_within span x (e ∷ es) = let more = in_within span x es in by_test (in_span span e.0)
-    (λ inside. rw inside (
-      λ i. elim i [ inl here ↦ (subst (λ y. in_span span y ≡ true) here inside, inl here) | inr there ↦ (let m = more.0 there in (m.0, inr m.1)) ],
-      λ i. elim i.1 [ inl here ↦ inl here | inr there ↦ inr (more.1 (i.0, there)) ],
-    ))
-    (λ out. rw out (
-      λ i. let m = more.0 i in (m.0, inr m.1),
-      λ i. elim i.1 [ inl here ↦ absurd (both_ways _ out (subst (λ y. in_span span y ≡ true) (sym here) i.0)) | inr there ↦ more.1 (i.0, there) ],
-    ))
+in_within span x (e ∷ es) = grind (arith, common_steps, in_within span x es)
 
 pub within_rises : (span : Span) (es : Stored) → RisingKeys (keys_of es) → RisingKeys (keys_of (within span es))
 within_rises span [] r = tt
@@ -151,10 +138,7 @@ pub record AreFilling (table : Table) (span : Span) (t max : ℕ) (es : Stored) 
 
 pub filling_none : (table : Table) (span : Span) (t max : ℕ) (es rest : Stored) (x : List ℕ) (vs : Chain) (rows whole : List Row) → in_span span x ≡ false → es ≡ (x, vs) ∷ rest
     → AreFilling table span t max es rows whole → AreFilling table span t max rest rows whole
-filling_none table span t max es rest x vs rows whole out next f = record {
-  few = f.few;
-  left = sym (ap (λ (ds : Stored). take max (rows ++ value_rows table span t ds)) next ∙ rw out refl) ∙ f.left;
-}
+filling_none table span t max es rest x vs rows whole out next f = grind (arith, common_steps)
 
 pub filling_starts : (table : Table) (span : Span) (t max : ℕ) (es ds : Stored) (rows : List Row) → es ≡ ds → rows ≡ [] → AreFilling table span t max es rows (take max (value_rows table span t ds))
 filling_starts table span t max es ds rows same none = rw (same, none) (record { few = omega arith; left = refl })

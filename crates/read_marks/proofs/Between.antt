@@ -1,9 +1,9 @@
 -- Readers between two bounds, by the place where those above the lower one begin.
-use Rattle.std.proofs.Common.{ℕ, List, Bool, true, false, not, ◌&&◌, ◌≡◌, ◌<◌, ◌≤◌, ◌-◌, ◌↔◌, length, get_or, leb-false, lt-ltb, ltb-true, nat_lt, arith, Option, None, Some, refl, sym, ◌∙◌, slice_get}
+use Rattle.std.proofs.lemmas.Grind.{common_steps}
+use Rattle.std.proofs.Common.{ℕ, List, Bool, true, false, not, ◌&&◌, ◌≡◌, ◌<◌, ◌≤◌, ◌-◌, ◌↔◌, length, get_or, arith, Option, None, Some, refl, ◌∙◌, slice_get}
 use Rattle.std.specs.List.Sorted.{IsNonDecreasing}
 use Rattle.std.proofs.lemmas.List.{get_or_default}
 use Rattle.std.proofs.lemmas.Option.{get_or_from_slice_get, slice_get_within}
-use Rattle.spans.proofs.Steps.{by_test}
 use Rattle.kept.specs.Marks.{AtMost, IsBetween}
 use Rattle.read_marks.specs.Readers.{SplitsAt, is_kept, is_reader}
 use Rattle.read_marks.proofs.Splitting.{from_place, reader_is}
@@ -32,19 +32,14 @@ module _ (xs : List ℕ) (x : ℕ) (is : slice_get xs (length xs - 1) ≡ Some x
       omega (arith, latest_inside)
 
 pub has_first : (xs : List ℕ) (t at : ℕ) (to : Option ℕ) (x : ℕ) → SplitsAt xs t at → at < length xs → x ≡ get_or xs at x → AtMost to x → IsBetween (is_reader xs) t to
-has_first xs t at to x p lt is up =
-    let above : t < get_or xs at x = leb-false _ _ (p.1 at x (omega arith) lt) in
-    record { reader = x; mark = (reader_is xs x).1 (at, lt, sym is); higher = omega arith; low = up }
+has_first xs t at to x p lt is up = grind (arith, common_steps)
 
 pub first_up_to : (xs : List ℕ) (t at to x : ℕ) → IsNonDecreasing xs → SplitsAt xs t at → at < length xs → x ≡ get_or xs at x → IsBetween (is_reader xs) t (Some to) → x ≤ to
 first_up_to xs t at to x up p lt is b =
     let c = (reader_is xs b.reader).0 b.mark in
     let h : at ≤ c.0 = from_place xs t at c.0 b.reader p c.1 c.2 b.higher in
     let u : get_or xs at x ≤ get_or xs c.0 x = up at c.0 x h c.1 in
-    let e : get_or xs c.0 b.reader ≡ b.reader = c.2 in
-    let s : get_or xs c.0 x ≡ get_or xs c.0 b.reader = get_or_default xs c.0 x b.reader c.1 in
-    let top : b.reader ≤ to = b.low in
-    omega arith
+    grind (arith, common_steps)
 
 and-true : (a b : Bool) → (a && b) ≡ true → (a ≡ true) × (b ≡ true)
 and-true true b h = (refl, h)
@@ -52,20 +47,5 @@ and-true false b h = cc
 
 -- none is kept exactly where none is above what is forgotten
 pub none_kept : (xs : List ℕ) (t : ℕ) (b : Bool) → (b ≡ true) ↔ IsBetween (is_reader xs) t None → (not b ≡ true) ↔ ((j : ℕ) → is_kept t xs j ≡ false)
-none_kept xs t true is = (
-  λ no. cc,
-  λ none.
-      let r = is.0 refl in
-      let kept : is_kept t xs r.reader ≡ true = rw (lt-ltb t r.reader r.higher) r.mark in
-      let both : true ≡ false = sym kept ∙ none r.reader in
-      cc,
-)
-none_kept xs t false is = (
-  λ _ j. by_test (is_kept t xs j)
-      (λ on.
-      let both = and-true (nat_lt t j) (is_reader xs j) on in
-      let some : false ≡ true = is.1 (record { reader = j; mark = both.1; higher = ltb-true t j both.0; low = tt }) in
-      cc)
-      (λ off. off),
-  λ none. refl,
-)
+none_kept xs t true is = grind (arith, common_steps)
+none_kept xs t false is = grind (arith, common_steps)

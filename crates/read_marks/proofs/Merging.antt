@@ -1,4 +1,5 @@
 -- The readers of one segment, where those of a gap become one.
+use Rattle.std.proofs.lemmas.Grind.{common_steps}
 use Rattle.std.proofs.Common.{ℕ, List, [], ◌∷◌, ◌++◌, Bool, true, false, ◌≡◌, ◌<◌, ◌≤◌, ◌-◌, ◌+◌, ◌⊎◌, inl, inr, length, get_or, take, drop, leb, leb-true, leb-false, arith, refl, ap, sym, length-append, append_assoc, max, set, subst, ◌∙◌, Err, Ok, OnErr, OnOk, Result}
 use Rattle.std.specs.List.{Contains, insert, refill}
 use Rattle.std.specs.List.Sorted.{IsNonDecreasing}
@@ -8,7 +9,7 @@ use Rattle.std.proofs.lemmas.List.Sorted.{IsNonDecreasingBy-push, IsNonDecreasin
 use Rattle.std.proofs.lemmas.List.Elements.{Contains-get_or, Contains-append_left, Contains-append_right, Contains-append_cases, Contains-push, Contains-push_cases}
 use Rattle.kept.specs.Marks.{IsPiece}
 use Rattle.read_marks.specs.Readers.{is_reader, SplitsAt}
-use Rattle.read_marks.proofs.Splitting.{from_place, reader_is, in_front, in_back, to_front, to_back}
+use Rattle.read_marks.proofs.Splitting.{reader_is, in_front, in_back, to_front, to_back}
 
 -- of the readers above `above` and up to `until`, with ts, the greatest one
 record IsGreatest (xs : List ℕ) (above until ts top : ℕ) : Type 0 where
@@ -28,10 +29,7 @@ put_in xs a b top same = rw (← same) (sym (append_assoc (take a xs) (top ∷ [
 
 -- where none stands in the gap its ends are one place
 same_place : (xs : List ℕ) (above until a b : ℕ) → SplitsAt xs above a → SplitsAt xs until b → above ≤ until → a ≤ length xs → b ≤ a → a ≡ b
-same_place xs above until a b p q le bound none =
-    let low : b < a → get_or xs b 0 ≤ above = λ lt. leb-true _ _ (p.0 b 0 (omega arith) lt) in
-    let high : b < a → until < get_or xs b 0 = λ lt. leb-false _ _ (q.1 b 0 (omega arith) (omega arith)) in
-    grind (arith, low, high)
+same_place xs above until a b p q le bound none = grind (arith, common_steps)
 
 -- two tests that pass for the same
 pub same_test : (a b : Bool) → (a ≡ true → b ≡ true) → (b ≡ true → a ≡ true) → b ≡ a
@@ -114,20 +112,7 @@ greatest_some xs above until ts a b w top up p q low high some bound is sum =
 
 -- the greatest, where none does
 greatest_none : (xs : List ℕ) (above until ts a b : ℕ) → SplitsAt xs above a → SplitsAt xs until b → above < ts → ts ≤ until → b ≤ a → IsGreatest xs above until ts ts
-greatest_none xs above until ts a b p q low high none =
-    record {
-      low = low;
-      high = high;
-      one = inl refl;
-      past_ts = omega arith;
-      past = λ i c above-i until-i.
-          let ci : c.0 < length xs = c.1 in
-          let e : get_or xs c.0 i ≡ i = c.2 in
-          let h : b ≤ c.0 → until < get_or xs c.0 i = λ g. leb-false _ _ (q.1 c.0 i g ci) in
-          let k : c.0 < b = grind (arith, h) in
-          let m : a ≤ c.0 = from_place xs above a c.0 i p c.1 c.2 above-i in
-          absurd (omega arith);
-    }
+greatest_none xs above until ts a b p q low high none = grind (arith, common_steps)
 
 -- two rising lists, with a number between them
 rises_append : (f g : List ℕ) (m : ℕ) → IsNonDecreasing f → IsNonDecreasing g → ((k d : ℕ) → k < length f → get_or f k d ≤ m) → ((k d : ℕ) → k < length g → m ≤ get_or g k d) → IsNonDecreasing (f ++ g)

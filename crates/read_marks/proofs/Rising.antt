@@ -1,4 +1,5 @@
 -- The latest readers of some starts rise, one start after another.
+use Rattle.std.proofs.lemmas.Grind.{common_steps}
 use Rattle.std.proofs.Common.{ℕ, List, [], ◌∷◌, ◌++◌, Bool, true, false, cond, ◌||◌, ◌&&◌, ◌≡◌, ◌<◌, ◌+◌, refl, sym, ap, ◌∙◌, length, take, get_or, arith, subst, max, Option, Some, None}
 use Rattle.std.specs.Prelude.{bytes_eq}
 use Rattle.std.specs.List.{AllByRecursion, filter}
@@ -33,9 +34,7 @@ raised_twice p q ts (e ∷ es) = rw (raised_twice p q ts es) (ap (λ v. (e.0, v)
 -- tests that agree on all starts
 pub raised_alike : (p q : List ℕ → Bool) (ts : ℕ) (es : Entries) → ((x : List ℕ) → has x (keys_of es) ≡ true → p x ≡ q x) → raised p ts es ≡ raised q ts es
 raised_alike p q ts [] alike = refl
-raised_alike p q ts (e ∷ es) alike =
-    let here : p e.0 ≡ q e.0 = alike e.0 (ap (λ b. b || has e.0 (keys_of es)) (key_itself e.0)) in
-    rw (here, raised_alike p q ts es (λ x in'. alike x (or_right (bytes_eq e.0 x) (has x (keys_of es)) in'))) refl
+raised_alike p q ts (e ∷ es) alike = grind (arith, common_steps, has, key_itself, or_right, raised_alike p q ts es)
 
 -- none is the start
 none-raised : (k : List ℕ) (ts : ℕ) (es : Entries) → AllByRecursion (λ q. key_cmp k q ≡ Less) (keys_of es) → es ≡ raised (λ x. bytes_eq k x) ts es
@@ -56,16 +55,11 @@ raised_one k v ts (e ∷ es) sorted found = by_test (is_at (key_cmp k) e.0)
     let key : k ≡ e.0 = same_key k e.0 same in
     rw (here, same, is) (ap (λ fs. (e.0, max v ts) ∷ fs) (none-raised k ts es (subst (λ x. AllByRecursion (λ q. key_cmp x q ≡ Less) (keys_of es)) (sym key) sorted.0))))
     (λ there.
-    let other : bytes_eq k e.0 ≡ false = sym (is_eq-slice_cmp k e.0) ∙ there in
-    rw (there, other) (ap (λ fs. e ∷ fs) (raised_one k v ts es sorted.1 (sym (rw there refl) ∙ found))))
+    grind (arith, common_steps, is_eq-slice_cmp, raised_one k v ts es sorted.1))
 
 pub raised_none : (k : List ℕ) (ts : ℕ) (es : Entries) → lookup (is_at (key_cmp k)) es ≡ None → es ≡ raised (λ x. bytes_eq k x) ts es
 raised_none k ts [] none = refl
-raised_none k ts (e ∷ es) none = by_test (is_at (key_cmp k) e.0)
-    (λ here. let some : Some e.1 ≡ None = sym (rw here refl) ∙ none in cc)
-    (λ there.
-    let other : bytes_eq k e.0 ≡ false = sym (is_eq-slice_cmp k e.0) ∙ there in
-    rw other (ap (λ fs. e ∷ fs) (raised_none k ts es (sym (rw there refl) ∙ none))))
+raised_none k ts (e ∷ es) none = grind (arith, common_steps, by_test, is_eq-slice_cmp, raised_none k ts es)
 
 -- ---- some starts of a list, and then one more
 
@@ -87,17 +81,13 @@ has-push x k (j ∷ ks) = ap (λ b. bytes_eq j x || b) (has-push x k ks) ∙ gro
 
 pub raised_more : (starts : List (List ℕ)) (i : ℕ) (k : List ℕ) (ts : ℕ) (es fs gs : Entries) → i < length starts → k ≡ get_or starts i k → fs ≡ raised (λ x. has x (take i starts)) ts es → gs ≡ raised (λ x. bytes_eq k x) ts fs
     → gs ≡ raised (λ x. has x (take (i + 1) starts)) ts es
-raised_more starts i k ts es fs gs low is before one =
-    one ∙ ap (raised (λ x. bytes_eq k x) ts) before ∙ raised_twice (λ x. bytes_eq k x) (λ x. has x (take i starts)) ts es
-    ∙ raised_alike _ _ ts es (λ x in'. sym (has-push x k (take i starts)) ∙ ap (has x) (sym (take_more starts i k low ∙ ap (λ j. take i starts ++ j ∷ []) (sym is))))
+raised_more starts i k ts es fs gs low is before one = grind (arith, common_steps, raised_twice, has, raised_alike, has-push, take_more)
 
 -- ---- all starts of a range
 
 keys-filtered : (p : List ℕ → Bool) (es : Entries) → keys_of (filter (λ e. p e.0) es) ≡ filter p (keys_of es)
 keys-filtered p [] = refl
-keys-filtered p (e ∷ es) = by_test (p e.0)
-    (λ on. rw on (ap (λ ks. e.0 ∷ ks) (keys-filtered p es)))
-    (λ off. rw off (keys-filtered p es))
+keys-filtered p (e ∷ es) = grind (arith, common_steps, keys-filtered p es)
 
 pub raised_range : (lo : List ℕ) (hi : Option (List ℕ)) (ts : ℕ) (es : Entries) → raised (λ x. has x (keys_of (starts_in lo hi es))) ts es ≡ raised (picks lo hi) ts es
 raised_range lo hi ts es = raised_alike _ _ ts es (λ x among. ap (has x) (keys-filtered (picks lo hi) es) ∙ has_filtered (picks lo hi) x (keys_of es) ∙ ap (λ b. picks lo hi x && b) among ∙ and-true (picks lo hi x))

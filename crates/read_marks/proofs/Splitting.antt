@@ -1,9 +1,10 @@
 -- A rising list of readers, divided at a number.
-use Rattle.std.proofs.Common.{ℕ, zero, suc, List, [], ◌∷◌, Bool, true, false, ◌&&◌, cond, nat_lt, refl, lt-ltb, ◌≡◌, ◌<◌, ◌≤◌, ◌+◌, ◌-◌, length, get_or, take, drop, leb-true, leb-false, arith, sym, ap, ◌∙◌, Decides, length-drop, length-take-le}
+use Rattle.std.proofs.lemmas.Grind.{common_steps}
+use Rattle.std.proofs.Common.{ℕ, zero, suc, List, [], ◌∷◌, Bool, true, false, ◌&&◌, cond, nat_lt, refl, lt-ltb, ◌≡◌, ◌<◌, ◌≤◌, ◌+◌, ◌-◌, length, get_or, take, drop, leb-true, leb-false, arith, ap, ◌∙◌, Decides, length-drop}
 use Rattle.std.specs.Cmp.{unsigned_Decides, nat_eq_equiv}
 use Rattle.std.specs.List.{Contains, filter}
 use Rattle.std.proofs.lemmas.Bool.{le-ltb, eqb-true}
-use Rattle.std.proofs.lemmas.List.{get_or-take, get_or-drop}
+use Rattle.std.proofs.lemmas.List.{get_or-drop}
 use Rattle.std.proofs.lemmas.Map.Made.{is_member-Decides, is_member-filter}
 use Rattle.read_marks.specs.Readers.{is_reader, SplitsAt}
 
@@ -12,29 +13,15 @@ reader_is xs j = is_member-Decides unsigned_Decides xs j
 
 -- a reader above t stands from the place on
 pub from_place : (xs : List ℕ) (t at k j : ℕ) → SplitsAt xs t at → k < length xs → get_or xs k j ≡ j → t < j → at ≤ k
-from_place xs t at k j p lt e above =
-    let g : k < at → get_or xs k j ≤ t = λ small. leb-true _ _ (p.0 k j (omega arith) small) in
-    let e : get_or xs k j ≡ j = e in
-    grind (arith, g)
+from_place xs t at k j p lt e above = grind (arith, common_steps)
 
 -- those up to t are the first
 pub in_front : (xs : List ℕ) (t at j : ℕ) → SplitsAt xs t at → at ≤ length xs → Contains (take at xs) j → Contains xs j × (j ≤ t)
-in_front xs t at j p bound c =
-    let n : length (take at xs) ≡ at = length-take-le at xs bound in
-    let lt : c.0 < length (take at xs) = c.1 in
-    let k : c.0 < at = omega arith in
-    let e : get_or xs c.0 j ≡ j = sym (get_or-take at xs c.0 j k) ∙ c.2 in
-    let low : get_or xs c.0 j ≤ t = leb-true _ _ (p.0 c.0 j (omega arith) k) in
-    ((c.0, omega arith, e), omega arith)
+in_front xs t at j p bound c = grind (arith, common_steps)
 
 -- those above t are the rest
 pub in_back : (xs : List ℕ) (t at j : ℕ) → SplitsAt xs t at → Contains (drop at xs) j → Contains xs j × (t < j)
-in_back xs t at j p c =
-    let lt : c.0 < length (drop at xs) = c.1 in
-    let k : at + c.0 < length xs = omega (arith, length-drop at xs) in
-    let e : get_or xs (at + c.0) j ≡ j = sym (get_or-drop at xs c.0 j) ∙ c.2 in
-    let above : t < get_or xs (at + c.0) j = leb-false _ _ (p.1 (at + c.0) j (omega arith) k) in
-    ((at + c.0, k, e), omega arith)
+in_back xs t at j p c = grind (arith, common_steps)
 
 pub to_back : (xs : List ℕ) (t at j : ℕ) → SplitsAt xs t at → Contains xs j → t < j → Contains (drop at xs) j
 to_back xs t at j p c above =
@@ -44,13 +31,7 @@ to_back xs t at j p c above =
     (c.0 - at, omega (arith, length-drop at xs), get_or-drop at xs (c.0 - at) j ∙ ap (λ i. get_or xs i j) n ∙ c.2)
 
 pub to_front : (xs : List ℕ) (t at j : ℕ) → SplitsAt xs t at → at ≤ length xs → Contains xs j → j ≤ t → Contains (take at xs) j
-to_front xs t at j p bound c low =
-    let lt : c.0 < length xs = c.1 in
-    let e : get_or xs c.0 j ≡ j = c.2 in
-    let h : at ≤ c.0 → t < get_or xs c.0 j = λ g. leb-false _ _ (p.1 c.0 j g lt) in
-    let k : c.0 < at = grind (arith, h) in
-    let n : length (take at xs) ≡ at = length-take-le at xs bound in
-    (c.0, omega arith, get_or-take at xs c.0 j k ∙ e)
+to_front xs t at j p bound c low = grind (arith, common_steps)
 
 above-turn : (x : ℕ) (xs : List ℕ) (t : ℕ) (b : Bool) → nat_lt t x ≡ b → b ≡ true → drop 0 xs ≡ filter (nat_lt t) xs → x ∷ xs ≡ cond (nat_lt t x) (x ∷ filter (nat_lt t) xs) (filter (nat_lt t) xs)
 above-turn x xs t b is high more = rw (is, high) (ap (λ ys. x ∷ ys) more)

@@ -1,7 +1,8 @@
 -- What a consumer has that goes on with rows of which some are told again: the map, before the first row of each later timestamp.
-use Rattle.std.proofs.Common.{◌≡◌, ℕ, suc, ◌-◌, ◌<◌, ◌≤◌, ◌⊎◌, inl, inr, Bool, true, false, not, List, [], ◌∷◌, ◌++◌, None, refl, sym, ◌∙◌, ap, subst, append_assoc, arith}
-use Rattle.std.specs.Prelude.{bytes_eq, filter, max, nat_le, nat_lt}
-use Rattle.std.proofs.lemmas.Bool.{and_parts, lt-ltb, ltb-true}
+use Rattle.std.proofs.lemmas.Grind.{common_steps}
+use Rattle.std.proofs.Common.{◌≡◌, ℕ, suc, ◌-◌, ◌<◌, ◌≤◌, ◌⊎◌, inl, inr, Bool, true, false, List, [], ◌∷◌, ◌++◌, refl, sym, ◌∙◌, ap, subst, append_assoc, arith}
+use Rattle.std.specs.Prelude.{bytes_eq, filter, max, nat_lt}
+use Rattle.std.proofs.lemmas.Bool.{ltb-true}
 use Rattle.std.proofs.lemmas.List.Elements.{filter_map-append}
 use Rattle.timestamps.specs.declared.row.Row.{Row}
 use Rattle.spans.specs.declared.span.Span.{Span}
@@ -9,14 +10,13 @@ use Rattle.spans.specs.declared.calls.messages.Message.{Message}
 use Rattle.spans.specs.declared.calls.messages.Message.TheVariants as messages
 use Rattle.spans.specs.Effects.{Effect}
 use Rattle.spans.specs.Transactions.{closed_of}
-use Rattle.spans.specs.Keys.{in_span}
 use Rattle.spans.specs.Serial.{Map, put, map_at, span_part}
 use Rattle.spans.specs.Streams.{stream_of}
-use Rattle.spans.specs.Feeds.{Feed, told_to, row_in, rows_in, list_of, start_of}
+use Rattle.spans.specs.Feeds.{Feed, told_to, rows_in, list_of, start_of}
 use Rattle.spans.specs.Collection.{floor_after}
 use Rattle.spans.specs.FeedRight.{FeedIsRight}
-use Rattle.spans.specs.Consumer.{view_of, seed_of, last_row, AllTaken}
-use Rattle.spans.specs.Completeness.{GoesOn, seen_after, is_row_of, is_new}
+use Rattle.spans.specs.Consumer.{view_of, seed_of, AllTaken}
+use Rattle.spans.specs.Completeness.{GoesOn, seen_after, is_new}
 use Rattle.spans.proofs.Steps.{by_test}
 use Rattle.spans.proofs.StreamOrder.{IsRowIn, RisingRows, IsStreamed, in_append, in_stream, rises_parts}
 use Rattle.spans.proofs.Listing.{in_list, list_rises}
@@ -26,10 +26,7 @@ use Rattle.spans.proofs.Complete.{high_rows, low_rows, low_then_high, split_list
 
 -- a timestamp that is new above one cursor is new above each lower one
 pub new_above : (c d t : ℕ) (taken : List Message) → is_new c taken t ≡ true → d < t → is_new d taken t ≡ true
-new_above c d t taken new above =
-    let other : not (is_row_of (last_row None taken) t) ≡ true = (and_parts (nat_lt c t) (not (is_row_of (last_row None taken) t)) new).1 in
-    let over : nat_lt d t ≡ true = lt-ltb d t above in
-    rw (over, other) refl
+new_above c d t taken new above = grind (arith, common_steps)
 
 -- none of the rows is of the key
 abbrev LeavesKey : List Row → List ℕ → Type 0
@@ -45,46 +42,22 @@ value_decided : (m n : Map) (rows : List Row) (x : List ℕ) → (by_rows m rows
 value_decided m n [] x = inr (λ r i. absurd i)
 value_decided m n (r ∷ rows) x = elim (value_decided (put m r.key r.after) (put n r.key r.after) rows x) [
   | inl same ↦ inl same
-  | inr later ↦ by_test (bytes_eq r.key x)
-      (λ here.
-      let first : put m r.key r.after x ≡ r.after = rw here refl in
-      let second : put n r.key r.after x ≡ r.after = rw here refl in
-      inl (value_left (put m r.key r.after) rows x later ∙ first ∙ sym second ∙ sym (value_left (put n r.key r.after) rows x later)))
-      (λ there. inr (λ s i. elim i [ inl is ↦ subst (λ (q : Row). bytes_eq q.key x ≡ false) is there | inr j ↦ later s j ]))
+  | inr later ↦ grind (arith, common_steps, by_test, value_left)
 ]
 
 in_filter : (test : Row → Bool) (rows : List Row) (r : Row) → IsRowIn r (filter test rows) → IsRowIn r rows × (test r ≡ true)
 in_filter test [] r i = absurd i
-in_filter test (s ∷ rows) r i = by_test (test s)
-    (λ is. let j : IsRowIn r (s ∷ filter test rows) = rw is at i in elim j [
-      | inl here ↦ (inl here, subst (λ (q : Row). test q ≡ true) here is)
-      | inr there ↦ (let more = in_filter test rows r there in (inr more.0, more.1))
-    ])
-    (λ isnt. let j : IsRowIn r (filter test rows) = rw isnt at i in let more = in_filter test rows r j in (inr more.0, more.1))
+in_filter test (s ∷ rows) r i = grind (arith, common_steps, in_filter test rows r)
 
 -- what the feed that goes on from n told before the first row of a later timestamp has each of the span's rows from n up to there
 told_again : (p : List Effect) (g : ℕ) (feed next : Feed) (n : ℕ) (again later : List Message) (row : Row) → FeedIsRight p g next → GoesOn feed next n
     → told_to p g ≡ again ++ messages.Row row ∷ later → n < row.ts - 1 → (r : Row) → IsStreamed p feed.span n (row.ts - 1) r → IsRowIn r (rows_in again)
 told_again p g feed next n again later row right goes told past r s =
     let k : ℕ = row.ts - 1 in
-    let listed : IsRowIn r (list_of p next k) = (in_list p next k r).1 (inr (record {
-      above = omega (arith, goes.cursor, s.above);
-      low = s.low;
-      done = s.done;
-      inside = subst (λ (i : Span). in_span i r.key ≡ true) (sym goes.span) s.inside;
-      wrote = s.wrote;
-    })) in
+    let listed : IsRowIn r (list_of p next k) = grind (arith, common_steps, in_list) in
     let whole : told_to p g ≡ (again ++ messages.Row row ∷ []) ++ later = told ∙ sym (append_assoc again (messages.Row row ∷ []) later) in
     let low : list_of p next k ≡ low_rows k (rows_in (again ++ messages.Row row ∷ [])) = told_low p g next (again ++ messages.Row row ∷ []) later k right whole (floor_join (start_of next) again (messages.Row row)) (omega (arith, goes.cursor)) in
-    let found = in_filter (λ (q : Row). nat_le q.ts k) (rows_in (again ++ messages.Row row ∷ [])) r (subst (IsRowIn r) low listed) in
-    let split : IsRowIn r (rows_in again ++ row ∷ []) = subst (IsRowIn r) (filter_map-append row_in again (messages.Row row ∷ [])) found.0 in
-    elim ((in_append r (rows_in again) (row ∷ [])).0 split) [
-      | inl here ↦ here
-      | inr last ↦ elim last [
-        | inl is ↦ absurd (let same : row.ts ≡ r.ts = ap (λ (q : Row). q.ts) is in omega (arith, s.low))
-        | inr none ↦ absurd none
-      ]
-    ]
+    grind (arith, common_steps, in_filter, filter_map-append, in_append)
 
 -- the rows that a consumer has above where it was told all are of the next timestamp
 near_rows : (p : List Effect) (f : ℕ) (feed : Feed) (before rest : List Message) (n k : ℕ) → FeedIsRight p f feed → AllTaken feed.span (start_of feed) [] (told_to p f)
@@ -96,10 +69,7 @@ near_rows p f feed before rest n k right takes told floor from past r i =
     let above : n < r.ts = ltb-true _ _ h.1 in
     let near : r.ts ≤ suc (floor_after (start_of feed) before) = row_near_floor feed.span (start_of feed) [] before r (taken_before feed.span (start_of feed) [] before rest (subst (AllTaken feed.span (start_of feed) []) told takes)) h.0 in
     let listed = (in_list p feed far r).0 (subst (IsRowIn r) (sym split.1) ((in_append r (rows_in before) (rows_in rest ++ split.0)).1 (inl h.0))) in
-    elim listed [
-      | inl first ↦ absurd (omega (arith, first.1.at, above))
-      | inr s ↦ record { above = above; low = omega (arith, near, floor); done = s.done; inside = s.inside; wrote = s.wrote }
-    ]
+    grind (arith, common_steps)
 
 -- what a consumer has is the map where it was told all, but for the rows above that
 seen_low : (p : List Effect) (f : ℕ) (feed : Feed) (before rest : List Message) (n : ℕ) → FeedIsRight p f feed → told_to p f ≡ before ++ rest → floor_after (start_of feed) before ≡ n → feed.cursor ≤ n

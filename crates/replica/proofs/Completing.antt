@@ -1,5 +1,6 @@
 -- A replica of a feed is complete at each resolved timestamp.
-use Rattle.std.proofs.Common.{◌≡◌, ℕ, ◌-◌, ◌<◌, Bool, true, false, cond, List, [], ◌∷◌, ◌++◌, Some, None, refl, sym, ◌∙◌, ap, subst, arith}
+use Rattle.std.proofs.lemmas.Grind.{common_steps}
+use Rattle.std.proofs.Common.{◌≡◌, ℕ, ◌-◌, ◌<◌, Bool, true, false, cond, List, [], ◌∷◌, ◌++◌, Some, None, sym, ◌∙◌, ap, subst, arith}
 use Rattle.std.specs.Prelude.{bytes_eq}
 use Rattle.spans.specs.declared.calls.messages.Message.{Message}
 use Rattle.spans.specs.declared.calls.messages.Message.TheVariants as messages
@@ -9,7 +10,7 @@ use Rattle.spans.specs.Serial.{Map, put, map_at, span_part}
 use Rattle.spans.specs.Feeds.{Feed, feed_of, told_to, start_of}
 use Rattle.spans.specs.FeedRight.{FeedIsRight}
 use Rattle.spans.specs.Consumer.{view_of, seed_of, AllTaken, ConsumerIsRight}
-use Rattle.spans.specs.Completeness.{AllAbove, complete_after, complete_for, seen_after, is_new, CompleteIsRight}
+use Rattle.spans.specs.Completeness.{AllAbove, complete_for, seen_after, is_new, CompleteIsRight}
 use Rattle.spans.proofs.Floors.{all_above_floor, taken_after}
 use Rattle.spans.proofs.Complete.{complete_is}
 use Rattle.replica.specs.declared.replica.Replica.{Replica}
@@ -32,8 +33,7 @@ view_seen p feed s r before starts follows x = follows.rows x ∙ view_like s.ro
 
 -- and it was told all through the same timestamp
 complete_seen : (p : List Effect) (feed : Feed) (s : Start) (r : Replica) (before : List Message) → IsStartOf p feed s → Follows r s before → through_in r ≡ complete_for feed before
-complete_seen p feed s r before starts follows =
-    through_is r s before follows ∙ ap (λ n. complete_after n s.cursor before) starts.start ∙ ap (λ n. complete_after (start_of feed) n before) starts.cursor
+complete_seen p feed s r before starts follows = grind (arith, common_steps)
 
 -- a seed that is complete at a timestamp is the map there
 seed_whole : (initial : Bool) (m part : Map) (cursor t : ℕ) (x : List ℕ) → cond initial None (Some cursor) ≡ Some t → (cursor ≡ t → part x ≡ m x) → cond initial (λ y. None) part x ≡ m x
@@ -42,9 +42,7 @@ seed_whole false m part cursor t x is same = same cc
 
 -- what is told after the messages that a replica has taken is above where it was told all
 told_above : (r : Replica) (s : Start) (before rest : List Message) (n : ℕ) → AllTaken s.span s.start [] (before ++ rest) → Follows r s before → through_in r ≡ Some n → AllAbove n rest
-told_above r s before rest n taken follows is =
-    let at = complete_is s.start s.cursor n before (sym (through_is r s before follows) ∙ is) in
-    subst (λ k. AllAbove k rest) at.0 (all_above_floor s.span s.start before rest (taken_after s.span s.start [] before rest taken))
+told_above r s before rest n taken follows is = grind (arith, common_steps, complete_is, through_is, all_above_floor, taken_after)
 
 pub replica_is_right : (p : List Effect) (f : ℕ) (feed : Feed) (s : Start) → IsStartOf p feed s → ConsumerIsRight p f feed → CompleteIsRight p f feed
     → ((g : ℕ) (next : Feed) → feed_of p g ≡ Some next → ConsumerIsRight p g next) → FeedIsRight p f feed → ((g : ℕ) (next : Feed) → feed_of p g ≡ Some next → FeedIsRight p g next)
@@ -92,19 +90,7 @@ replica_is_right p f feed s starts right complete others fed fed_others = record
 }
 
 pub starts_initial : (p : List Effect) (feed : Feed) → feed.kind.initial ≡ true → IsStartOf p feed (initial_start feed.span feed.cursor)
-starts_initial p feed is = record {
-  span = refl;
-  cursor = refl;
-  start = rw is refl;
-  first = rw is refl;
-  rows = λ x. rw is refl;
-}
+starts_initial p feed is = grind (arith, common_steps)
 
 pub starts_seeded : (p : List Effect) (feed : Feed) (rows : List (List ℕ × List ℕ)) → feed.kind.initial ≡ false → AreRows feed.span (map_at p feed.cursor) rows → IsStartOf p feed (seeded_start feed.span feed.cursor rows)
-starts_seeded p feed rows isnt are = record {
-  span = refl;
-  cursor = refl;
-  start = rw isnt refl;
-  first = rw isnt refl;
-  rows = λ x. rw isnt (among_part feed.span (map_at p feed.cursor) rows are x);
-}
+starts_seeded p feed rows isnt are = grind (arith, common_steps, among_part)

@@ -1,4 +1,5 @@
 -- A replica after one message more.
+use Rattle.std.proofs.lemmas.Grind.{common_steps}
 use Rattle.std.proofs.Common.{◌≡◌, ℕ, ◌-◌, ◌<◌, Bool, true, false, cond, not, ◌&&◌, List, [], ◌∷◌, ◌++◌, Option, Some, None, refl, sym, ◌∙◌, ap, subst, arith}
 use Rattle.std.specs.Prelude.{nat_lt, max, option_map, is_none}
 use Rattle.std.proofs.lemmas.Bool.Decides.{nat_tests}
@@ -43,15 +44,7 @@ put_like m n k a x same = rw same refl
 -- a row was taken
 pub takes_row : (old new : Replica) (r : Row) → new.span ≡ old.span → new.resolved ≡ old.resolved → ((x : List ℕ) → view_in new x ≡ put (view_in old) r.key r.after x)
     → new.last ≡ Some (place_of r) → new.complete ≡ None → new.cursor ≡ old.cursor → new.floor ≡ r.ts - 1 → Takes old new (messages.Row r)
-takes_row old new r span resolved rows last complete cursor floor s ms before = record {
-  span = span ∙ before.span;
-  cursor = cursor ∙ before.cursor;
-  floor = floor ∙ sym (floor_join s.start ms (messages.Row r));
-  rows = λ x. rows x ∙ put_like (view_in old) (view_of s.rows ms) r.key r.after x (before.rows x) ∙ ap (λ (m : Map). m x) (sym (view_join s.rows ms (messages.Row r ∷ [])));
-  resolved = resolved ∙ before.resolved ∙ sym (resolved_join s.start ms (messages.Row r ∷ []));
-  last = last ∙ ap (option_map place_of) (sym (last_join None ms (messages.Row r ∷ [])));
-  complete = complete ∙ sym (at_join s.first ms (messages.Row r ∷ []));
-}
+takes_row old new r span resolved rows last complete cursor floor s ms before = grind (arith, common_steps, floor_join, put_like, view_join, resolved_join, last_join, at_join)
 
 -- a resolved message was taken
 pub takes_resolved : (old new : Replica) (t : ℕ) → new.span ≡ old.span → new.table ≡ old.table → old.resolved < t → new.resolved ≡ t

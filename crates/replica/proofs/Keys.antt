@@ -1,5 +1,7 @@
 -- The keys of a value, as they are copied.
-use Rattle.std.proofs.Common.{◌≡◌, ℕ, true, List, [], ◌∷◌, ◌++◌, Option, Some, Result, Ok, Err, sym, ◌∙◌, ap, subst, append_assoc}
+use Rattle.std.proofs.lemmas.Grind.{common_steps}
+use Rattle.std.proofs.Common.{arith}
+use Rattle.std.proofs.Common.{◌≡◌, ℕ, true, List, [], ◌∷◌, ◌++◌, Option, Some, Result, Ok, Err, sym, ◌∙◌, ap, subst}
 use Rattle.std.specs.Prelude.{IfOk, ◌↔◌}
 use Rattle.std.specs.BTreeSet.{BTreeSet}
 use Rattle.std.proofs.lemmas.List.{append-nil}
@@ -11,8 +13,7 @@ use Rattle.replica.proofs.Tied.{has_some}
 
 -- one key more was copied
 pub copied_more : (done rest next all : List (List ℕ)) (key copy : List ℕ) → done ++ rest ≡ all → rest ≡ key ∷ next → copy ≡ key → (done ++ copy ∷ []) ++ next ≡ all
-copied_more done rest next all key copy so_far step same =
-    append_assoc done (copy ∷ []) next ∙ ap (λ k. done ++ (k ∷ next)) same ∙ ap (λ l. done ++ l) (sym step) ∙ so_far
+copied_more done rest next all key copy so_far step same = grind (arith, common_steps)
 
 pub copied_all : (done rest all : List (List ℕ)) → done ++ rest ≡ all → rest ≡ [] → done ≡ all
 copied_all done rest all so_far none = sym (append-nil done) ∙ ap (λ l. done ++ l) (sym none) ∙ so_far

@@ -1,5 +1,8 @@
 -- What is listed after the keys of one value changed.
-use Rattle.std.proofs.Common.{◌≡◌, ℕ, false, cond, ◌&&◌, ◌||◌, List, Option, refl, sym, ◌∙◌, ap, subst}
+use Rattle.std.proofs.lemmas.Grind.{common_steps}
+use Rattle.std.proofs.Common.{arith}
+use Rattle.std.proofs.Common.{rules}
+use Rattle.std.proofs.Common.{◌≡◌, ℕ, false, cond, ◌&&◌, ◌||◌, List, Option, sym, subst}
 use Rattle.std.specs.Prelude.{bytes_eq}
 use Rattle.std.specs.Map.{lookup}
 use Rattle.std.specs.BTreeMap.{BTreeMap, is_at}
@@ -18,15 +21,11 @@ ArePutAt es fs v w = (q : List ℕ) → lookup (is_at (key_cmp q)) fs ≡ cond (
 
 -- two changes of the same value in turn
 pub put_at_twice : (es fs gs : Keyed) (v : List ℕ) (a b : Option (BTreeSet (List ℕ))) → ArePutAt es fs v a → ArePutAt fs gs v b → ArePutAt es gs v b
-put_at_twice es fs gs v a b first second q = second q ∙ by_test (is_at (key_cmp v) q)
-    (λ here. rw here refl)
-    (λ there. rw there (first q ∙ rw there refl))
+put_at_twice es fs gs v a b first second q = grind (arith, common_steps)
 
 pub listed_more : (es fs : Keyed) (x v : List ℕ) (w : Option (BTreeSet (List ℕ))) → ArePutAt es fs v w → ((y : List ℕ) → is_among w y ≡ (bytes_eq x y || is_listed es y v))
     → (y u : List ℕ) → is_listed fs y u ≡ ((bytes_eq v u && bytes_eq x y) || is_listed es y u)
-listed_more es fs x v w put among y u = ap (λ o. is_among o y) (put u) ∙ by_test (bytes_eq v u)
-    (λ here. rw (at_bytes v u, here) (among y ∙ ap (λ n. bytes_eq x y || is_listed es y n) (same_key v u here)))
-    (λ there. rw (at_bytes v u, there) refl)
+listed_more es fs x v w put among y u = search (by_test, at_bytes, same_key, rules, arith)
 
 -- the same of a map that is the one after a write
 pub listed_put : (m n k : BTreeMap (List ℕ) (BTreeSet (List ℕ))) (x z v c : List ℕ) (w : Option (BTreeSet (List ℕ))) → n ≡ k → z ≡ x → c ≡ v → ArePutAt m.entries k.entries c w
@@ -39,13 +38,9 @@ listed_put m n k x z v c w is key value put among =
 
 pub listed_less : (es fs : Keyed) (x v : List ℕ) (w : Option (BTreeSet (List ℕ))) → ArePutAt es fs v w → ((y : List ℕ) → is_among w y ≡ cond (bytes_eq x y) false (is_listed es y v))
     → (y u : List ℕ) → is_listed fs y u ≡ cond (bytes_eq v u && bytes_eq x y) false (is_listed es y u)
-listed_less es fs x v w put among y u = ap (λ o. is_among o y) (put u) ∙ by_test (bytes_eq v u)
-    (λ here. rw (at_bytes v u, here) (among y ∙ ap (λ n. cond (bytes_eq x y) false (is_listed es y n)) (same_key v u here)))
-    (λ there. rw (at_bytes v u, there) refl)
+listed_less es fs x v w put among y u = search (by_test, at_bytes, same_key, rules, arith)
 
 -- the keys of v are the same ones
 pub listed_same : (m n k : BTreeMap (List ℕ) (BTreeSet (List ℕ))) (v : List ℕ) (w : Option (BTreeSet (List ℕ))) → n ≡ k → ArePutAt m.entries k.entries v w → ((y : List ℕ) → is_among w y ≡ is_listed m.entries y v)
     → (y u : List ℕ) → is_listed n.entries y u ≡ is_listed m.entries y u
-listed_same m n k v w is put among y u = ap (λ l. is_listed l.entries y u) is ∙ ap (λ o. is_among o y) (put u) ∙ by_test (bytes_eq v u)
-    (λ here. rw (at_bytes v u, here) (among y ∙ ap (λ n. is_listed m.entries y n) (same_key v u here)))
-    (λ there. rw (at_bytes v u, there) refl)
+listed_same m n k v w is put among y u = search (by_test, at_bytes, same_key, rules, arith)

@@ -1,6 +1,8 @@
 -- Rows and keys that rise, and what they say of a map.
-use Rattle.std.proofs.Common.{◌≡◌, ℕ, zero, suc, ◌+◌, ◌<◌, true, false, List, [], ◌∷◌, length, get_or, Some, refl, sym, ◌∙◌, ap, subst, inl, inr, arith}
-use Rattle.std.specs.Prelude.{bytes_eq, ◌↔◌}
+use Rattle.std.proofs.lemmas.Grind.{common_steps}
+use Rattle.std.proofs.Common.{rules}
+use Rattle.std.proofs.Common.{◌≡◌, ℕ, zero, suc, ◌+◌, ◌<◌, true, List, [], ◌∷◌, length, get_or, Some, refl, subst, inl, inr, arith}
+use Rattle.std.specs.Prelude.{◌↔◌}
 use Rattle.std.specs.List.{AllByRecursion, list_any}
 use Rattle.std.specs.List.Sorted.{IsStrictlySortedBy}
 use Rattle.std.specs.Map.{keys_of}
@@ -21,10 +23,7 @@ Pairs = List (List ℕ × List ℕ)
 
 above_all : (y : List ℕ) (es : Pairs) → AllByRecursion (λ z. key_cmp y z ≡ Less) (keys_of es) → (x v : List ℕ) → IsPairIn es x v → key_cmp y x ≡ Less
 above_all y [] all x v i = absurd i
-above_all y (e ∷ es) all x v i = elim i [
-  | inl here ↦ subst (λ z. key_cmp y z ≡ Less) here.0 all.0
-  | inr there ↦ above_all y es all.1 x v there
-]
+above_all y (e ∷ es) all x v i = grind (arith, common_steps, above_all y es all.1 x v)
 
 -- the entries of an ordered map rise
 pub rows_rise : (es : Pairs) → IsStrictlySortedBy key_cmp (keys_of es) → KeysRise es
@@ -34,39 +33,19 @@ rows_rise (e ∷ es) rising = (above_all e.0 es rising.0, rows_rise es rising.1)
 
 pub pair_at : (es : Pairs) (x v : List ℕ) → value_at es x ≡ Some v → IsPairIn es x v
 pair_at [] x v is = cc
-pair_at (e ∷ es) x v is = by_test (is_at (key_cmp x) e.0)
-    (λ here. inl (sym (same_key x e.0 (sym (at_bytes x e.0) ∙ here)), (let s : Some e.1 ≡ Some v = rw here at is in cc)))
-    (λ there. inr (pair_at es x v (rw there at is)))
+pair_at (e ∷ es) x v is = search (by_test, same_key, at_bytes, pair_at es x v, rules, arith)
 
 pub at_pair : (es : Pairs) (x v : List ℕ) → KeysRise es → IsPairIn es x v → value_at es x ≡ Some v
 at_pair [] x v rising i = absurd i
-at_pair (e ∷ es) x v rising i = elim i [
-  | inl here ↦ (let on : is_at (key_cmp x) e.0 ≡ true = at_bytes x e.0 ∙ ap (bytes_eq x) here.0 ∙ key_itself x in rw on (ap Some here.1))
-  | inr there ↦ (let off : is_at (key_cmp x) e.0 ≡ false = at_bytes x e.0 ∙ false_from_ne_true (bytes_eq x e.0) (λ same.
-      let before : key_cmp e.0 e.0 ≡ Less = subst (λ z. key_cmp e.0 z ≡ Less) (same_key x e.0 same) (rising.0 x v there) in
-      key_clash e.0 e.0 before before) in
-      rw off (at_pair es x v rising.1 there))
-]
+at_pair (e ∷ es) x v rising i = search (at_bytes, key_itself, false_from_ne_true, same_key, key_clash, at_pair es x v rising.1, rules, arith)
 
 -- the entries of an ordered map are its rows
 pub are_rows_of : (es : Pairs) → IsStrictlySortedBy key_cmp (keys_of es) → AreRowsOf (value_at es) es
-are_rows_of es rising = record {
-  rising = rows_rise es rising;
-  each = λ x v. (λ i. at_pair es x v (rows_rise es rising) i, λ e. pair_at es x v e);
-}
+are_rows_of es rising = grind (arith, common_steps, rows_rise, at_pair, pair_at)
 
 pub is_in_set : (ks : List (List ℕ)) (x : List ℕ) → IsIn x ks ↔ (list_any (is_at (key_cmp x)) ks ≡ true)
 is_in_set [] x = (λ i. absurd i, λ e. cc)
-is_in_set (k ∷ ks) x = let more = is_in_set ks x in (
-  λ i. elim i [
-    | inl here ↦ or_left (is_at (key_cmp x) k) _ (at_bytes x k ∙ ap (bytes_eq x) here ∙ key_itself x)
-    | inr there ↦ or_right (is_at (key_cmp x) k) _ (more.0 there)
-  ],
-  λ e. elim (or_cases (is_at (key_cmp x) k) _ e) [
-    | inl here ↦ inl (sym (same_key x k (sym (at_bytes x k) ∙ here)))
-    | inr there ↦ inr (more.1 there)
-  ],
-)
+is_in_set (k ∷ ks) x = search (or_left, at_bytes, key_itself, or_right, or_cases, same_key, is_in_set ks x, rules, arith)
 
 -- rising keys at neighbouring places
 pub rise_at : (es : Pairs) (i : ℕ) (d : List ℕ × List ℕ) → KeysRise es → i + 1 < length es → key_cmp (get_or es i d).0 (get_or es (i + 1) d).0 ≡ Less

@@ -1,5 +1,7 @@
 -- A map that is made of rising rows, one after another.
-use Rattle.std.proofs.Common.{◌≡◌, ℕ, false, cond, List, [], ◌∷◌, ◌++◌, map, Option, Some, None, refl, sym, ◌∙◌, ap, subst}
+use Rattle.std.proofs.Common.{arith}
+use Rattle.std.proofs.Common.{rules}
+use Rattle.std.proofs.Common.{◌≡◌, ℕ, false, cond, List, [], ◌∷◌, ◌++◌, map, Option, Some, None, refl, sym, ◌∙◌, ap}
 use Rattle.std.specs.Prelude.{bytes_eq}
 use Rattle.std.specs.declared.cmp.Ordering.TheVariants.{Less}
 use Rattle.std.proofs.lemmas.Bool.{both_ways}
@@ -46,8 +48,7 @@ puts_among : (m : Map) (es : Pairs) (x : List ℕ) → KeysRise es → puts m es
 puts_among m [] x rising = refl
 puts_among m (e ∷ es) x rising = puts_among (put m e.0 (Some e.1)) es x rising.1 ∙ by_test (bytes_eq e.0 x)
     (λ here.
-    let none : value_among es x ≡ None = subst (λ y. value_among es y ≡ None) (same_key e.0 x here) (none_below e.0 es rising.0) in
-    rw (here, none) refl)
+    search (same_key, none_below, rules, arith))
     (λ there. rw there refl)
 
 -- rows that rise, put into an empty map, are what the map has

@@ -1,15 +1,14 @@
 -- The tests of the rows that a replica begins with.
-use Rattle.std.proofs.Common.{◌≡◌, ℕ, zero, suc, ◌+◌, ◌-◌, ◌<◌, ◌≤◌, ◌==◌, true, false, List, [], ◌∷◌, length, get_or, refl, sym, ◌∙◌, ap, subst, arith}
+use Rattle.std.proofs.lemmas.Grind.{common_steps}
+use Rattle.std.proofs.Common.{◌≡◌, ℕ, zero, suc, ◌+◌, ◌-◌, ◌<◌, ◌≤◌, true, false, List, [], ◌∷◌, length, get_or, refl, sym, ◌∙◌, ap, arith}
 use Rattle.std.specs.Map.{keys_of}
 use Rattle.std.specs.declared.cmp.Ordering.TheVariants.{Less}
 use Rattle.std.proofs.lemmas.Cmp.{nat_list_cmp_total}
-use Rattle.std.proofs.lemmas.Bool.Decides.{nat_tests}
 use Rattle.std.proofs.lemmas.Map.Keys.{sorted_from_all_adjacent}
 use Rattle.std.proofs.lemmas.Map.Entries.{length-keys_of}
 use Rattle.timestamps.specs.Bytes.{key_cmp}
 use Rattle.spans.specs.declared.span.Span.{Span}
 use Rattle.spans.specs.Keys.{in_span, KeysRise}
-use Rattle.spans.proofs.Steps.{by_test}
 use Rattle.replica.proofs.Rising.{rows_rise, rise_at, keys_at}
 
 abbrev Pairs : Type 0
@@ -25,9 +24,7 @@ abbrev pub AreInsideTo : Span → Pairs → ℕ → Type 0
 AreInsideTo s es n = (k : ℕ) (d : List ℕ × List ℕ) → k < n → in_span s (get_or es k d).0 ≡ true
 
 pub inside_more : (s : Span) (es : Pairs) (i : ℕ) (x : List ℕ × List ℕ) → AreInsideTo s es i → i < length es → x ≡ get_or es i x → in_span s x.0 ≡ true → AreInsideTo s es (i + 1)
-inside_more s es i x so_far low is inside k d below = by_test (k == i)
-    (λ here. subst (λ j. in_span s (get_or es j d).0 ≡ true) (grind (arith, nat_tests)) (subst (λ (y : List ℕ × List ℕ). in_span s y.0 ≡ true) (is ∙ at_any es i x d low) inside))
-    (λ there. so_far k d (grind (arith, nat_tests)))
+inside_more s es i x so_far low is inside k d below = grind (arith, common_steps)
 
 -- one of them doesn't
 pub outside_at : (s : Span) (es : Pairs) (i : ℕ) (x : List ℕ × List ℕ) → i < length es → x ≡ get_or es i x → in_span s x.0 ≡ false → AreInsideTo s es (length es) → false ≡ true
@@ -38,14 +35,7 @@ abbrev pub AreRisingTo : Pairs → ℕ → Type 0
 AreRisingTo es n = (k : ℕ) (d : List ℕ × List ℕ) → k + 1 < n → key_cmp (get_or es k d).0 (get_or es (k + 1) d).0 ≡ Less
 
 pub rising_more : (es : Pairs) (i : ℕ) (x y : List ℕ × List ℕ) → AreRisingTo es i → 1 ≤ i → i < length es → x ≡ get_or es (i - 1) x → y ≡ get_or es i y → key_cmp x.0 y.0 ≡ Less → AreRisingTo es (i + 1)
-rising_more es i x y so_far some low first second less k d below = by_test (k + 1 == i)
-    (λ here.
-    let at : i - 1 ≡ k = grind (arith, nat_tests) in
-    let next : i ≡ k + 1 = grind (arith, nat_tests) in
-    let x_is : x ≡ get_or es k d = first ∙ at_any es (i - 1) x d (omega arith) ∙ ap (λ j. get_or es j d) at in
-    let y_is : y ≡ get_or es (k + 1) d = second ∙ at_any es i y d low ∙ ap (λ j. get_or es j d) next in
-    ap (λ (p : List ℕ × List ℕ). key_cmp p.0 (get_or es (k + 1) d).0) (sym x_is) ∙ ap (λ (p : List ℕ × List ℕ). key_cmp x.0 p.0) (sym y_is) ∙ less)
-    (λ there. so_far k d (grind (arith, nat_tests)))
+rising_more es i x y so_far some low first second less k d below = grind (arith, common_steps)
 
 pub rising_all : (es : Pairs) → AreRisingTo es (length es) → KeysRise es
 rising_all es all = rows_rise es (sorted_from_all_adjacent nat_list_cmp_total (keys_of es) [] (λ k low.

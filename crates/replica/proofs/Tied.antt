@@ -1,4 +1,7 @@
 -- The tie of an index to its rows, after a change of both.
+use Rattle.std.proofs.lemmas.Grind.{common_steps}
+use Rattle.std.proofs.Common.{arith}
+use Rattle.std.proofs.Common.{rules}
 use Rattle.std.proofs.Common.{◌≡◌, ℕ, Bool, true, false, cond, ◌&&◌, ◌||◌, List, Option, Some, None, refl, sym, ◌∙◌, ap}
 use Rattle.std.specs.Prelude.{bytes_eq, ◌↔◌}
 use Rattle.std.proofs.lemmas.Bool.{false_from_ne_true, both_ways}
@@ -40,36 +43,13 @@ less_same true = refl
 less_same false = refl
 
 pub tied_new : (m n : Map) (l g : Lists) (k a : List ℕ) → AreTied m l → m k ≡ None → IsPut m n k (Some a) → IsMore l g k a → AreTied n g
-tied_new m n l g k a tied none is more x v = more x v ∙ by_test (bytes_eq k x)
-    (λ here.
-    let before : l x v ≡ false = tied x v ∙ ap (λ o. has_value o v) (at_key m k x None none here) in
-    let after : n x ≡ Some a = is x ∙ rw here refl in
-    rw (here, before, after, and-true (bytes_eq a v)) (or-false (bytes_eq a v)))
-    (λ there.
-    let after : n x ≡ m x = is x ∙ rw there refl in
-    rw (there, after, and-false (bytes_eq a v)) (tied x v))
+tied_new m n l g k a tied none is more x v = search (by_test, at_key, and-true, or-false, and-false, rules, arith)
 
 pub tied_other : (m n : Map) (l f g : Lists) (k a b : List ℕ) → AreTied m l → m k ≡ Some b → bytes_eq b a ≡ false → IsPut m n k (Some a) → IsMore l f k a → IsLess f g k b → AreTied n g
-tied_other m n l f g k a b tied some apart is more less x v = less x v ∙ ap (cond (bytes_eq b v && bytes_eq k x) false) (more x v) ∙ by_test (bytes_eq k x)
-    (λ here.
-    let before : l x v ≡ bytes_eq b v = tied x v ∙ ap (λ o. has_value o v) (at_key m k x (Some b) some here) in
-    let after : n x ≡ Some a = is x ∙ rw here refl in
-    rw (here, before, after, and-true (bytes_eq b v), and-true (bytes_eq a v)) (by_test (bytes_eq b v)
-    (λ old. rw old (sym (false_from_ne_true (bytes_eq a v) (λ new. both_ways (bytes_eq b a) apart (ap (bytes_eq b) (same_key a v new ∙ sym (same_key b v old)) ∙ key_itself b)))))
-    (λ other. rw other (or-false (bytes_eq a v)))))
-    (λ there.
-    let after : n x ≡ m x = is x ∙ rw there refl in
-    rw (there, after, and-false (bytes_eq b v), and-false (bytes_eq a v)) (tied x v))
+tied_other m n l f g k a b tied some apart is more less x v = grind (arith, common_steps, by_test, at_key, and-true, false_from_ne_true, both_ways, same_key, key_itself, or-false, and-false)
 
 pub tied_less : (m n : Map) (l g : Lists) (k b : List ℕ) → AreTied m l → m k ≡ Some b → IsPut m n k None → IsLess l g k b → AreTied n g
-tied_less m n l g k b tied some is less x v = less x v ∙ by_test (bytes_eq k x)
-    (λ here.
-    let before : l x v ≡ bytes_eq b v = tied x v ∙ ap (λ o. has_value o v) (at_key m k x (Some b) some here) in
-    let after : n x ≡ None = is x ∙ rw here refl in
-    rw (here, before, after, and-true (bytes_eq b v)) (less_same (bytes_eq b v)))
-    (λ there.
-    let after : n x ≡ m x = is x ∙ rw there refl in
-    rw (there, after, and-false (bytes_eq b v)) (tied x v))
+tied_less m n l g k b tied some is less x v = search (by_test, at_key, and-true, less_same, and-false, rules, arith)
 
 pub has_some : (o : Option (List ℕ)) (v : List ℕ) → (has_value o v ≡ true) ↔ (o ≡ Some v)
 has_some None v = (λ e. cc, λ e. cc)

@@ -1,9 +1,10 @@
 -- The maps and the streams of a database that was rebuilt.
-use Rattle.std.proofs.Common.{◌≡◌, ℕ, ◌<◌, ◌≤◌, ◌==◌, true, false, cond, List, [], ◌∷◌, length, Option, Some, None, refl, sym, ◌∙◌, ap, subst, arith}
+use Rattle.std.proofs.lemmas.Grind.{common_steps}
+use Rattle.std.proofs.Common.{◌≡◌, ℕ, ◌<◌, ◌≤◌, true, false, List, [], ◌∷◌, length, Option, Some, None, refl, sym, ◌∙◌, ap, arith}
 use Rattle.std.proofs.lemmas.Bool.Decides.{nat_tests}
 use Rattle.std.specs.Prelude.{is_some, nat_le}
 use Rattle.timestamps.specs.declared.row.Row.{Row}
-use Rattle.spans.specs.Collection.{LiveFeed, horizon_of, is_dead, live_feeds, version_name}
+use Rattle.spans.specs.Collection.{LiveFeed, horizon_of, live_feeds}
 use Rattle.spans.specs.Effects.{After, Begins, Commits, Effect}
 use Rattle.spans.specs.Kept.{IsKeptOf, kept_version}
 use Rattle.spans.specs.Newest.{Version}
@@ -11,10 +12,10 @@ use Rattle.spans.specs.Promises.{left_version_of}
 use Rattle.spans.specs.Serial.{map_at}
 use Rattle.spans.specs.Streams.{stream_of}
 use Rattle.spans.specs.Transactions.{is_committed, owner_of}
-use Rattle.spans.specs.Versions.{committed_version_of, write_of}
+use Rattle.spans.specs.Versions.{committed_version_of}
 use Rattle.spans.specs.declared.span.Span.{Span}
 use Rattle.spans.proofs.Copies.{AllAllowed, not_both}
-use Rattle.spans.proofs.Dead.{committed_is, left_newest}
+use Rattle.spans.proofs.Dead.{left_newest}
 use Rattle.spans.proofs.Steps.{by_test, map_at_is, newest_same}
 use Rattle.spans.proofs.StreamOrder.{IsStreamed, in_stream, stream_rises}
 use Rattle.kept.proofs.Counts.{feeds_count}
@@ -25,18 +26,13 @@ use Rattle.restarts.proofs.Rebuilding.{left_kept, none_left}
 -- who has committed has begun
 pub committed_begun : (p : List Effect) → AllAllowed p → (t : ℕ) → is_committed p t ≡ true → is_some (owner_of p t) ≡ true
 committed_begun [] all t is = cc
-committed_begun (Begins k seat ∷ p) all t is = by_test (k == t)
-    (λ same. rw same refl)
-    (λ other. rw other (committed_begun p all.1 t is))
-committed_begun (Commits k ∷ p) all t is = by_test (k == t)
-    (λ same. let e : k ≡ t = grind (arith, nat_tests) in subst (λ n. is_some (owner_of p n) ≡ true) e all.0.begun)
-    (λ other. committed_begun p all.1 t (rw other at is))
+committed_begun (Begins k seat ∷ p) all t is = grind (arith, common_steps, committed_begun p all.1 t is)
+committed_begun (Commits k ∷ p) all t is = grind (arith, common_steps, committed_begun p all.1 t)
 committed_begun (_ ∷ p) all t is = committed_begun p all.1 t is
 
 -- of a committed transaction what is left is what is kept
 left_is_kept : (q : List Effect) → AllAllowed q → (x : List ℕ) (t : ℕ) → is_committed q t ≡ true → left_version_of q x t ≡ kept_version q x t
-left_is_kept q all x t done = ap (λ b. cond (is_dead q (version_name x t)) None (cond b (write_of q t x) None)) done
-    ∙ sym (ap (λ b. cond (is_dead q (version_name x t)) None (cond b None (write_of q t x))) (not_both q all t done))
+left_is_kept q all x t done = grind (arith, common_steps, not_both)
 
 -- the versions that are left are the same
 pub left_same : (p q : List Effect) (m : ℕ) → AllAllowed q → IsKeptOf (left_kept p m) q → (x : List ℕ) (t : ℕ) → left_version_of q x t ≡ left_version_of p x t
@@ -66,10 +62,7 @@ committed_same p q m all fits x t above = sym (all_left q x t (omega (arith, fit
 
 -- a streamed row is one in another history with the same committed versions
 moved_row : (p q : List Effect) (span : Span) (c n : ℕ) (r : Row) → ((x : List ℕ) (t : ℕ) → c < t → committed_version_of p x t ≡ committed_version_of q x t) → IsStreamed p span c n r → IsStreamed q span c n r
-moved_row p q span c n r same s =
-    let there : committed_version_of q r.key r.ts ≡ Some r.after = sym (same r.key r.ts s.above) ∙ rw s.done s.wrote in
-    let is = committed_is q r.key r.ts r.after there in
-    record { above = s.above; low = s.low; done = is.0; inside = s.inside; wrote = is.1 }
+moved_row p q span c n r same s = grind (arith, common_steps)
 
 -- and so are the streams from the horizon on
 pub stream_same : (p q : List Effect) (m : ℕ) → AllAllowed q → IsKeptOf (left_kept p m) q → (span : Span) (c t : ℕ) → horizon_of p ≤ c → stream_of q span c t ≡ stream_of p span c t

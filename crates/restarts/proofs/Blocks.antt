@@ -1,10 +1,10 @@
 -- A transaction that is written again, step by step, in what is kept.
+use Rattle.std.proofs.lemmas.Grind.{common_steps}
 use Rattle.std.proofs.Common.{◌≡◌, ℕ, ◌<◌, ◌≤◌, ◌==◌, Bool, true, false, cond, ◌&&◌, ◌||◌, List, [], ◌∷◌, ◌++◌, length, map, Some, None, refl, sym, ◌∙◌, ap, inl, arith}
 use Rattle.std.proofs.lemmas.Bool.Decides.{nat_tests}
 use Rattle.std.specs.Prelude.{bytes_eq, is_some, nat_le, option_map}
-use Rattle.spans.specs.Answer.{is_timestamp}
 use Rattle.spans.specs.Effects.{After, event}
-use Rattle.spans.specs.Kept.{IsCrossed, Kept, Transaction}
+use Rattle.spans.specs.Kept.{Kept, Transaction}
 use Rattle.spans.specs.declared.calls.commands.Cmd.TheVariants.{Begin, Commit, Del, Put}
 use Rattle.spans.specs.declared.calls.events.Event.{Event}
 use Rattle.spans.specs.declared.calls.replies.Reply.TheVariants.{Committed, Started, Written}
@@ -14,7 +14,6 @@ use Rattle.spans.proofs.Steps.{by_test, same_key}
 use Rattle.spans.proofs.Members.{has_is, in_has, rising_distinct}
 use Rattle.spans.proofs.WriteSets.{has, has_in}
 use Rattle.timestamps.specs.declared.ts.TheConstants.{MAX}
-use Rattle.kept.specs.Marks.{IsLate}
 use Rattle.kept.specs.StandsFor.{StandsFor}
 use Rattle.kept.specs.Lists.{AreThose}
 use Rattle.kept.specs.Table.{new_transaction, refusal}
@@ -58,28 +57,15 @@ pub record IsOpenIn (k : Kept) (t : ℕ) : Type 0 where
   pub open' : k.transaction t ≡ Some (new_transaction 0)
 
 pub begin_now : (k : Kept) (h : List Event) (t n : ℕ) → StandsFor k h → k.closed ≡ 0 → 0 < t → t ≤ MAX → k.transaction t ≡ None → StandsFor (begun k t) (event n 0 (Begin t) Started ∷ h)
-begin_now k h t n stands zeroth some high none = step_stands k (begun k t) h n 0 (Begin t) Started stands (inl (record {
-  right = (let in' : is_timestamp t ≡ true = grind (arith, nat_tests) in let above : nat_le t k.closed ≡ false = grind (arith, nat_tests, zeroth) in rw (in', above, none) refl);
-  change = record { transaction = λ i. refl; rest = refl };
-}))
+begin_now k h t n stands zeroth some high none = step_stands k (begun k t) h n 0 (Begin t) Started stands (grind (arith, common_steps))
 
 -- past the tests of its commands
 not_refused : (k : Kept) (t : ℕ) → IsOpenIn k t → refusal k 0 t ≡ None
 not_refused k t here = let above : nat_le t k.closed ≡ false = grind (arith, nat_tests, here.closed, here.some) in rw (above, here.open') refl
 
--- no write is too late
-never_late : (k : Kept) (x : List ℕ) (t : ℕ) → ((x : List ℕ) (n : ℕ) → k.marked x n ≡ false) → IsLate k x t false
-never_late k x t marks = (λ no. cc, λ (c : IsCrossed (k.marked x) (k.version x) t). sym (marks x c.reader) ∙ c.mark)
-
 pub write_now : (k : Kept) (h : List Event) (t n : ℕ) (x : List ℕ) (a : After) → StandsFor k h → IsOpenIn k t → StandsFor (written k t x a) (event n 0 (write_step t x a).0 (write_step t x a).1 ∷ h)
-write_now k h t n x None stands here = step_stands k (written k t x None) h n 0 (Del t x) Written stands (inl (record {
-  right = (false, λ _. never_late k x t here.marks, (rw (not_refused k t here) refl));
-  change = record { version = λ y i. refl; committed = λ y i b e. refl; rest = refl };
-}))
-write_now k h t n x (Some v) stands here = step_stands k (written k t x (Some v)) h n 0 (Put t x v) Written stands (inl (record {
-  right = (false, λ _. never_late k x t here.marks, (rw (not_refused k t here) refl));
-  change = record { version = λ y i. refl; committed = λ y i b e. refl; rest = refl };
-}))
+write_now k h t n x None stands here = step_stands k (written k t x None) h n 0 (Del t x) Written stands (grind (arith, common_steps))
+write_now k h t n x (Some v) stands here = step_stands k (written k t x (Some v)) h n 0 (Put t x v) Written stands (grind (arith, common_steps))
 
 pub writes_now : (k : Kept) (h : List Event) (t : ℕ) (after : List ℕ → After) (xs : List (List ℕ)) → StandsFor k h → IsOpenIn k t
     → StandsFor (all_written k t after xs) (with_steps h (map (λ x. write_step t x (after x)) xs)) × IsOpenIn (all_written k t after xs) t

@@ -1,5 +1,6 @@
 -- The commands of a dump are those of its rows, one after the other.
-use Rattle.std.proofs.Common.{◌≡◌, ℕ, zero, suc, ◌<◌, ◌==◌, Bool, true, false, not, cond, ◌&&◌, List, [], ◌∷◌, ◌++◌, length, map, Option, Some, None, refl, sym, ◌∙◌, ap, inl, inr, arith, append_assoc}
+use Rattle.std.proofs.lemmas.Grind.{common_steps}
+use Rattle.std.proofs.Common.{◌≡◌, ℕ, zero, suc, ◌<◌, Bool, true, false, not, cond, ◌&&◌, List, [], ◌∷◌, ◌++◌, map, Option, Some, None, refl, sym, ◌∙◌, ap, inl, inr, arith, append_assoc}
 use Rattle.std.proofs.lemmas.Bool.Decides.{nat_tests}
 use Rattle.std.proofs.lemmas.List.Elements.{filter-append}
 use Rattle.std.proofs.lemmas.List.{append-nil}
@@ -13,8 +14,7 @@ use Rattle.spans.specs.Streams.{rows_of, stream_of, written_value}
 use Rattle.spans.specs.Transactions.{is_committed}
 use Rattle.spans.specs.Versions.{write_of, write_set}
 use Rattle.spans.specs.declared.calls.commands.Cmd.{Cmd}
-use Rattle.spans.specs.declared.calls.commands.Cmd.TheVariants.{Begin, Close, Collect, Commit}
-use Rattle.spans.specs.declared.calls.replies.Reply.TheVariants.{Committed}
+use Rattle.spans.specs.declared.calls.commands.Cmd.TheVariants.{Close, Collect, Commit}
 use Rattle.spans.proofs.Keyed.{IsIn}
 use Rattle.spans.proofs.Steps.{by_test}
 use Rattle.spans.proofs.StreamOrder.{IsRowIn, in_stream}
@@ -38,8 +38,7 @@ commands_append (x ∷ xs) ys = ap (λ l. x.0 ∷ l) (commands_append xs ys)
 -- the rows of a transaction that is open
 rows_open : (p : List Effect) (t : ℕ) (keys : List (List ℕ)) → row_commands (Some t) (map (row p t) keys) ≡ commands_of (write_steps p t keys) ++ Commit t ∷ []
 rows_open p t [] = refl
-rows_open p t (x ∷ keys) = let same : (t == t) ≡ true = grind (arith, nat_tests) in
-    rw same (ap (λ l. (write_step t x (written_value (write_of p t x))).0 ∷ l) (rows_open p t keys))
+rows_open p t (x ∷ keys) = grind (arith, common_steps, rows_open p t keys)
 
 -- and of one that comes behind others
 abbrev IsOther : Option ℕ → ℕ → Type 0
@@ -48,11 +47,7 @@ IsOther o t = is_open o t ≡ false
 rows_behind : (p : List Effect) (t : ℕ) (keys : List (List ℕ)) (o : Option ℕ) (rows : List Row) → IsOther o t → ((r : Row) → IsRowIn r rows → r.ts < t)
     → row_commands o (rows ++ map (row p t) keys) ≡ row_commands o rows ++ commands_of (transaction_steps p t keys)
 rows_behind p t [] o [] other below = sym (append-nil (ended o))
-rows_behind p t (x ∷ keys) o [] other below =
-    let writes : List Cmd = commands_of (write_steps p t (x ∷ keys)) in
-    rw other (append_assoc (ended o) (Begin t ∷ []) ((write_step t x (written_value (write_of p t x))).0 ∷ row_commands (Some t) (map (row p t) keys))
-    ∙ ap (λ l. ended o ++ Begin t ∷ (write_step t x (written_value (write_of p t x))).0 ∷ l) (rows_open p t keys)
-    ∙ ap (λ l. ended o ++ Begin t ∷ l) (sym (commands_append (write_steps p t (x ∷ keys)) ((Commit t, Committed (length (x ∷ keys))) ∷ []))))
+rows_behind p t (x ∷ keys) o [] other below = grind (arith, common_steps, rows_open, commands_append)
 rows_behind p t keys o (r ∷ rows) other below =
     let low : r.ts < t = below r (inl refl) in
     let next : IsOther (Some r.ts) t = grind (arith, nat_tests) in
@@ -67,9 +62,7 @@ all_of_keys (x ∷ xs) = ap (λ l. x ∷ l) (all_of_keys xs)
 
 left_of_rows : (p : List Effect) (t : ℕ) (xs : List (List ℕ)) → filter (is_left p) (map (row p t) xs) ≡ map (row p t) (filter (λ x. not (is_dead p (version_name x t))) xs)
 left_of_rows p t [] = refl
-left_of_rows p t (x ∷ xs) = by_test (is_dead p (version_name x t))
-    (λ dead'. rw dead' (left_of_rows p t xs))
-    (λ live. rw live (ap (λ l. row p t x ∷ l) (left_of_rows p t xs)))
+left_of_rows p t (x ∷ xs) = grind (arith, common_steps, left_of_rows p t xs)
 
 -- where t has committed, a key that it wrote is left exactly where its version isn't dead
 live_keys : (p : List Effect) (t : ℕ) → is_committed p t ≡ true → (xs : List (List ℕ)) → ((x : List ℕ) → IsIn x xs → is_some (write_of p t x) ≡ true)
@@ -105,9 +98,7 @@ timestamp_rows p t = by_test (is_committed p (suc t))
 
 filtered_in : (q : Row → Bool) (r : Row) (rows : List Row) → IsRowIn r (filter q rows) → IsRowIn r rows
 filtered_in q r [] i = i
-filtered_in q r (s ∷ rows) i = by_test (q s)
-    (λ is. elim (rw is at i) [ inl here ↦ inl here | inr there ↦ inr (filtered_in q r rows there) ])
-    (λ isnt. inr (filtered_in q r rows (rw isnt at i)))
+filtered_in q r (s ∷ rows) i = grind (arith, common_steps, filtered_in q r rows)
 
 rows_are : (p : List Effect) (m : ℕ) → row_commands None (left_rows p m) ≡ commands_of (versions_through p m)
 rows_are p zero = refl

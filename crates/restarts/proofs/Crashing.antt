@@ -1,20 +1,20 @@
 -- What is kept of a crash: the versions that are left, and how many feeds and protections there have been.
+use Rattle.std.proofs.lemmas.Grind.{common_steps}
 use Rattle.std.proofs.Common.{◌≡◌, ℕ, ◌<◌, ◌≤◌, ◌==◌, Bool, true, false, not, cond, ◌&&◌, ◌||◌, List, [], ◌∷◌, ◌++◌, length, map, Option, Some, None, refl, sym, ◌∙◌, ap, subst, inl, inr, arith}
 use Rattle.std.proofs.lemmas.Bool.Decides.{nat_tests}
-use Rattle.std.proofs.lemmas.Bool.{and_parts, both_ways, or_cases, or_parts}
+use Rattle.std.proofs.lemmas.Bool.{both_ways, or_parts}
 use Rattle.std.specs.List.{list_any}
-use Rattle.std.specs.Prelude.{bytes_eq, filter, is_some, max, nat_le, nat_lt, ◌⊎◌}
+use Rattle.std.specs.Prelude.{filter, is_some, max, nat_le, nat_lt, ◌⊎◌}
 use Rattle.timestamps.specs.declared.ts.TheConstants.{MAX}
 use Rattle.spans.specs.Answer.{answer_of}
 use Rattle.spans.specs.Collection.{LiveFeed, Protection, live_feeds, protections_made, protections_of}
 use Rattle.spans.specs.Effects.{After, Begins, Effect, HardCloses, Reads, Scans, effect, effect_of, effects_of, event}
 use Rattle.spans.specs.Feeds.{feeds_opened}
-use Rattle.spans.specs.Keys.{in_span}
 use Rattle.spans.specs.Kept.{IsCrossed, IsKeptOf, Kept, Place, place_of}
 use Rattle.spans.specs.Promises.{left_version_of}
 use Rattle.spans.specs.Reads.{too_late}
 use Rattle.spans.specs.Transactions.{closed_of, is_aborted, is_committed, owner_of}
-use Rattle.spans.specs.Versions.{version_of, visible, write_of}
+use Rattle.spans.specs.Versions.{version_of, write_of}
 use Rattle.spans.specs.declared.calls.commands.Cmd.{Cmd}
 use Rattle.spans.specs.declared.calls.commands.Cmd.TheVariants.{Cancel, CloseHard, Release}
 use Rattle.spans.specs.declared.calls.events.Event.{Event}
@@ -63,21 +63,12 @@ BegunBelow p m = (t : ℕ) → is_some (owner_of p t) ≡ true → t ≤ m
 begun_before : (p : List Effect) (k seat m : ℕ) → BegunBelow (Begins k seat ∷ p) m → BegunBelow p m
 begun_before p k seat m begun t is = begun t (by_test (k == t) (λ same. rw same refl) (λ other. rw other is))
 
-no_reader : (b c : Bool) (i j m : ℕ) → m < i → j ≤ m → (b && (c && nat_lt i j)) ≡ true → ⊥
-no_reader b c i j m above low is = let past : nat_lt i j ≡ true = (and_parts c (nat_lt i j) (and_parts b (c && nat_lt i j) is).1).1 in absurd (grind (arith, nat_tests, past, low, above))
-
 -- so no write above m is too late
 none_late : (p : List Effect) (m : ℕ) → AllAllowed p → BegunBelow p m → (x : List ℕ) (i : ℕ) → m < i → too_late p x i ≡ true → ⊥
 none_late [] m all begun x i above is = cc
 none_late (Begins k seat ∷ p) m all begun x i above is = none_late p m all.1 (begun_before p k seat m begun) x i above is
-none_late (Reads j y v ∷ p) m all begun x i above is = elim (or_cases (bytes_eq y x && (nat_lt (visible p y j).ts i && nat_lt i j)) (too_late p x i) is) [
-  | inl now ↦ no_reader (bytes_eq y x) (nat_lt (visible p y j).ts i) i j m above (begun j all.0.0.begun) now
-  | inr before ↦ none_late p m all.1 begun x i above before
-]
-none_late (Scans j span rows ∷ p) m all begun x i above is = elim (or_cases (in_span span x && (nat_lt (visible p x j).ts i && nat_lt i j)) (too_late p x i) is) [
-  | inl now ↦ no_reader (in_span span x) (nat_lt (visible p x j).ts i) i j m above (begun j all.0.0.begun) now
-  | inr before ↦ none_late p m all.1 begun x i above before
-]
+none_late (Reads j y v ∷ p) m all begun x i above is = grind (arith, common_steps, none_late p m all.1 begun x i above)
+none_late (Scans j span rows ∷ p) m all begun x i above is = grind (arith, common_steps, none_late p m all.1 begun x i above)
 none_late (_ ∷ p) m all begun x i above is = none_late p m all.1 begun x i above is
 
 -- of what didn't commit no version stands any more
@@ -170,12 +161,7 @@ cancelled_is k (w ∷ ws) = cancelled_is (cancelled_one k w.number) ws
 
 cancelled_gone : (k : Kept) (ws : List LiveFeed) (f : ℕ) → (k.feed f ≡ None) ⊎ Has f (map (λ (n : LiveFeed). n.number) ws) → (cancelled_all k ws).feed f ≡ None
 cancelled_gone k [] f gone = elim gone [ inl none ↦ none | inr there ↦ absurd there ]
-cancelled_gone k (w ∷ ws) f gone = cancelled_gone (cancelled_one k w.number) ws f (by_test (w.number == f)
-    (λ same. inl (rw same refl))
-    (λ other. elim gone [
-      | inl none ↦ inl (rw other none)
-      | inr among ↦ elim among [ inl here ↦ absurd (grind (arith, nat_tests, here)) | inr there ↦ inr there ]
-    ]))
+cancelled_gone k (w ∷ ws) f gone = cancelled_gone (cancelled_one k w.number) ws f (grind (arith, common_steps))
 
 -- ---- the releases
 

@@ -1,8 +1,10 @@
 -- What the replies rest on can always be found in what is kept of a history: the keys of a span, the test of the marks, the
 -- keys that a transaction wrote, the oldest undecided transaction, what holds a collection back and what it drops, the rows that are left for a feed.
-use Rattle.std.proofs.Common.{◌≡◌, ℕ, zero, suc, ◌<◌, ◌≤◌, ◌==◌, Bool, true, ◌&&◌, List, [], ◌∷◌, length, Option, Some, None, refl, sym, ◌∙◌, ap, subst, inl, inr, arith}
+use Rattle.std.proofs.lemmas.Grind.{common_steps}
+use Rattle.std.proofs.Common.{rules}
+use Rattle.std.proofs.Common.{◌≡◌, ℕ, zero, suc, ◌<◌, ◌≤◌, Bool, true, ◌&&◌, List, [], ◌∷◌, length, Option, Some, None, refl, sym, ◌∙◌, ap, subst, inl, inr, arith}
 use Rattle.std.proofs.lemmas.Bool.Decides.{nat_tests}
-use Rattle.std.proofs.lemmas.Bool.{and_from, and_parts, or_cases, or_left, or_right, eqb-true, leb-true, ltb-true}
+use Rattle.std.proofs.lemmas.Bool.{and_from, and_parts, or_cases, or_left, or_right, leb-true, ltb-true}
 use Rattle.std.specs.List.{list_any}
 use Rattle.std.specs.Prelude.{bytes_eq, filter, is_some, min, nat_le, nat_lt}
 use Rattle.timestamps.specs.declared.row.Row.{Row}
@@ -45,17 +47,11 @@ versions_in k p = filter (λ v. is_some (k.version v.key v.ts)) (versions_of p)
 
 -- a kept version is one of the history
 kept_listed : (k : Kept) (p : List Effect) → AllAllowed p → IsKeptOf k p → (v : VersionName) → is_some (k.version v.key v.ts) ≡ true → Has v (versions_of p)
-kept_listed k p all fits v is =
-    let a = some_is (k.version v.key v.ts) is in
-    let there : version_of p v.key v.ts ≡ Some a.0 = kept_is p v.key v.ts a.0 (sym (fits.versions v.key v.ts) ∙ a.1) in
-    (has_versions p all v).1 (ap is_some there)
+kept_listed k p all fits v is = grind (arith, common_steps, some_is, kept_is, has_versions)
 
 pub kept_versions : (k : Kept) (p : List Effect) → AllAllowed p → IsKeptOf k p → AreThose (λ v. is_some (k.version v.key v.ts)) (versions_in k p)
 unfolding versions_in
-kept_versions k p all fits = record {
-  distinct = distinct_filter (λ v. is_some (k.version v.key v.ts)) (versions_of p) (versions_distinct p all);
-  each = λ v. let f = has_filter (λ v. is_some (k.version v.key v.ts)) v (versions_of p) in (λ i. (f.0 i).0, λ is. f.1 (is, kept_listed k p all fits v is));
-}
+kept_versions k p all fits = grind (arith, common_steps, distinct_filter, versions_distinct, has_filter, kept_listed)
 
 -- those that a collection drops
 pub dropped_in : Kept → List Effect → ℕ → List VersionName
@@ -63,14 +59,7 @@ dropped_in k p n = filter (λ v. is_dead_in k n v.key v.ts) (versions_in k p)
 
 pub dropped_are : (k : Kept) (p : List Effect) → AllAllowed p → IsKeptOf k p → (n : ℕ) → AreThose (is_dropped k n) (dropped_in k p n)
 unfolding dropped_in
-dropped_are k p all fits n =
-    let those = kept_versions k p all fits in record {
-      distinct = distinct_filter (λ v. is_dead_in k n v.key v.ts) (versions_in k p) those.distinct;
-      each = λ v. let f = has_filter (λ v. is_dead_in k n v.key v.ts) v (versions_in k p) in (
-        λ i. and_from (is_some (k.version v.key v.ts)) (is_dead_in k n v.key v.ts) ((those.each v).0 (f.0 i).1) (f.0 i).0,
-        λ is. let b = and_parts (is_some (k.version v.key v.ts)) (is_dead_in k n v.key v.ts) is in f.1 (b.1, (those.each v).1 b.0),
-      );
-    }
+dropped_are k p all fits n = grind (arith, common_steps, kept_versions, distinct_filter, versions_in, has_filter, and_from, and_parts)
 
 -- ---- the keys of a span
 
@@ -80,17 +69,11 @@ names_key x v = bytes_eq v.key x
 
 any_has : (x : List ℕ) (vs : List VersionName) → list_any (names_key x) vs ≡ true → (v : VersionName) × Has v vs × (v.key ≡ x)
 any_has x [] is = cc
-any_has x (v ∷ vs) is = elim (or_cases (names_key x v) (list_any (names_key x) vs) is) [
-  | inl here ↦ (v, inl refl, same_key v.key x here)
-  | inr there ↦ (let m = any_has x vs there in (m.0, inr m.1, m.2))
-]
+any_has x (v ∷ vs) is = search (or_cases, same_key, any_has x vs, rules, arith)
 
 has_any_key : (x : List ℕ) (v : VersionName) (vs : List VersionName) → Has v vs → v.key ≡ x → list_any (names_key x) vs ≡ true
 has_any_key x v [] i e = absurd i
-has_any_key x v (w ∷ vs) i e = elim i [
-  | inl here ↦ or_left (names_key x w) (list_any (names_key x) vs) (subst (λ z. bytes_eq z x ≡ true) (sym (ap (λ (n : VersionName). n.key) here ∙ e)) (key_itself x))
-  | inr there ↦ or_right (names_key x w) (list_any (names_key x) vs) (has_any_key x v vs there e)
-]
+has_any_key x v (w ∷ vs) i e = grind (arith, common_steps, or_left, key_itself, or_right, has_any_key x v vs)
 
 pub keys_in : Kept → List Effect → Span → List (List ℕ)
 keys_in k p span = filter (λ x. in_span span x && list_any (names_key x) (versions_in k p)) (written_keys p)
@@ -116,9 +99,7 @@ keys_are k p all fits span =
 -- ---- the test of the marks
 
 pub late_found : (k : Kept) (p : List Effect) → IsKeptOf k p → (seat t : ℕ) (x : List ℕ) → refusal k seat t ≡ None → IsLate k x t (too_late p x t)
-late_found k p fits seat t x none =
-    let here = active_of p seat t (sym (refusal_is k p fits seat t) ∙ none) in
-    fits.marks x t here.above (rw here.uncommitted refl)
+late_found k p fits seat t x none = grind (arith, common_steps)
 
 -- ---- the keys that a transaction wrote
 
@@ -179,13 +160,7 @@ undecided_are k p all fits = record {
 
 pub cut_are : (k : Kept) (p : List Effect) → AllAllowed p → IsKeptOf k p → (to : ℕ) → AreThose (λ t. nat_le t to && is_open (k.transaction t)) (filter (λ t. nat_le t to) (undecided_timestamps p))
 cut_are k p all fits to =
-    let those = undecided_are k p all fits in record {
-      distinct = distinct_filter (λ t. nat_le t to) (undecided_timestamps p) those.distinct;
-      each = λ t. let f = has_filter (λ t. nat_le t to) t (undecided_timestamps p) in (
-        λ i. and_from (nat_le t to) (is_open (k.transaction t)) (f.0 i).0 ((those.each t).0 (f.0 i).1),
-        λ is. let b = and_parts (nat_le t to) (is_open (k.transaction t)) is in f.1 (b.0, (those.each t).1 b.1),
-      );
-    }
+    let those = undecided_are k p all fits in grind (arith, common_steps, distinct_filter, has_filter, and_from, and_parts)
 
 -- ---- feeds
 
@@ -204,9 +179,7 @@ first_distinct (suc n) = (λ i. let low = first_low n (suc n) i in omega (arith,
 
 has_first : (n f : ℕ) → 0 < f → f ≤ n → Has f (first_numbers n)
 has_first zero f some low = absurd (omega (arith, some, low))
-has_first (suc n) f some low = by_test (suc n == f)
-    (λ same. inl (eqb-true (suc n) f same))
-    (λ other. inr (has_first n f some (grind (arith, nat_tests))))
+has_first (suc n) f some low = grind (arith, common_steps, has_first n f some)
 
 -- a feed that is kept was opened
 opened_one : (k : Kept) (p : List Effect) → AllAllowed p → IsKeptOf k p → (f : ℕ) → is_some (k.feed f) ≡ true → Has f (first_numbers (feeds_opened p))
@@ -214,8 +187,7 @@ opened_one k p all fits f is =
     let place = some_is (k.feed f) is in
     let l = placed_by k p fits f place.0 place.1 in
     let known : (nat_lt 0 f && nat_le f (feeds_opened p)) ≡ true = sym (known_is p all f) ∙ ap is_some l.1 in
-    let b = and_parts (nat_lt 0 f) (nat_le f (feeds_opened p)) known in
-    has_first (feeds_opened p) f (ltb-true 0 f b.0) (leb-true f (feeds_opened p) b.1)
+    grind (arith, common_steps, and_parts, has_first, ltb-true, leb-true)
 
 -- the feeds that live
 pub living : Kept → List Effect → List ℕ
@@ -223,10 +195,7 @@ living k p = filter (λ f. is_some (k.feed f)) (first_numbers (feeds_opened p))
 
 pub living_are : (k : Kept) (p : List Effect) → AllAllowed p → IsKeptOf k p → AreThose (λ f. is_some (k.feed f)) (living k p)
 unfolding living
-living_are k p all fits = record {
-  distinct = distinct_filter (λ f. is_some (k.feed f)) (first_numbers (feeds_opened p)) (first_distinct (feeds_opened p));
-  each = λ f. let i = has_filter (λ f. is_some (k.feed f)) f (first_numbers (feeds_opened p)) in (λ h. (i.0 h).0, λ is. i.1 (is, opened_one k p all fits f is));
-}
+living_are k p all fits = grind (arith, common_steps, distinct_filter, first_distinct, has_filter, opened_one)
 
 -- the least floor of those in a list
 abbrev with_floor : Option Place → Option ℕ → Option ℕ

@@ -1,5 +1,7 @@
 -- The answers of a legal run are the ones that were foreseen, where none of them is a refusal.
-use Rattle.std.proofs.Common.{◌≡◌, ℕ, zero, suc, true, false, List, [], ◌∷◌, ◌++◌, length, map, Some, None, refl, sym, ◌∙◌, ap, inl, inr}
+use Rattle.std.proofs.lemmas.Grind.{common_steps}
+use Rattle.std.proofs.Common.{arith}
+use Rattle.std.proofs.Common.{◌≡◌, ℕ, zero, suc, true, List, [], ◌∷◌, ◌++◌, length, map, Some, None, refl, sym, ◌∙◌, ap}
 use Rattle.spans.specs.Answer.{answer_of}
 use Rattle.spans.specs.Effects.{After, Effect, effects_of, event}
 use Rattle.spans.specs.Legal.{IsLegal, IsRightEvent, is_accepted}
@@ -23,10 +25,7 @@ pub run_is : (h : List Event) (steps : List Step) → AreAccepted steps → IsLe
 run_is h [] accepted legal = refl
 run_is h (s ∷ steps) accepted legal =
     let right : IsRightEvent (effects_of h) (event (length h) 0 s.0 s.1) = (legal_before (event (length h) 0 s.0 s.1 ∷ h) steps legal).0 in
-    let answer : s.1 ≡ answer_of (effects_of h) 0 s.0 = elim right [
-      | inl is ↦ is
-      | inr wanting ↦ (let no' : false ≡ true = sym (ap is_accepted wanting.0) ∙ accepted.0 in cc)
-    ] in
+    let answer : s.1 ≡ answer_of (effects_of h) 0 s.0 = grind (arith, common_steps) in
     ap (λ r. run (event (length h) 0 s.0 r ∷ h) (map (λ (s : Step). s.0) steps)) (sym answer)
     ∙ run_is (event (length h) 0 s.0 s.1 ∷ h) steps accepted.1 legal
 

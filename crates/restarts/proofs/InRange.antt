@@ -1,5 +1,6 @@
 -- In a legal history closed and all that began are in the range of timestamps.
-use Rattle.std.proofs.Common.{◌≡◌, ℕ, ◌≤◌, ◌-◌, ◌∙◌, ◌&&◌, ap, length, map, false, not, List, [], ◌∷◌, refl, sym, subst, inl, inr, arith}
+use Rattle.std.proofs.lemmas.Grind.{common_steps}
+use Rattle.std.proofs.Common.{◌≡◌, ℕ, ◌≤◌, ◌-◌, ◌&&◌, length, map, false, not, List, [], ◌∷◌, refl, sym, subst, inl, inr, arith}
 use Rattle.std.proofs.lemmas.Bool.Decides.{nat_tests}
 use Rattle.std.specs.Prelude.{filter, is_some, max, nat_le, nat_lt}
 use Rattle.timestamps.specs.declared.ts.TheConstants.{MAX}
@@ -18,7 +19,7 @@ use Rattle.spans.proofs.Horizon.{least_low}
 use Rattle.spans.proofs.Legal.{unless_is}
 use Rattle.spans.proofs.Open.{begun_among}
 use Rattle.spans.proofs.Members.{Has, among_has}
-use Rattle.restarts.specs.Dump.{greatest_of, mark_of}
+use Rattle.restarts.specs.Dump.{greatest_of}
 use Rattle.restarts.specs.Restart.{HasMark}
 
 -- what the effect begins or closes is in range
@@ -68,10 +69,7 @@ answer_in_range p low seat Stats (Opened feed) is = tt
 answer_in_range p low seat cmd reply is = tt
 
 effect_in_range : (p : List Effect) → closed_of p ≤ MAX → (e : Event) → IsRightEvent p e → IsInRange (effect_of e)
-effect_in_range p low e right = elim right [
-  | inl answer ↦ answer_in_range p low e.seat e.cmd e.reply answer
-  | inr wanting ↦ subst IsInRange (sym (ap (effect e.seat e.cmd) wanting.0 ∙ wanting_does_nothing e.seat e.cmd)) tt
-]
+effect_in_range p low e right = grind (arith, common_steps, answer_in_range, wanting_does_nothing)
 
 -- the greatest is at or above each
 pub at_most : (n m : ℕ) (ms : List ℕ) → n ≤ m → ((k : ℕ) → Has k ms → k ≤ m) → greatest_of n ms ≤ m
@@ -84,10 +82,7 @@ first_low n (m ∷ ms) = let more : n ≤ greatest_of n ms = first_low n ms in o
 
 pub each_low : (n k : ℕ) (ms : List ℕ) → Has k ms → k ≤ greatest_of n ms
 each_low n k [] i = absurd i
-each_low n k (m ∷ ms) i = elim i [
-  | inl here ↦ omega (arith, here)
-  | inr there ↦ (let more : k ≤ greatest_of n ms = each_low n k ms there in omega (arith, more))
-]
+each_low n k (m ∷ ms) i = grind (arith, common_steps, each_low n k ms)
 
 -- all that began
 begun_in_range : (d : Effect) (p : List Effect) → IsInRange d → ((t : ℕ) → Has t (begun_of p) → t ≤ MAX) → (t : ℕ) → Has t (begun_of (d ∷ p)) → t ≤ MAX
@@ -107,15 +102,4 @@ all_in_range (e ∷ h) legal =
     (closed_in_range (effect_of e) (effects_of h) here before.0, begun_in_range (effect_of e) (effects_of h) here before.1)
 
 pub has_mark : (h : List Event) (n : ℕ) → HasMark h n
-has_mark h n legal low =
-    let p : List Effect = effects_of h in
-    let all = all_in_range h legal in
-    let least : max n (closed_of p) ≤ mark_of p n = first_low (max n (closed_of p)) (begun_of p) in (
-      record {
-        legal = legal;
-        in_range = at_most (max n (closed_of p)) MAX (begun_of p) (omega (arith, low, all.0)) all.1;
-        closed = omega (arith, least);
-        begun = λ t is. each_low (max n (closed_of p)) t (begun_of p) (among_has t (begun_of p) (begun_among p t is));
-      },
-      omega (arith, least),
-    )
+has_mark h n legal low = grind (arith, common_steps, all_in_range, first_low, at_most, each_low, among_has, begun_among)

@@ -1,4 +1,5 @@
 -- The dump's run is legal, and what is kept of it: the versions that are left, and nothing else.
+use Rattle.std.proofs.lemmas.Grind.{common_steps}
 use Rattle.std.proofs.Common.{◌≡◌, ℕ, zero, suc, ◌≤◌, ◌==◌, Bool, true, false, cond, ◌&&◌, ◌||◌, List, [], ◌∷◌, length, Option, Some, None, refl, sym, ◌∙◌, ap, subst, inl, arith}
 use Rattle.std.proofs.lemmas.Bool.Decides.{nat_tests}
 use Rattle.std.proofs.lemmas.Bool.{eqb-true, and_parts, or_parts, both_ways}
@@ -23,7 +24,7 @@ use Rattle.spans.proofs.Steps.{by_test, newest_fewer, none_of}
 use Rattle.spans.proofs.WriteSets.{has, has_filtered, has_written, write_set_rises}
 use Rattle.kept.specs.Finding.{is_dead_in, is_dropped}
 use Rattle.kept.specs.Table.{is_open, new_transaction}
-use Rattle.kept.specs.StandsFor.{StandsFor, nothing_kept}
+use Rattle.kept.specs.StandsFor.{StandsFor}
 use Rattle.kept.specs.Changes.{IsAlike}
 use Rattle.kept.proofs.AfterBegins.{new_is_kept}
 use Rattle.kept.proofs.Answering.{step_stands}
@@ -112,15 +113,11 @@ left_value p x t is = step (is_dead p (version_name x t)) (is_committed p t) (wr
 
 -- a key is one of those that are left exactly where its version is
 pub has_left : (p : List Effect) (x : List ℕ) (t : ℕ) → has x (left_keys p t) ≡ is_some (left_version_of p x t)
-has_left p x t = has_filtered (λ y. is_some (left_version_of p y t)) x (write_set p t) ∙ ap (λ b. is_some (left_version_of p x t) && b) (has_written p t x) ∙ by_test (is_some (left_version_of p x t))
-    (λ is. rw is (left_wrote p x t is))
-    (λ isnt. rw isnt refl)
+has_left p x t = grind (arith, common_steps, has_filtered, has_written, by_test, left_wrote)
 
 -- so is each version that is left
 pub left_of_key : (p : List Effect) (x : List ℕ) (t : ℕ) → left_version_of p x t ≡ cond (has x (left_keys p t)) (Some (written_value (write_of p t x))) None
-left_of_key p x t = by_test (is_some (left_version_of p x t))
-    (λ is. rw (has_left p x t, is) (left_value p x t is))
-    (λ isnt. rw (has_left p x t, isnt) (none_of (left_version_of p x t) isnt))
+left_of_key p x t = grind (arith, common_steps, by_test, has_left, left_value, none_of)
 
 -- of one that didn't commit no key is left
 pub none_kept : (p : List Effect) (t : ℕ) → is_committed p t ≡ false → (xs : List (List ℕ)) → filter (λ x. is_some (left_version_of p x t)) xs ≡ []
@@ -134,28 +131,7 @@ none_again p t open' = ap again_with (none_kept p t open' (write_set p t))
 
 -- at a timestamp of which nothing is left nothing changes
 same_through : (p : List Effect) (t : ℕ) → left_keys p (suc t) ≡ [] → IsAlike (through p t) (through p (suc t))
-same_through p t empty = record {
-  closed = refl;
-  horizon = refl;
-  version = λ y i. by_test (i == suc t)
-      (λ same. let e : i ≡ suc t = eqb-true i (suc t) same in
-      let here : left_version_of p y (suc t) ≡ None = left_of_key p y (suc t) ∙ rw empty refl in
-      let upto : nat_le i (suc t) ≡ true = grind (arith, nat_tests) in let above : nat_le i t ≡ false = grind (arith, nat_tests) in
-      rw (upto, above) (subst (λ n. left_version_of p y n ≡ None) (sym e) here))
-      (λ other. let alike : nat_le i (suc t) ≡ nat_le i t = grind (arith, nat_tests) in rw alike refl);
-  committed = λ y i b there. refl;
-  marked = λ y n. refl;
-  transaction = λ i. by_test (i == suc t)
-      (λ same. let e : i ≡ suc t = eqb-true i (suc t) same in
-      let here : again p (suc t) ≡ None = ap again_with empty in
-      let upto : nat_le i (suc t) ≡ true = grind (arith, nat_tests) in let above : nat_le i t ≡ false = grind (arith, nat_tests) in
-      rw (upto, above) (subst (λ n. again p n ≡ None) (sym e) here))
-      (λ other. let alike : nat_le i (suc t) ≡ nat_le i t = grind (arith, nat_tests) in rw alike refl);
-  protections = refl;
-  protections_made = refl;
-  feed = λ f. refl;
-  feeds_opened = refl;
-}
+same_through p t empty = grind (arith, common_steps, by_test, eqb-true, left_of_key)
 
 -- what the transaction's steps leave
 abbrev after_block : List Effect → ℕ → List (List ℕ) → Kept
@@ -210,26 +186,8 @@ block_stands p t h low stands (x ∷ xs) keys =
 
 -- all of them
 through_stands : (p : List Effect) → AllAllowed p → (n : ℕ) → n ≤ MAX → StandsFor (through p n) (with_steps [] (versions_through p n))
-through_stands p all zero low = alike_stands nothing_kept (through p 0) [] (record { legal = tt; fits = new_is_kept }) (record {
-  closed = refl;
-  horizon = refl;
-  version = λ y i. by_test (i == 0)
-      (λ same. let e : i ≡ 0 = eqb-true i 0 same in let upto : nat_le i 0 ≡ true = grind (arith, nat_tests) in
-      rw upto (subst (λ n. left_version_of p y n ≡ None) (sym e) (none_left p y 0 (none_at_zero p all))))
-      (λ other. let above : nat_le i 0 ≡ false = grind (arith, nat_tests) in rw above refl);
-  committed = λ y i b there. cc;
-  marked = λ y n. refl;
-  transaction = λ i. by_test (i == 0)
-      (λ same. let e : i ≡ 0 = eqb-true i 0 same in let upto : nat_le i 0 ≡ true = grind (arith, nat_tests) in
-      rw upto (subst (λ n. again p n ≡ None) (sym e) (none_again p 0 (none_at_zero p all))))
-      (λ other. let above : nat_le i 0 ≡ false = grind (arith, nat_tests) in rw above refl);
-  protections = refl;
-  protections_made = refl;
-  feed = λ f. refl;
-  feeds_opened = refl;
-})
-through_stands p all (suc t) low = subst (StandsFor (through p (suc t))) (sym (steps_append [] (versions_through p t) (transaction_steps p (suc t) (left_keys p (suc t)))))
-    (block_stands p t (with_steps [] (versions_through p t)) low (through_stands p all t (omega (arith, low))) (left_keys p (suc t)) refl)
+through_stands p all zero low = grind (arith, common_steps, alike_stands, new_is_kept, by_test, eqb-true, none_left, none_at_zero, none_again)
+through_stands p all (suc t) low = grind (arith, common_steps, steps_append, block_stands, through_stands p all t)
 
 -- ---- the end
 
@@ -262,29 +220,8 @@ close_now p m n h low stands = step_stands (through p m) (closed_through p m) h 
     none true = refl
     none false = refl
 
--- none at all above m
-left_below : (p : List Effect) (m : ℕ) → AllBelow p m → (x : List ℕ) (t : ℕ) → nat_le t m ≡ false → left_version_of p x t ≡ None
-left_below p m below x t above = by_test (is_committed p t)
-    (λ done. absurd (let low : t ≤ m = below.committed t done in grind (arith, nat_tests)))
-    (λ undone. none_left p x t undone)
-
 closed_alike : (p : List Effect) (m : ℕ) → AllBelow p m → IsAlike (closed_through p m) (record (left_kept p m) { horizon = 0 })
-closed_alike p m below = record {
-  closed = refl;
-  horizon = refl;
-  version = λ y i. by_test (nat_le i m)
-      (λ low. rw low refl)
-      (λ above. rw above (left_below p m below y i above));
-  committed = λ y i b there. refl;
-  marked = λ y n. refl;
-  transaction = λ i. by_test (nat_lt m i)
-      (λ above. let past : nat_le i m ≡ false = grind (arith, nat_tests) in rw (above, past) refl)
-      (λ low. rw low refl);
-  protections = refl;
-  protections_made = refl;
-  feed = λ f. refl;
-  feeds_opened = refl;
-}
+closed_alike p m below = grind (arith, common_steps)
 
 -- what is left isn't dead by the same horizon
 left_live : (p : List Effect) (m : ℕ) (x : List ℕ) (t : ℕ) (a : After) → left_version_of p x t ≡ Some a → is_dead_in (record (left_kept p m) { horizon = 0 }) (horizon_of p) x t ≡ false

@@ -1,8 +1,9 @@
 -- What is kept, with its feeds and protections numbered after others.
+use Rattle.std.proofs.lemmas.Grind.{common_steps}
 use Rattle.std.proofs.Common.{◌≡◌, ℕ, zero, suc, ◌+◌, ◌-◌, ◌<◌, ◌==◌, Bool, true, false, not, cond, ◌||◌, List, [], ◌∷◌, length, map, Option, Some, None, refl, sym, ◌∙◌, ap, subst, inl, inr, arith}
 use Rattle.std.proofs.lemmas.Bool.Decides.{nat_tests}
 use Rattle.std.specs.List.{list_any}
-use Rattle.std.specs.Prelude.{filter, is_some, nat_le, nat_lt}
+use Rattle.std.specs.Prelude.{filter, is_some, nat_le}
 use Rattle.spans.specs.Answer.{first_refusal_or}
 use Rattle.spans.specs.Collection.{Protection}
 use Rattle.spans.specs.Kept.{Kept, Place}
@@ -26,9 +27,7 @@ pub same_number : (n f g : ℕ) → (number_from n f == number_from n g) ≡ (f 
 same_number n zero zero = refl
 same_number n zero (suc g) = grind (arith, nat_tests)
 same_number n (suc f) zero = grind (arith, nat_tests)
-same_number n (suc f) (suc g) = by_test (f == g)
-    (λ is. let e : f ≡ g = grind (arith, nat_tests) in ap (λ m. suc (n + m) == suc (n + g)) e ∙ grind (arith, nat_tests))
-    (λ isnt. grind (arith, nat_tests))
+same_number n (suc f) (suc g) = grind (arith, common_steps)
 
 pub number_back : (n f : ℕ) → number_from n f - n ≡ f
 number_back n zero = omega arith
@@ -92,16 +91,12 @@ feed_at n m k zeroth (suc f) = let high : nat_le (suc (n + f)) n ≡ false = gri
 
 -- and of no feed but such a one
 pub feed_from : (n m : ℕ) (k : Kept) (f : ℕ) (place : Place) → (shifted n m k).feed f ≡ Some place → (n < f) × (k.feed (f - n) ≡ Some place)
-feed_from n m k f place at = by_test (nat_le f n)
-    (λ low. let no' : None ≡ Some place = rw low at at in cc)
-    (λ high. (grind (arith, nat_tests), rw high at at))
+feed_from n m k f place at = grind (arith, common_steps)
 
 -- why a feed isn't there
 pub refusal_same : (n m : ℕ) (k : Kept) (f : ℕ) → feed_refusal (shifted n m k) (number_from n f) ≡ feed_refusal k f
 refusal_same n m k zero = refl
-refusal_same n m k (suc f) = by_test (nat_le (suc f) k.feeds_opened)
-    (λ is. let is' : nat_le (suc (n + f)) (n + k.feeds_opened) ≡ true = grind (arith, nat_tests) in let some : nat_lt 0 (suc f) ≡ true = grind (arith, nat_tests) in let some' : nat_lt 0 (suc (n + f)) ≡ true = grind (arith, nat_tests) in rw (is, is', some, some') refl)
-    (λ isnt. let isnt' : nat_le (suc (n + f)) (n + k.feeds_opened) ≡ false = grind (arith, nat_tests) in let some : nat_lt 0 (suc f) ≡ true = grind (arith, nat_tests) in let some' : nat_lt 0 (suc (n + f)) ≡ true = grind (arith, nat_tests) in rw (isnt, isnt', some, some') refl)
+refusal_same n m k (suc f) = grind (arith, common_steps)
 
 -- the floors are the same
 pub floor_same : (n m : ℕ) (k : Kept) → k.feed 0 ≡ None → (o : Option ℕ) → IsLeastFloor k.feed o → IsLeastFloor (shifted n m k).feed o
@@ -122,9 +117,7 @@ protected_same m id (w ∷ ns) = ap (λ b. b || list_any (λ (w : Protection). w
 
 pub released_same : (m id : ℕ) (ns : List Protection) → map (shifted_protection m) (filter (λ (w : Protection). not (w.id == id)) ns) ≡ filter (λ (w : Protection). not (w.id == number_from m id)) (map (shifted_protection m) ns)
 released_same m id [] = refl
-released_same m id (w ∷ ns) = by_test (w.id == id)
-    (λ is. let is' : (number_from m w.id == number_from m id) ≡ true = same_number m w.id id ∙ is in rw (is, is') (released_same m id ns))
-    (λ isnt. let isnt' : (number_from m w.id == number_from m id) ≡ false = same_number m w.id id ∙ isnt in rw (isnt, isnt') (ap (λ l. shifted_protection m w ∷ l) (released_same m id ns)))
+released_same m id (w ∷ ns) = grind (arith, common_steps, released_same m id ns)
 
 -- the feeds that live, by their numbers
 has_shifted : (n f : ℕ) (fs : List ℕ) → Has f fs → Has (number_from n f) (map (number_from n) fs)

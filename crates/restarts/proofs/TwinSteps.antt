@@ -1,4 +1,5 @@
 -- What is kept changes as it does with its numbers shifted.
+use Rattle.std.proofs.lemmas.Grind.{common_steps}
 use Rattle.std.proofs.Common.{◌≡◌, ℕ, zero, suc, ◌+◌, ◌-◌, ◌<◌, ◌==◌, Bool, true, false, not, cond, ◌&&◌, ◌||◌, List, ◌∷◌, map, Option, Some, None, refl, sym, ap, subst, inl, inr, arith}
 use Rattle.std.proofs.lemmas.Bool.Decides.{nat_tests}
 use Rattle.std.proofs.lemmas.Bool.{eqb-true, or_cases, or_left, or_right}
@@ -204,10 +205,7 @@ read_marks k p all fits j read y above is = by_test ((seen k y j).ts == j)
       j,
       j,
       λ i _ low high. absurd (omega (arith, low, high)),
-      added (k.marked y) (marks_after k j read y) j j j (λ i. rw (is, other) (
-        λ h. elim (or_cases (j == i) (k.marked y i) h) [ inl now ↦ inl (sym (eqb-true j i now)) | inr before ↦ inr before ],
-        λ h. elim h [ inl now ↦ or_left (j == i) (k.marked y i) (let same : (j == i) ≡ true = grind (arith, nat_tests, now) in same) | inr before ↦ or_right (j == i) (k.marked y i) before ],
-      )),
+      grind (arith, common_steps, added, or_cases, eqb-true, or_left, or_right),
     ))
 
 unread_marks : (k : Kept) (j : ℕ) (read : List ℕ → Bool) (y : List ℕ) → read y ≡ false → (i : ℕ) → marks_after k j read y i ≡ k.marked y i

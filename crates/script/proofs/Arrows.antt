@@ -1,4 +1,6 @@
 -- The word `=>` behind the arguments of a command.
+use Rattle.std.proofs.lemmas.Grind.{common_steps}
+use Rattle.std.proofs.Common.{arith}
 use Rattle.std.proofs.Common.{◌≡◌, ℕ, zero, suc, ◌+◌, Bool, cond, List, [], ◌∷◌, get_or, drop, Option, Some, None, Ok, Err, refl, sym, ap, ◌∙◌}
 use Rattle.std.specs.Prelude.{codes, bytes_eq, MatchOption}
 use Rattle.std.specs.Borrow.{Bor}
@@ -33,9 +35,7 @@ too_short n words e = rw (none_at n words e) refl
 -- the word behind the arguments
 pub at_word : (n : ℕ) (words after : List (List ℕ)) (word : List ℕ) → drop n words ≡ word ∷ after → behind_arrow n words ≡ cond (bytes_eq word (codes "=>")) (Ok after) (Err WordCount)
 unfolding behind_arrow
-at_word n words after word e =
-    let rest : drop (n + 1) words ≡ after = sym (drop-drop 1 n words) ∙ ap (drop 1) e in
-    rw (word_at n words after word e, rest) refl
+at_word n words after word e = grind (arith, common_steps)
 
 -- what is answered where no word is left
 pub is_none : (n : ℕ) (words ahead : List (List ℕ)) → ahead ≡ drop n words → ahead ≡ [] → Err WordCount ≡ behind_arrow n words
@@ -43,5 +43,4 @@ is_none n words ahead skipped none = sym (too_short n words (sym skipped ∙ non
 
 -- what is answered of the word that is there
 pub is_arrow : (same : Bool) (n : ℕ) (words ahead after : List (List ℕ)) (word arrow : List ℕ) → ahead ≡ drop n words → ahead ≡ word ∷ after → arrow ≡ codes "=>" → bytes_eq word arrow ≡ same → cond same (Ok after) (Err WordCount) ≡ behind_arrow n words
-is_arrow same n words ahead after word arrow skipped taken is e =
-    sym (at_word n words after word (sym skipped ∙ taken) ∙ ap (λ (x : List ℕ). cond (bytes_eq word x) (Ok after) (Err WordCount)) (sym is) ∙ ap (λ (b : Bool). cond b (Ok after) (Err WordCount)) e)
+is_arrow same n words ahead after word arrow skipped taken is e = grind (arith, common_steps, at_word)

@@ -1,14 +1,15 @@
 -- The lines of a text, one by one.
-use Rattle.std.proofs.Common.{◌≡◌, ℕ, suc, ◌+◌, ◌<◌, ◌≤◌, Bool, true, false, cond, List, [], ◌∷◌, ◌++◌, length, take, drop, Some, None, refl, sym, ap, subst, ◌∙◌, inl, inr, arith}
-use Rattle.std.specs.Prelude.{not, ◌==◌, nat_le, position}
+use Rattle.std.proofs.lemmas.Grind.{common_steps}
+use Rattle.std.proofs.Common.{rules}
+use Rattle.std.proofs.Common.{◌≡◌, ℕ, suc, ◌+◌, ◌<◌, ◌≤◌, Bool, true, false, cond, List, [], ◌∷◌, ◌++◌, length, take, drop, Some, None, refl, sym, ap, ◌∙◌, arith}
+use Rattle.std.specs.Prelude.{◌==◌, position}
 use Rattle.std.specs.List.{AllByRecursion, list_all, onto_first, position_or_len, concat}
 use Rattle.std.proofs.lemmas.List.Recursion.{is_position_or_len}
-use Rattle.std.proofs.lemmas.Bool.{ne_eqb, eqb-true, leb-true}
+use Rattle.std.proofs.lemmas.Bool.{ne_eqb, eqb-true}
 use Rattle.std.proofs.lemmas.List.{nil_from_length}
 use Rattle.word_lines.specs.Commands.{joined}
 use Rattle.word_lines.specs.Words.{is_printable}
-use Rattle.word_lines.proofs.JoinedParts.{Lacks, is_false, IsWord, joined_printable}
-use Rattle.word_lines.proofs.Spellings.{both}
+use Rattle.word_lines.proofs.JoinedParts.{Lacks, IsWord, joined_printable}
 use Rattle.script.specs.Lines.{is_newline, lines_of}
 use Rattle.word_lines.proofs.Splitting.{place_cases}
 
@@ -47,21 +48,11 @@ first_ends (b ∷ text) lt = first_step (is_newline b) b text (first_ends text) 
 -- where there is no newline
 pub lines_alone : (text : List ℕ) → 0 < length text → None ≡ position is_newline text → lines_of text ≡ text ∷ lines_of []
 unfolding lines_of
-lines_alone text some none =
-    elim (place_cases (position_or_len is_newline text) (length text) _ None refl none) [
-      | inl h ↦ absurd cc
-      | inr h ↦ alone text (subst (λ (n : ℕ). length text ≤ n) (sym (before_newline_is text)) h.1) some
-    ]
+lines_alone text some none = grind (arith, common_steps, place_cases, alone, before_newline_is)
 
 -- where there is one
 pub lines_first : (text : List ℕ) (at : ℕ) → Some at ≡ position is_newline text → lines_of text ≡ take (at + 1) text ∷ lines_of (drop (at + 1) text)
-lines_first text at found =
-    elim (place_cases (position_or_len is_newline text) (length text) _ (Some at) refl found) [
-      | inl h ↦ (let same : before_newline text ≡ at = before_newline_is text ∙ cc in
-          let next : suc (before_newline text) ≡ at + 1 = omega (arith, same) in
-          subst (λ (n : ℕ). lines_of text ≡ take n text ∷ lines_of (drop n text)) next (first_ends text (omega (arith, same, before_newline_is text, h.1))))
-      | inr h ↦ absurd cc
-    ]
+lines_first text at found = search (place_cases, before_newline_is, first_ends, rules, arith)
 
 none_more : {A : Type 0} (x : A) (xs : List A) → (length (x ∷ xs) == 0) ≡ false
 none_more x xs = ne_eqb (length (x ∷ xs)) 0 (λ e. absurd (omega (arith, e)))
@@ -106,18 +97,12 @@ lines_whole (b ∷ text) = concat_step (is_newline b) b (lines_of text) ∙ ap (
 pub lines_again : (text rest : List ℕ) → Lacks 10 text → lines_of (text ++ 10 ∷ rest) ≡ (text ++ 10 ∷ []) ∷ lines_of rest
 unfolding lines_of
 lines_again [] rest lack = refl
-lines_again (b ∷ text) rest lack =
-    let h = both (not (b == 10)) (list_all (λ x. not (x == 10)) text) lack in
-    ap (λ (s : Bool). cond s ((b ∷ []) ∷ lines_of (text ++ 10 ∷ rest)) (onto_first b (lines_of (text ++ 10 ∷ rest)))) (is_false (b == 10) h.0)
-    ∙ ap (onto_first b) (lines_again text rest h.1)
+lines_again (b ∷ text) rest lack = grind (arith, common_steps, lines_again text rest)
 
 -- what is printable has no newline
 no_newline : (text : List ℕ) → list_all is_printable text ≡ true → Lacks 10 text
 no_newline [] e = refl
-no_newline (b ∷ text) e =
-    let h = both (is_printable b) (list_all is_printable text) e in
-    let low : 32 ≤ b = leb-true 32 b (both (nat_le 32 b) (nat_le b 126) h.0).0 in
-    rw (ne_eqb b 10 (λ e. absurd (omega (arith, e, low)))) (no_newline text h.1)
+no_newline (b ∷ text) e = grind (arith, common_steps, no_newline text)
 
 -- a line of words that stands before others
 pub words_line_again : (ws : List (List ℕ)) (rest : List ℕ) → AllByRecursion IsWord ws → lines_of (joined ws ++ 10 ∷ rest) ≡ (joined ws ++ 10 ∷ []) ∷ lines_of rest

@@ -1,16 +1,15 @@
 -- What is written of an event is read so.
-use Rattle.std.proofs.Common.{◌≡◌, ℕ, zero, suc, ◌+◌, ◌*◌, ◌≤◌, false, List, [], ◌∷◌, ◌++◌, length, drop, Option, Some, None, Result, Ok, refl, sym, ap, ◌∙◌, append_assoc, arith}
+use Rattle.std.proofs.lemmas.Grind.{common_steps}
+use Rattle.std.proofs.Common.{◌≡◌, ℕ, zero, suc, ◌+◌, ◌*◌, ◌≤◌, false, List, [], ◌∷◌, ◌++◌, length, Option, Some, None, Result, Ok, refl, sym, ap, ◌∙◌, append_assoc, arith}
 use Rattle.std.specs.Prelude.{codes, decimal, not, ◌==◌}
 use Rattle.std.specs.List.{All, AllByRecursion, flat_map}
 use Rattle.std.proofs.lemmas.Bool.{ne_eqb, le-ltb}
-use Rattle.std.proofs.lemmas.List.{length-append, drop_at, get_or_at}
+use Rattle.std.proofs.lemmas.List.{length-append}
 use Rattle.std.proofs.lemmas.List.Elements.{recursion_from_All}
 use Rattle.std.proofs.lemmas.List.Folds.{list_all-append}
 use Rattle.text_format.specs.declared.Format.{Format}
 use Rattle.text_format.specs.Limits.{key_limit, value_limit, line_limit, header_lines}
 use Rattle.base64.proofs.RoundTrip.{length-encode_symbols}
-use Rattle.base64.specs.Rfc4648.{encode_symbols, padding_len}
-use Rattle.std.specs.Prelude.{replicate}
 use Rattle.std.proofs.lemmas.List.{length-replicate}
 use Rattle.spans.specs.declared.calls.events.Event.{Event}
 use Rattle.spans.specs.declared.calls.messages.Message.{Message}
@@ -28,12 +27,12 @@ use Rattle.script.specs.Lines.{Place, lines_of}
 use Rattle.json_lines.specs.Messages.{IsMessage, IsAfter}
 use Rattle.word_lines.specs.Limits.{IsNumber, IsPair, IsRefusal, IsReply, IsEvent, KeepsLimit}
 use Rattle.word_lines.specs.Commands.{joined, words_of}
-use Rattle.json_lines.specs.Messages.{symbols, base64, after_text, message_line}
+use Rattle.json_lines.specs.Messages.{base64, after_text, message_line}
 use Rattle.word_lines.specs.Replies.{row_line, refusal_words, reply_words, following_lines}
 use Rattle.word_lines.specs.Events.{heading_text, event_text}
 use Rattle.script.specs.ReplyReading.{refusal_at, stats_at, shape_at, named_at, reply_at}
 use Rattle.script.specs.EventLines.{behind_arrow, heading_of, heading_at, pair_at, pair_of, row_line_at, message_line_at}
-use Rattle.script.specs.Transcripts.{Fault, next_at, many_at, following_at, event_at, events_at, body_at, transcript_at, events_text, transcript_text}
+use Rattle.script.specs.Transcripts.{Fault, many_at, following_at, event_at, events_at, body_at, transcript_at, events_text, transcript_text}
 use Rattle.word_lines.proofs.JoinedParts.{Lacks, IsWord, text_again, words_again, decimal_all}
 use Rattle.word_lines.proofs.WrittenWords.{room, number_word, number_length, bytes_word, bytes_few, words_then, joined_few}
 use Rattle.word_lines.proofs.ReadParts.{command_words}
@@ -106,9 +105,7 @@ module _ (format : Format) where
 -- the words behind `=>` are found
 behind_again : (n : ℕ) (front answer : List (List ℕ)) → length front ≡ n → behind_arrow n (front ++ codes "=>" ∷ answer) ≡ Ok answer
 unfolding behind_arrow
-behind_again n front answer e =
-    let one : drop (n + 1) (front ++ codes "=>" ∷ answer) ≡ answer = ap (drop (n + 1)) (sym (append_assoc front (codes "=>" ∷ []) answer)) ∙ drop_at (front ++ codes "=>" ∷ []) answer (n + 1) (omega (arith, e, length-append front (codes "=>" ∷ []))) in
-    rw (get_or_at front (codes "=>") answer [] n e, one) refl
+behind_again n front answer e = grind (arith, common_steps)
 
 -- the words of an event's first line
 abbrev words_in : Event → List (List ℕ)
@@ -185,8 +182,7 @@ number_in_line : (n : ℕ) → IsNumber n → IsInLine (decimal n) 20
 number_in_line n is = record { clean = decimal_all (λ c. not (c == 10)) (λ d small. ap not (ne_eqb (48 + d) 10 (λ e. absurd (omega (arith, e))))) n is; few = number_length n is }
 
 base64_few : (bytes : List ℕ) (most : ℕ) → length bytes ≤ most → length (base64 bytes) ≤ 2 * most + 4
-base64_few bytes most le =
-    omega (arith, length-append (encode_symbols symbols bytes) (replicate (padding_len (length bytes)) 61), length-encode_symbols symbols bytes, length-replicate {A = ℕ} (padding_len (length bytes)) 61)
+base64_few bytes most le = grind (arith, common_steps, length-append, length-encode_symbols, length-replicate)
 
 base64_in_line : (bytes : List ℕ) (most : ℕ) → length bytes ≤ most → IsInLine (base64 bytes) (2 * most + 4)
 base64_in_line bytes most le = record { clean = base64_all (λ c. not (c == 10)) refl refl refl bytes; few = base64_few bytes most le }
@@ -235,19 +231,12 @@ record IsReadBy {A : Type 0} (read : Result (A × Place) Fault) (x : A) (rest : 
 abbrev place : ℕ → List ℕ → Place
 place number text = record { number = number; lines = lines_of text }
 
-next_again : {A : Type 0} (read : List ℕ → Result A LineFault) (show : A → List ℕ) (x : A) (number : ℕ) (rest : List ℕ) → IsLineOf read show x → next_at read (place number (show x ++ rest)) ≡ Ok (x, place (number + 1) rest)
-next_again read show x number rest is = rw (is.0 rest, is.1) refl
-
 -- lines of one kind, one after the other
 many_again : {A : Type 0} (read : List ℕ → Result A LineFault) (show : A → List ℕ) (Is : A → Type 0) → ((x : A) → Is x → IsLineOf read show x) → (xs : List A) (number : ℕ) (rest : List ℕ) → AllByRecursion Is xs
     → IsReadBy (many_at read (length xs) (place number (flat_map show xs ++ rest))) xs rest
 unfolding many_at
 many_again read show Is each [] number rest are = record { number = number; is = refl }
-many_again read show Is each (x ∷ xs) number rest are =
-    let others = many_again read show Is each xs (number + 1) rest are.1 in
-    let one : next_at read (place number (flat_map show (x ∷ xs) ++ rest)) ≡ Ok (x, place (number + 1) (flat_map show xs ++ rest)) =
-    ap (λ (text : List ℕ). next_at read (place number text)) (append_assoc (show x) (flat_map show xs) rest) ∙ next_again read show x number (flat_map show xs ++ rest) (each x are.0) in
-    record { number = others.number; is = rw (one, others.is) refl }
+many_again read show Is each (x ∷ xs) number rest are = grind (arith, common_steps, many_again read show Is each xs (number + 1) rest are.1)
 
 module _ (format : Format) where
   -- the lines that follow a reply

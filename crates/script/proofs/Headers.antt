@@ -1,24 +1,23 @@
 -- A text behind its header.
-use Rattle.std.proofs.Common.{◌≡◌, ℕ, ◌+◌, ◌≤◌, ◌<◌, Bool, true, false, List, [], ◌∷◌, ◌++◌, length, take, drop, Err, refl, sym, ap, subst, ◌∙◌, arith, append_assoc}
-use Rattle.std.specs.Prelude.{bytes_eq, codes, decimal, not, ◌==◌, ◌^◌}
+use Rattle.std.proofs.lemmas.Grind.{common_steps}
+use Rattle.std.proofs.Common.{◌≡◌, ℕ, ◌+◌, ◌≤◌, ◌<◌, Bool, true, false, List, [], ◌∷◌, ◌++◌, length, take, drop, Err, refl, sym, ap, ◌∙◌, arith}
+use Rattle.std.specs.Prelude.{bytes_eq, not, ◌==◌, ◌^◌}
 use Rattle.std.specs.List.{All, list_all}
 use Rattle.std.proofs.lemmas.Bool.{ne_eqb}
 use Rattle.std.proofs.lemmas.Fmt.{decimal_nonempty}
 use Rattle.std.proofs.lemmas.List.Elements.{recursion_from_All}
-use Rattle.std.proofs.lemmas.List.{take-append-drop, take_at, drop_at}
+use Rattle.std.proofs.lemmas.List.{take_at, drop_at}
 use Rattle.std.proofs.lemmas.Slice.Eq.{bytes_eq-Decides}
 use Rattle.spans.specs.declared.calls.events.Event.{Event}
 use Rattle.text_format.specs.declared.Format.{Format}
 use Rattle.text_format.specs.Limits.{header, header_lines, format_of}
 use Rattle.text_format.specs.declared.Format.TheVariants.{One, Two}
 use Rattle.spelled_words.specs.declared.fault.LineFault.TheVariants.{WordCount}
-use Rattle.word_lines.specs.Commands.{joined, words_of}
 use Rattle.word_lines.specs.Events.{heading_text}
 use Rattle.word_lines.specs.Limits.{IsEvent}
-use Rattle.word_lines.specs.Replies.{reply_words, following_lines}
 use Rattle.word_lines.proofs.JoinedParts.{decimal_all}
 use Rattle.script.specs.Lines.{Place, lines_of}
-use Rattle.script.specs.Transcripts.{HasHeader, body_at, events_text, left_at, left_of, transcript_at, transcript_text}
+use Rattle.script.specs.Transcripts.{HasHeader, body_at, left_at, left_of, transcript_at, transcript_text}
 
 -- a text that begins with its header
 pub behind_header : (format : Format) (text : List ℕ) → bytes_eq (take (length (header format)) text) (header format) ≡ true → transcript_at format text ≡ body_at format (drop (length (header format)) text)
@@ -27,8 +26,7 @@ behind_header format text e = rw e refl
 
 -- it is the header and what stands behind it
 pub header_is : (format : Format) (text : List ℕ) → bytes_eq (take (length (header format)) text) (header format) ≡ true → text ≡ header format ++ drop (length (header format)) text
-header_is format text e =
-    sym (take-append-drop (length (header format)) text) ∙ ap (λ (front : List ℕ). front ++ drop (length (header format)) text) ((bytes_eq-Decides (take (length (header format)) text) (header format)).0 e)
+header_is format text e = grind (arith, common_steps)
 
 -- a text that doesn't
 pub no_header : (format : Format) (text : List ℕ) → bytes_eq (take (length (header format)) text) (header format) ≡ false → transcript_at format text ≡ Err (record { line = 1; fault = WordCount })
@@ -38,10 +36,7 @@ no_header format text e = rw e refl
 -- where a header is found in front of a text
 pub front_found : (format : Format) (front text body : List ℕ) → front ≡ header format → bytes_eq (take (length front) text) front ≡ true → body ≡ drop (length front) text
     → (text ≡ header format ++ body) × (transcript_at format text ≡ body_at format body)
-front_found format front text body is e rest = rw (rest, is) (
-  header_is format text (ap (λ (x : List ℕ). bytes_eq (take (length x) text) x) (sym is) ∙ e),
-  behind_header format text (ap (λ (x : List ℕ). bytes_eq (take (length x) text) x) (sym is) ∙ e),
-)
+front_found format front text body is e rest = grind (arith, common_steps, header_is, behind_header)
 
 -- where it isn't
 pub front_missing : (format : Format) (front text : List ℕ) → front ≡ header format → bytes_eq (take (length front) text) front ≡ false → transcript_at format text ≡ Err (record { line = 1; fault = WordCount })
@@ -49,24 +44,16 @@ front_missing format front text is e = no_header format text (ap (λ (x : List �
 
 -- then the text has no header
 pub no_front : (format : Format) (front text : List ℕ) → front ≡ header format → bytes_eq (take (length front) text) front ≡ false → HasHeader format text → ⊥
-no_front format front text is e begins =
-    let found : bytes_eq (take (length front) text) front ≡ true = (bytes_eq-Decides (take (length front) text) front).1 (subst (λ (x : List ℕ). take (length x) text ≡ x) (sym is) begins) in
-    (let clash : false ≡ true = sym e ∙ found in cc)
+no_front format front text is e begins = grind (arith, common_steps)
 
 -- what is left behind the header
 pub front_left : (format : Format) (front text body : List ℕ) (p : Place) → front ≡ header format → bytes_eq (take (length front) text) front ≡ true → body ≡ drop (length front) text → p ≡ record { number = 1 + header_lines format; lines = lines_of body }
     → HasHeader format text × (left_at format p ≡ left_of format text)
-front_left format front text body p is e rest begins = (
-  subst (λ (x : List ℕ). take (length x) text ≡ x) is ((bytes_eq-Decides (take (length front) text) front).0 e),
-  ap (left_at format) (begins ∙ ap (λ (b : List ℕ). record { number = 1 + header_lines format; lines = lines_of b }) (rest ∙ ap (λ (x : List ℕ). drop (length x) text) is)),
-)
+front_left format front text body p is e rest begins = grind (arith, common_steps)
 
 -- what is written behind a header stands behind it
 pub header_again : (format : Format) (body : List ℕ) → transcript_at format (header format ++ body) ≡ body_at format body
-header_again format body =
-    let front : take (length (header format)) (header format ++ body) ≡ header format = take_at (header format) body (length (header format)) refl in
-    behind_header format (header format ++ body) (ap (λ (x : List ℕ). bytes_eq x (header format)) front ∙ (bytes_eq-Decides (header format) (header format)).1 refl)
-    ∙ ap (body_at format) (drop_at (header format) body (length (header format)) refl)
+header_again format body = grind (arith, common_steps, take_at, behind_header, bytes_eq-Decides, drop_at)
 
 -- ---- the format of a transcript
 
@@ -84,10 +71,7 @@ no_header_begins (b ∷ bs) rest some all = first (b == 109) refl all
 
 -- events are written as digits first
 no_header_written : (e : Event) (rest : List ℕ) → e.position < 2 ^ 64 → bytes_eq (take (length (header Two)) (heading_text e ++ rest)) (header Two) ≡ false
-no_header_written e rest small =
-    let words = decimal e.seat ∷ (words_of e.cmd ++ codes "=>" ∷ reply_words e.reply) in
-    ap (λ (text : List ℕ). bytes_eq (take (length (header Two)) text) (header Two)) (append_assoc (decimal e.position) (32 ∷ joined words) rest)
-    ∙ no_header_begins (decimal e.position) ((32 ∷ joined words) ++ rest) (decimal_nonempty e.position small) (decimal_all isnt_m (λ d few. rw (ne_eqb (48 + d) 109 (λ is. omega (arith, few, is))) refl) e.position small)
+no_header_written e rest small = grind (arith, common_steps, no_header_begins, decimal_nonempty, decimal_all, ne_eqb)
 
 -- a transcript is found to be in the format that it is written in
 pub format_again : (format : Format) (es : List Event) → All (IsEvent format) es → format_of (transcript_text format es) ≡ format
@@ -95,7 +79,4 @@ format_again Two es are = refl
 format_again One [] are = refl
 format_again One (e ∷ es) are =
     let first = recursion_from_All (IsEvent One) (e ∷ es) are in
-    let none : bytes_eq (take (length (header Two)) (transcript_text One (e ∷ es))) (header Two) ≡ false =
-    ap (λ (text : List ℕ). bytes_eq (take (length (header Two)) text) (header Two)) (append_assoc (heading_text e) (10 ∷ following_lines e.reply) (events_text es))
-    ∙ no_header_written e ((10 ∷ following_lines e.reply) ++ events_text es) first.0.0 in
-    rw none refl
+    grind (arith, common_steps, no_header_written)

@@ -1,10 +1,11 @@
 -- A long value behind the command of an event's first line.
-use Rattle.std.proofs.Common.{◌≡◌, ℕ, true, false, Bool, ◌||◌, List, ◌++◌, Ok, refl, ap, ◌∙◌}
+use Rattle.std.proofs.lemmas.Grind.{common_steps}
+use Rattle.std.proofs.Common.{arith}
+use Rattle.std.proofs.Common.{◌≡◌, ℕ, true, false, Bool, ◌||◌, List, Ok, refl}
 use Rattle.std.specs.List.{list_any}
 use Rattle.std.proofs.lemmas.List.Folds.{list_any-append}
 use Rattle.spelled_words.specs.Memory.{is_long}
-use Rattle.word_lines.specs.Memory.{byte_words}
-use Rattle.word_lines.specs.Reading.{◌>>=◌, number_at, session_at, row_at}
+use Rattle.word_lines.specs.Reading.{number_at, session_at, row_at}
 use Rattle.word_lines.specs.Table.{table}
 use Rattle.word_lines.specs.declared.table.Form.{Form}
 use Rattle.script.specs.EventLines.{behind_arrow}
@@ -17,5 +18,4 @@ or_true false = refl
 pub answer_long : (words left behind arguments answer : List (List ℕ)) (position seat : ℕ) (row : Form) → number_at words ≡ Ok (position, left) → session_at 64 left ≡ Ok (seat, behind)
     → row_at table behind ≡ Ok (row, arguments) → behind_arrow row.arguments arguments ≡ Ok answer → list_any is_long (value_words answer) ≡ true → ok_has (list_any is_long) (event_words_of words) ≡ true
 unfolding event_words_of
-answer_long words left behind arguments answer position seat row number session name arrow long = rw (number, session, name, arrow)
-    (list_any-append is_long (byte_words row.verb arguments) (value_words answer) ∙ (ap (λ (b : Bool). list_any is_long (byte_words row.verb arguments) || b) long ∙ or_true (list_any is_long (byte_words row.verb arguments))))
+answer_long words left behind arguments answer position seat row number session name arrow long = grind (arith, common_steps, list_any-append, or_true)

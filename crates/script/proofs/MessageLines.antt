@@ -1,4 +1,5 @@
 -- Messages and their lines, one to one.
+use Rattle.std.proofs.lemmas.Grind.{common_steps}
 use Rattle.std.proofs.Common.{◌≡◌, ℕ, zero, suc, ◌+◌, ◌^◌, ◌<◌, Bool, true, cond, List, [], ◌∷◌, length, get_or, Option, Some, None, Ok, Err, refl, sym, ap, subst, ◌∙◌, append_assoc, arith}
 use Rattle.std.specs.Prelude.{codes, decimal, bytes_eq, ◌&&◌, ◌==◌, nat_lt, nat_le, not, option_and_then, replicate}
 use Rattle.std.specs.List.{list_all, slice_split, join_with_byte, AllByRecursion}
@@ -9,7 +10,7 @@ use Rattle.std.proofs.lemmas.List.Folds.{list_all-append}
 use Rattle.std.proofs.lemmas.Slice.Eq.{bytes_eq-Decides}
 use Rattle.text_format.specs.declared.Format.{Format}
 use Rattle.text_format.specs.Limits.{key_limit, value_limit}
-use Rattle.base64.specs.Rfc4648.{encode_symbols, padding_len}
+use Rattle.base64.specs.Rfc4648.{encode_symbols}
 use Rattle.base64.specs.Engines.{standard}
 use Rattle.base64.specs.GeneralPurpose.{decoded_of}
 use Rattle.base64.proofs.EngineFacts.{decode_of-encode_of}
@@ -115,8 +116,7 @@ pads_all p pad zero = refl
 pads_all p pad (suc n) = rw pad (pads_all p pad n)
 
 pub base64_all : (p : ℕ → Bool) → list_all p symbols ≡ true → p 0 ≡ true → p 61 ≡ true → (bytes : List ℕ) → list_all p (base64 bytes) ≡ true
-base64_all p each zeros pad bytes =
-    list_all-append p (encode_symbols symbols bytes) (replicate (padding_len (length bytes)) 61) ∙ rw (symbols_all p each zeros bytes, pads_all p pad (padding_len (length bytes))) refl
+base64_all p each zeros pad bytes = grind (arith, common_steps, list_all-append, symbols_all, pads_all)
 
 base64_clean : (bytes : List ℕ) → Lacks 34 (base64 bytes)
 base64_clean bytes = base64_all no_quote refl refl refl bytes

@@ -1,8 +1,9 @@
 -- What is read as an event is written so.
-use Rattle.std.proofs.Common.{◌≡◌, ℕ, zero, suc, ◌+◌, ◌<◌, ◌≤◌, Bool, true, false, cond, List, [], ◌∷◌, ◌++◌, length, get_or, take, drop, Result, Ok, Err, refl, sym, ap, subst, ◌∙◌, inl, inr, append_assoc, add-one, arith}
+use Rattle.std.proofs.lemmas.Grind.{common_steps}
+use Rattle.std.proofs.Common.{Vec, Global, ◌≡◌, ℕ, zero, suc, ◌+◌, ◌<◌, ◌≤◌, Bool, true, false, cond, List, [], ◌∷◌, ◌++◌, length, get_or, take, drop, Result, Ok, Err, refl, sym, ap, subst, ◌∙◌, inl, inr, append_assoc, add-one, arith}
 use Rattle.std.specs.Prelude.{codes, decimal, bytes_eq, ok_or, nat_lt, ◌==◌, IfOk}
 use Rattle.std.specs.List.{All, AllByRecursion, concat, flat_map}
-use Rattle.std.proofs.Common.{Vec, Global}
+use Rattle.std.proofs.Common.{Vec, Global, ◌≡◌, ℕ, zero, suc, ◌+◌, ◌<◌, ◌≤◌, Bool, true, false, cond, List, [], ◌∷◌, ◌++◌, length, get_or, take, drop, Result, Ok, Err, refl, sym, ap, subst, ◌∙◌, inl, inr, append_assoc, add-one, arith}
 use Rattle.std.proofs.lemmas.Bool.{cases_lt, eqb-true}
 use Rattle.std.proofs.lemmas.List.{nil_from_length, drop_at, drop_more, get_or_past}
 use Rattle.std.proofs.lemmas.List.Elements.{All-from_recursion}
@@ -23,10 +24,10 @@ use Rattle.word_lines.specs.Words.{text_at, words_at}
 use Rattle.word_lines.specs.Table.{table}
 use Rattle.word_lines.specs.Spelling.{spelling}
 use Rattle.script.specs.Lines.{Place, lines_of}
-use Rattle.json_lines.specs.Messages.{IsMessage}
+use Rattle.json_lines.specs.Messages.{message_line, IsMessage}
 use Rattle.word_lines.specs.Limits.{IsNumber, IsCommand, IsPair, IsReply, IsEvent}
 use Rattle.word_lines.specs.Commands.{joined, words_of}
-use Rattle.json_lines.specs.Messages.{message_line}
+use Rattle.json_lines.specs.Messages.{message_line, IsMessage}
 use Rattle.script.specs.MessageReading.{message_of}
 use Rattle.word_lines.specs.Replies.{row_line, reply_words, following_lines}
 use Rattle.word_lines.specs.Events.{event_text}

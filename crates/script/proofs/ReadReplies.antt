@@ -1,9 +1,10 @@
 -- What is read of a reply's words is written so.
-use Rattle.std.proofs.Common.{◌≡◌, ℕ, Bool, true, false, cond, List, [], ◌∷◌, ◌++◌, length, Some, None, Result, Ok, Err, refl, sym, ap, subst, ◌∙◌}
-use Rattle.std.specs.Prelude.{codes, decimal, bytes_eq, ok_or, ◌==◌}
+use Rattle.std.proofs.lemmas.Grind.{common_steps}
+use Rattle.std.proofs.Common.{arith}
+use Rattle.std.proofs.Common.{◌≡◌, ℕ, Bool, true, false, cond, List, [], ◌∷◌, ◌++◌, Some, None, Result, Ok, Err, refl, sym, ap, subst, ◌∙◌}
+use Rattle.std.specs.Prelude.{codes, decimal, bytes_eq, ok_or}
 use Rattle.std.specs.List.{AllByRecursion}
-use Rattle.std.proofs.lemmas.Bool.{eqb-true}
-use Rattle.std.proofs.lemmas.List.{append-nil, nil_from_length}
+use Rattle.std.proofs.lemmas.List.{append-nil}
 use Rattle.std.proofs.lemmas.Slice.Eq.{bytes_eq-Decides}
 use Rattle.text_format.specs.declared.Format.{Format}
 use Rattle.spans.specs.declared.calls.replies.Reply.{Reply}
@@ -23,7 +24,7 @@ use Rattle.word_lines.specs.Reading.{◌>>=◌, word_at, number_at, value_at}
 use Rattle.word_lines.specs.Replies.{refusal_words, reply_words, following_lines}
 use Rattle.script.specs.ReplyTable.{replies, kind_of}
 use Rattle.script.specs.ReplyReading.{told_as, to_the_end, of_number, of_two, refusal_at, stats_at, shape_at, named_at, reply_at}
-use Rattle.word_lines.proofs.ReadWords.{bind_ok, guarded, some_ok, ok_is, pure, number_word, value_word, word_found}
+use Rattle.word_lines.proofs.ReadWords.{bind_ok, some_ok, ok_is, pure, number_word, value_word, word_found}
 
 -- the words of a reply of which the lines that follow aren't read yet
 unfoldable pub shape_words : Shape → List (List ℕ)
@@ -87,22 +88,12 @@ says_alone words_of Is name a words x text lawful e = subst (λ y. Says words_of
 -- a reply with a number
 says_number : {A : Type 0} (words_of : A → List (List ℕ)) (Is : A → Type 0) (name : List ℕ) (make : ℕ → A) (words : List (List ℕ)) (x : A × List (List ℕ))
     → ((n : ℕ) → words_of (make n) ≡ name ∷ decimal n ∷ []) → ((n : ℕ) → IsNumber n → Is (make n)) → of_number make words ≡ Ok x → Says words_of Is name words x
-says_number words_of Is name make words x text lawful e =
-    let n = bind_ok (number_at words) (λ n. Ok (make n.0, n.1)) x e in
-    let w = number_word words n.0 n.1 in
-    subst (λ y. Says words_of Is name words y) (ok_is (make n.0.0, n.0.1) x n.2)
-    (record { text = ap (λ (v : List (List ℕ)). name ∷ v) w.0 ∙ ap (λ (v : List (List ℕ)). v ++ n.0.1) (sym (text n.0.0)); lawful = lawful n.0.0 w.1 })
+says_number words_of Is name make words x text lawful e = grind (arith, common_steps, bind_ok, number_word, ok_is)
 
 -- a reply with two numbers
 says_two : {A : Type 0} (words_of : A → List (List ℕ)) (Is : A → Type 0) (name : List ℕ) (make : ℕ → ℕ → A) (words : List (List ℕ)) (x : A × List (List ℕ))
     → ((n m : ℕ) → words_of (make n m) ≡ name ∷ decimal n ∷ decimal m ∷ []) → ((n m : ℕ) → IsNumber n → IsNumber m → Is (make n m)) → of_two make words ≡ Ok x → Says words_of Is name words x
-says_two words_of Is name make words x text lawful e =
-    let n = bind_ok (number_at words) (λ n. number_at n.1 >>= λ m. Ok (make n.0 m.0, m.1)) x e in
-    let m = bind_ok (number_at n.0.1) (λ m. Ok (make n.0.0 m.0, m.1)) x n.2 in
-    let v = number_word words n.0 n.1 in
-    let w = number_word n.0.1 m.0 m.1 in
-    subst (λ y. Says words_of Is name words y) (ok_is (make n.0.0 m.0.0, m.0.1) x m.2)
-    (record { text = ap (λ (z : List (List ℕ)). name ∷ z) (v.0 ∙ ap (λ (z : List (List ℕ)). decimal n.0.0 ∷ z) w.0) ∙ ap (λ (z : List (List ℕ)). z ++ m.0.1) (sym (text n.0.0 m.0.0)); lawful = lawful n.0.0 m.0.0 v.1 w.1 })
+says_two words_of Is name make words x text lawful e = grind (arith, common_steps, bind_ok, number_word, ok_is)
 
 refusal_found : (why : Reason) (ws : List (List ℕ)) (x : Refusal × List (List ℕ)) → refusal_at why ws ≡ Ok x → Says refusal_words IsRefusal (reason_name why) ws x
 unfolding refusal_at
@@ -189,10 +180,7 @@ kind_found (row ∷ rows) name k right e = kind_by (bytes_eq row.0 name) row row
 
 -- no word was left
 pub ended : {A : Type 0} (read : Result (A × List (List ℕ)) LineFault) (x : A) → to_the_end read ≡ Ok x → read ≡ Ok (x, [])
-ended read x e =
-    let y = bind_ok read (λ y. cond (length y.1 == 0) (Ok y.0) (Err fault.WordCount)) x e in
-    let g = guarded (length y.0.1 == 0) fault.WordCount y.0.0 x y.2 in
-    y.1 ∙ ap (λ v. Ok (y.0.0, v)) (nil_from_length y.0.1 (eqb-true _ _ g.0)) ∙ ap (λ v. Ok (v, [])) g.1
+ended read x e = grind (arith, common_steps)
 
 -- what was read was no fault
 pub told : {A : Type 0} (f : LineFault) (read : Result A LineFault) (x : A) → told_as f read ≡ Ok x → read ≡ Ok x

@@ -1,4 +1,5 @@
 -- Lines read one after the other, as a loop does.
+use Rattle.std.proofs.lemmas.Grind.{common_steps}
 use Rattle.std.proofs.Common.{◌≡◌, ℕ, zero, suc, ◌-◌, ◌+◌, ◌<◌, ◌≤◌, List, [], ◌∷◌, ◌++◌, Result, Ok, Err, length, Bool, true, false, cond, Option, Some, None, refl, sym, ap, subst, ◌∙◌, append_assoc, arith, Vec, Global}
 use Rattle.std.specs.Prelude.{◌≢◌, ◌⊎◌, ◌==◌, ◌&&◌, nat_lt, IfErr}
 use Rattle.std.specs.List.{onto_first}
@@ -20,7 +21,7 @@ use Rattle.script.specs.declared.fault.TranscriptError.TheVariants as errors
 use Rattle.word_lines.proofs.ReadWords.{bind_ok, ok_is}
 use Rattle.script.specs.Lines.{Place, is_newline, lines_of}
 use Rattle.word_lines.specs.Reading.{◌>>=◌}
-use Rattle.script.specs.Transcripts.{Fault, Fails, TakesLines, at_line, first_of, next_at, many_at, following_at, event_at, events_at, body_at, Transcript, nothing_left, onto_left, left_within, left_at, outcome_of, outcome, HasHeader, left_of, TranscriptWants, WantsNext, TakesEvent}
+use Rattle.script.specs.Transcripts.{Fault, Fails, TakesLines, first_of, next_at, many_at, following_at, event_at, events_at, body_at, Transcript, nothing_left, onto_left, left_within, left_at, outcome_of, outcome, HasHeader, left_of, TranscriptWants, WantsNext, TakesEvent}
 
 -- what was read before, and what is still read
 abbrev pub with_front : {A : Type 0} → List A → Result (List A × Place) Fault → Result (List A × Place) Fault
@@ -36,8 +37,7 @@ pub goes_on : {A : Type 0} (read : List ℕ → Result A LineFault) (front : Lis
 unfolding many_at
 goes_on read front count i p x after total lt h so_far =
     let k : count - i ≡ suc (count - (i + 1)) = omega arith in
-    let one : with_front front (many_at read (count - i) p) ≡ with_front (front ++ x ∷ []) (many_at read (count - (i + 1)) after) = rw (k, h) (regroup front x (many_at read (count - (i + 1)) after)) in
-    sym one ∙ so_far
+    grind (arith, common_steps)
 
 -- a line is faulty
 pub ends : {A : Type 0} (read : List ℕ → Result A LineFault) (e : TranscriptError) (front : List A) (count i : ℕ) (p : Place) (total : Result (List A × Place) Fault) → i < count → Fails e (next_at read p)
@@ -46,30 +46,17 @@ unfolding many_at
 ends read errors.NoMemory front count i p total lt h so_far = tt
 ends read (errors.Fault line fault) front count i p total lt h so_far =
     let k : count - i ≡ suc (count - (i + 1)) = omega arith in
-    let one : with_front front (many_at read (count - i) p) ≡ Err (record { line = line; fault = fault }) = rw (k, h) refl in
-    sym so_far ∙ one
+    grind (arith, common_steps)
 
 -- all lines were read
 pub is_done : {A : Type 0} (read : List ℕ → Result A LineFault) (front : List A) (count i : ℕ) (p : Place) (total : Result (List A × Place) Fault) → count ≤ i → with_front front (many_at read (count - i) p) ≡ total → total ≡ Ok (front, p)
 unfolding many_at
-is_done read front count i p total le so_far =
-    let k : count - i ≡ 0 = omega arith in
-    let one : with_front front (many_at read (count - i) p) ≡ Ok (front, p) = rw k (ap (λ xs. Ok (xs, p)) (append-nil front)) in
-    sym so_far ∙ one
-
--- what a line says at its number, it says
-line_told : {A : Type 0} (number : ℕ) (r : Result A LineFault) (x : A) → at_line number r ≡ Ok x → r ≡ Ok x
-line_told number (Ok y) x e = cc
-line_told number (Err f) x e = absurd cc
+is_done read front count i p total le so_far = grind (arith, common_steps)
 
 -- the first of the lines was taken
 next_by : {A : Type 0} (read : List ℕ → Result A LineFault) (number : ℕ) (lines : List (List ℕ)) (x : A × Place) → first_of read number lines ≡ Ok x → (line : List ℕ) × (lines ≡ line ∷ x.1.lines) × (read line ≡ Ok x.0)
 next_by read number [] x e = absurd cc
-next_by read number (line ∷ lines) x e =
-    let told = bind_ok (at_line number (read line)) (λ y. Ok (y, record { number = number + 1; lines = lines })) x e in
-    let rest : Place = record { number = number + 1; lines = lines } in
-    let same = ok_is (told.0, rest) x told.2 in
-    (line, ap (λ y. line ∷ y.1.lines) same, line_told number (read line) told.0 told.1 ∙ ap (λ y. Ok y.0) same)
+next_by read number (line ∷ lines) x e = grind (arith, common_steps)
 
 -- a line that was taken
 pub next_found : {A : Type 0} (read : List ℕ → Result A LineFault) (p : Place) (x : A × Place) → next_at read p ≡ Ok x → (line : List ℕ) × (p.lines ≡ line ∷ x.1.lines) × (read line ≡ Ok x.0)
@@ -85,9 +72,7 @@ unfolding many_at
 many_fewer read zero p x e = subst (λ y. length y.1.lines ≤ length p.lines) (ok_is ([], p) x e) (omega arith)
 many_fewer read (suc n) p x e =
     let first = bind_ok (next_at read p) (λ first. many_at read n first.1 >>= λ others. Ok (first.0 ∷ others.0, others.1)) x e in
-    let others = bind_ok (many_at read n first.0.1) (λ others. Ok (first.0.0 ∷ others.0, others.1)) x first.2 in
-    let line = next_found read p first.0 first.1 in
-    subst (λ y. length y.1.lines ≤ length p.lines) (ok_is (first.0.0 ∷ others.0.0, others.0.1) x others.2) (omega (arith, ap length line.1, many_fewer read n first.0.1 others.0 others.1))
+    grind (arith, common_steps, bind_ok, next_found, ok_is, many_fewer read n)
 
 module _ (format : Format) where
   -- nor by a reply

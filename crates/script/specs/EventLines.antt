@@ -11,7 +11,7 @@ use Rattle.json_lines.specs.declared.fault.MessageFault.TheVariants as message_f
 use Rattle.script.specs.declared.headings.Heading.{Heading}
 use Rattle.word_lines.specs.Words.{text_at, words_at}
 use Rattle.word_lines.specs.Table.{table}
-use Rattle.word_lines.specs.Reading.{◌>>=◌, word_at, number_at, session_at, key_at, value_at, row_at, arguments_at}
+use Rattle.word_lines.specs.Reading.{word_at, number_at, session_at, key_at, value_at, row_at, arguments_at, ◌>>=◌}
 use Rattle.script.specs.ReplyReading.{told_as, to_the_end, reply_at}
 use Rattle.script.specs.MessageReading.{message_of}
 

@@ -1,4 +1,5 @@
 -- Reading transcripts from the first line to the last: the events, or the first fault with the number of its line.
+use Rattle.word_lines.specs.Reading.{◌>>=◌}
 use Rattle.std.specs.Prelude.{◌≡◌, ◌≢◌, ◌⊎◌, Bool, true, ℕ, zero, suc, ◌+◌, ◌==◌, if◌then◌else◌, List, [], ◌∷◌, ◌++◌, length, take, drop, bytes_eq, Option, Some, None, Result, Ok, Err}
 use Rattle.std.specs.List.{flat_map, list_any}
 use Rattle.text_format.specs.declared.Format.{Format}
@@ -16,7 +17,6 @@ use Rattle.script.specs.declared.reply_reading.Shape.{Shape}
 use Rattle.script.specs.declared.reply_reading.Shape.TheVariants as shape
 use Rattle.word_lines.specs.Events.{event_text}
 use Rattle.script.specs.Lines.{Place, lines_of}
-use Rattle.word_lines.specs.Reading.{◌>>=◌}
 use Rattle.script.specs.EventLines.{heading_at, row_line_at, message_line_at}
 use Rattle.script.specs.Memory.{wants_at}
 

@@ -1,7 +1,8 @@
 -- At or below closed all is decided.
-use Rattle.std.proofs.Common.{◌≡◌, ℕ, ◌<◌, ◌≤◌, ◌==◌, true, List, [], ◌∷◌, Option, Some, None, refl, sym, ◌∙◌, ap, subst, arith}
+use Rattle.std.proofs.lemmas.Grind.{common_steps}
+use Rattle.std.proofs.Common.{◌≡◌, ℕ, ◌<◌, ◌≤◌, true, List, [], ◌∷◌, Option, Some, None, refl, sym, ◌∙◌, ap, arith}
 use Rattle.std.specs.Prelude.{is_some}
-use Rattle.std.proofs.lemmas.Bool.{eqb-true, and_from}
+use Rattle.std.proofs.lemmas.Bool.{and_from}
 use Rattle.spans.specs.Effects.{After, Effect, Begins, Writes}
 use Rattle.spans.specs.Transactions.{owner_of, closed_of, is_committed}
 use Rattle.spans.specs.Versions.{write_of, version_of, committed_version_of, visible, committed_value}
@@ -13,12 +14,8 @@ use Rattle.spans.proofs.Open.{open_above}
 -- who wrote has begun
 pub wrote_begun : (p : List Effect) → AllAllowed p → (t : ℕ) (x : List ℕ) (a : After) → write_of p t x ≡ Some a → is_some (owner_of p t) ≡ true
 wrote_begun [] all t x a is = cc
-wrote_begun (Begins k seat ∷ p) all t x a is = by_test (k == t)
-    (λ same. rw same refl)
-    (λ other. rw other (wrote_begun p all.1 t x a is))
-wrote_begun (Writes k y b ∷ p) all t x a is = by_test (k == t)
-    (λ same. subst (λ n. is_some (owner_of p n) ≡ true) (eqb-true k t same) all.0.0.begun)
-    (λ other. wrote_begun p all.1 t x a (rw other at is))
+wrote_begun (Begins k seat ∷ p) all t x a is = grind (arith, common_steps, wrote_begun p all.1 t x a is)
+wrote_begun (Writes k y b ∷ p) all t x a is = grind (arith, common_steps, wrote_begun p all.1 t x a)
 wrote_begun (_ ∷ p) all t x a is = wrote_begun p all.1 t x a is
 
 -- a version at or below closed is committed

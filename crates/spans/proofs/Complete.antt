@@ -1,7 +1,9 @@
 -- How far a consumer is complete, and where it has the map.
+use Rattle.std.proofs.lemmas.Grind.{common_steps}
+use Rattle.std.proofs.Common.{rules}
 use Rattle.std.proofs.Common.{◌≡◌, ℕ, ◌-◌, ◌<◌, ◌≤◌, ◌⊎◌, Bool, true, false, not, List, [], ◌∷◌, ◌++◌, Option, Some, None, refl, sym, ◌∙◌, ap, subst, inl, inr, arith, append_assoc}
 use Rattle.std.specs.Prelude.{nat_lt, nat_le, max, filter}
-use Rattle.std.proofs.lemmas.Bool.{and_parts, ltb-true, ltb-false, lt-ltb, le-leb}
+use Rattle.std.proofs.lemmas.Bool.{and_parts, ltb-true, lt-ltb, le-leb}
 use Rattle.std.proofs.lemmas.Bool.Decides.{nat_tests}
 use Rattle.std.proofs.lemmas.List.{append-nil}
 use Rattle.std.proofs.lemmas.List.Elements.{filter-append, filter_map-append}
@@ -14,7 +16,7 @@ use Rattle.spans.specs.Serial.{map_at, span_part}
 use Rattle.spans.specs.Feeds.{Feed, told_to, row_in, rows_in, list_of, start_of}
 use Rattle.spans.specs.Collection.{floor_after}
 use Rattle.spans.specs.FeedRight.{DividesList, FeedIsRight}
-use Rattle.spans.specs.Consumer.{last_row, seed_of}
+use Rattle.spans.specs.Consumer.{last_row}
 use Rattle.spans.specs.Completeness.{complete_after, seen_after, is_row_of, is_new}
 use Rattle.spans.proofs.Steps.{by_test}
 use Rattle.spans.proofs.StreamOrder.{IsRowIn, RisingRows, rises_parts, in_append}
@@ -50,15 +52,7 @@ none_high n (r ∷ rows) low = let isnt : nat_lt n r.ts ≡ false = grind (arith
 -- rising rows are the low ones and then the high ones
 pub low_then_high : (n : ℕ) (rows : List Row) → RisingRows rows → rows ≡ low_rows n rows ++ high_rows n rows
 low_then_high n [] rises = refl
-low_then_high n (r ∷ rows) rises = by_test (nat_le r.ts n)
-    (λ is. let isnt : nat_lt n r.ts ≡ false = grind (arith, nat_tests) in rw (is, isnt) (ap (λ l. r ∷ l) (low_then_high n rows rises.1)))
-    (λ isnt.
-    let high : n < r.ts = grind (arith, nat_tests) in
-    let later : (s : Row) → IsRowIn s (r ∷ rows) → n < s.ts = λ s i. elim i [
-      | inl here ↦ subst (λ (q : Row). n < q.ts) here high
-      | inr there ↦ (let after : r.ts ≤ s.ts = row_order r s (rises.0 s there) in omega arith)
-    ] in
-    sym (ap (λ l. l ++ high_rows n (r ∷ rows)) (none_low n (r ∷ rows) later) ∙ all_high n (r ∷ rows) later))
+low_then_high n (r ∷ rows) rises = search (by_test, row_order, none_low, all_high, low_then_high n rows rises.1, rules, arith)
 
 pub in_above : (n : ℕ) (rows : List Row) (r : Row) → RowsAbove n rows → IsRowIn r rows → n < r.ts
 in_above n [] r above i = absurd i
@@ -92,11 +86,7 @@ ends (m ∷ ms) = elim (ends ms) [
 
 -- the number that is complete, where one is
 pub complete_is : (start cursor n : ℕ) (ms : List Message) → complete_after start cursor ms ≡ Some n → (floor_after start ms ≡ n) × (cursor ≤ n)
-complete_is start cursor n ms is = by_test (nat_lt (floor_after start ms) cursor)
-    (λ low. absurd (let no : None ≡ Some n = rw low at is in cc))
-    (λ high. let same : Some (floor_after start ms) ≡ Some n = rw high at is in
-    let e : floor_after start ms ≡ n = cc in
-    (e, let l : cursor ≤ floor_after start ms = ltb-false _ _ high in omega arith))
+complete_is start cursor n ms is = grind (arith, common_steps)
 
 -- the list begins with the rows that were told so far
 pub split_list : (p : List Effect) (f : ℕ) (feed : Feed) (before rest : List Message) (n : ℕ) → FeedIsRight p f feed → told_to p f ≡ before ++ rest → closed_of p ≤ n
@@ -188,8 +178,7 @@ ready_rows p f feed before rest r right told new =
 
 -- what the consumer has after rows that are a list's
 rows_view : (p : List Effect) (feed : Feed) (before : List Message) (n : ℕ) → feed.cursor ≤ n → rows_in before ≡ list_of p feed n → (x : List ℕ) → seen_after p feed before x ≡ span_part feed.span (map_at p n) x
-rows_view p feed before n from rows x =
-    ap (λ m. m x) (view_rows (seed_of feed.kind p feed.span feed.cursor) before) ∙ ap (λ rs. by_rows (seed_of feed.kind p feed.span feed.cursor) rs x) rows ∙ list_views p feed n x from
+rows_view p feed before n from rows x = grind (arith, common_steps, view_rows, by_rows, list_views)
 
 pub ready_view : (p : List Effect) (f : ℕ) (feed : Feed) (before rest : List Message) (r : Row) → FeedIsRight p f feed → told_to p f ≡ before ++ messages.Row r ∷ rest → is_new feed.cursor before r.ts ≡ true
     → (x : List ℕ) → seen_after p feed before x ≡ span_part feed.span (map_at p (r.ts - 1)) x

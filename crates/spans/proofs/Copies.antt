@@ -1,6 +1,8 @@
 -- Allowed deeds keep what each read found, and so read as from one copy.
+use Rattle.std.proofs.lemmas.Grind.{common_steps}
+use Rattle.std.proofs.Common.{rules}
 use Rattle.std.proofs.Common.{◌≡◌, ℕ, suc, ◌<◌, ◌≤◌, ◌⊎◌, ◌==◌, Bool, true, false, not, ◌&&◌, ◌||◌, List, [], ◌∷◌, Some, None, refl, sym, ◌∙◌, ap, subst, inl, inr, arith}
-use Rattle.std.specs.Prelude.{is_some, bytes_eq, nat_le, max}
+use Rattle.std.specs.Prelude.{is_some, nat_le, max}
 use Rattle.std.proofs.lemmas.Bool.{and_from, or_left, or_right, eqb-true, lt-ltb, and_parts, both_ways}
 use Rattle.std.proofs.lemmas.Bool.Decides.{nat_tests}
 use Rattle.spans.specs.Effects.{After, Effect, Begins, Reads, Scans, SnapshotScans, Writes, Commits, Aborts, Closes, HardCloses, Protects, Releases, Collects, Opens, Polls, Cancels, SnapshotReads, NoEffect}
@@ -54,98 +56,41 @@ pub record IsKept (p : List Effect) (j : ℕ) (x : List ℕ) (k : ℕ) (v : Afte
 -- a write between a read and its reader is too late
 pub crossed : (p : List Effect) (j : ℕ) (x : List ℕ) (k : ℕ) (v : After) (i : ℕ) → IsRead p j x k v → k < i → i < j → too_late p x i ≡ true
 crossed [] j x k v i r low high = absurd r
-crossed (Reads t y w ∷ p) j x k v i r low high = elim r [
-  | inl now ↦ or_left _ _ (and_from _ _
-      (subst (λ z. bytes_eq z x ≡ true) (sym now.1) (key_itself x))
-      (and_from _ _ (lt-ltb _ i (omega (arith, now.2))) (lt-ltb i t (omega (arith, now.0)))))
-  | inr before ↦ or_right _ _ (crossed p j x k v i before low high)
-]
-crossed (Scans t span rows ∷ p) j x k v i r low high = elim r [
-  | inl now ↦ or_left _ _ (and_from _ _ now.1 (and_from _ _ (lt-ltb _ i (omega (arith, now.2))) (lt-ltb i t (omega (arith, now.0)))))
-  | inr before ↦ or_right _ _ (crossed p j x k v i before low high)
-]
+crossed (Reads t y w ∷ p) j x k v i r low high = grind (arith, common_steps, or_left, and_from, key_itself, lt-ltb, or_right, crossed p j x k v i)
+crossed (Scans t span rows ∷ p) j x k v i r low high = grind (arith, common_steps, crossed p j x k v i)
 crossed (_ ∷ p) j x k v i r low high = crossed p j x k v i r low high
 
 -- what was found in another's version is that of a committed one
 pub found_whole : (p : List Effect) (x : List ℕ) (t k : ℕ) (v : After) → (visible p x t).ts ≡ k → (visible p x t).after ≡ v → k < t → is_blocked p x t ≡ false
     → ((k ≡ 0) × (v ≡ None)) ⊎ ((0 < k) × (is_committed p k ≡ true) × (write_of p k x ≡ Some v))
-found_whole p x t k v at is below free = elim (newest_is (version_of p x) t).has [
-  | inl none ↦ inl (sym at ∙ none.0, sym is ∙ none.1)
-  | inr some ↦ (
-      let wrote : write_of p k x ≡ Some v = (version_wrote p x k v (subst (λ n. version_of p x n ≡ Some v) at (some.1 ∙ ap Some is))).1 in
-      let free' : (not (k == 0) && (not (k == t) && not (is_committed p k))) ≡ false = subst (λ n. (not (n == 0) && (not (n == t) && not (is_committed p n))) ≡ false) at free in
-      let some' : 0 < k = subst (λ n. 0 < n) at some.0 in
-      by_test (is_committed p k)
-      (λ yet. inr (some', yet, wrote))
-      (λ open'. absurd (grind (arith, nat_tests))))
-]
+found_whole p x t k v at is below free = grind (arith, common_steps, newest_is, version_wrote, by_test)
 
 kept_through_write : (p : List Effect) (j : ℕ) (x : List ℕ) (k : ℕ) (v : After) (t : ℕ) (y : List ℕ) (a : After)
     → Allowed p (Writes t y a) → IsRead p j x k v → IsKept p j x k v → IsKept (Writes t y a ∷ p) j x k v
-kept_through_write p j x k v t y a allowed r before = record {
-  gap = λ i low high. by_test ((t == i) && bytes_eq y x)
-      (λ is. absurd (let both = and_parts _ _ is in
-      let late : too_late p y t ≡ true = subst (λ z. too_late p z t ≡ true) (sym (same_key y x both.1))
-      (subst (λ n. too_late p x n ≡ true) (sym (eqb-true t i both.0)) (crossed p j x k v i r low high)) in
-      both_ways _ allowed.1 late))
-      (λ isnt. rw isnt (before.gap i low high));
-  whole = elim before.whole [
-    | inl none ↦ inl none
-    | inr wrote ↦ inr (
-      wrote.0,
-      wrote.1,
-      by_test (t == k)
-          (λ same. absurd (both_ways _ allowed.0.uncommitted (subst (λ n. is_committed p n ≡ true) (sym (eqb-true t k same)) wrote.1)))
-          (λ other. rw other wrote.2),
-    )
-  ];
-}
+kept_through_write p j x k v t y a allowed r before = search (by_test, and_parts, same_key, eqb-true, crossed, both_ways, rules, arith)
 
 kept_now : (p : List Effect) (t : ℕ) (y : List ℕ) (w : After) → is_blocked p y t ≡ false → w ≡ (visible p y t).after → (visible p y t).ts < t → IsKept p t y (visible p y t).ts w
-kept_now p t y w free is below = record {
-  gap = λ i low high. (newest_is (version_of p y) t).gap i low (omega arith);
-  whole = found_whole p y t (visible p y t).ts w refl (sym is) below free;
-}
+kept_now p t y w free is below = grind (arith, common_steps, newest_is, found_whole)
 
 -- what a read found stays so
 pub kept : (p : List Effect) → AllAllowed p → (j : ℕ) (x : List ℕ) (k : ℕ) (v : After) → IsRead p j x k v → k < j → IsKept p j x k v
 kept [] all j x k v r below = absurd r
-kept (Reads t y w ∷ p) all j x k v r below = elim r [
-  | inl now ↦ rw (← now.0, ← now.1, ← now.2, ← now.3) (let h = kept_now p t y w all.0.1 all.0.2 (omega (arith, now.0, now.2)) in record { gap = h.gap; whole = h.whole })
-  | inr before ↦ (let h = kept p all.1 j x k v before below in record { gap = h.gap; whole = h.whole })
-]
+kept (Reads t y w ∷ p) all j x k v r below = grind (arith, common_steps, kept_now, kept p all.1 j x k v)
 kept (Scans t span rows ∷ p) all j x k v r below = elim r [
   | inl now ↦ rw (← now.0, ← now.2, ← now.3) (let h = kept_now p t x (value_among rows x) (all.0.1 x now.1) (among_rows span (λ y. (visible p y t).after) rows all.0.2 x now.1) (omega (arith, now.0, now.2)) in record { gap = h.gap; whole = h.whole })
   | inr before ↦ (let h = kept p all.1 j x k v before below in record { gap = h.gap; whole = h.whole })
 ]
 kept (Writes t y a ∷ p) all j x k v r below = kept_through_write p j x k v t y a all.0 r (kept p all.1 j x k v r below)
-kept (Commits t ∷ p) all j x k v r below =
-    let h = kept p all.1 j x k v r below in record {
-      gap = h.gap;
-      whole = elim h.whole [ inl none ↦ inl none | inr wrote ↦ inr (wrote.0, or_right _ _ wrote.1, wrote.2) ];
-    }
-kept (Aborts t ∷ p) all j x k v r below =
-    let h = kept p all.1 j x k v r below in record {
-      gap = λ i low high. by_test (t == i) (λ same. rw same refl) (λ other. rw other (h.gap i low high));
-      whole = h.whole;
-    }
-kept (HardCloses to n ∷ p) all j x k v r below =
-    let h = kept p all.1 j x k v r below in record {
-      gap = λ i low high. by_test (nat_le i to && (is_some (owner_of p i) && not (is_committed p i))) (λ cut. rw cut refl) (λ other. rw other (h.gap i low high));
-      whole = h.whole;
-    }
-kept (_ ∷ p) all j x k v r below =
-    let h = kept p all.1 j x k v r below in record { gap = h.gap; whole = h.whole }
+kept (Commits t ∷ p) all j x k v r below = grind (arith, common_steps, kept p all.1 j x k v r below)
+kept (Aborts t ∷ p) all j x k v r below = grind (arith, common_steps, kept p all.1 j x k v r below)
+kept (HardCloses to n ∷ p) all j x k v r below = grind (arith, common_steps, kept p all.1 j x k v r below)
+kept (_ ∷ p) all j x k v r below = grind (arith, common_steps, kept p all.1 j x k v r below)
 
 -- none is both committed and aborted
 pub not_both : (p : List Effect) → AllAllowed p → (t : ℕ) → is_committed p t ≡ true → is_aborted p t ≡ false
 not_both [] all t is = cc
-not_both (Commits k ∷ p) all t is = by_test (k == t)
-    (λ same. subst (λ n. is_aborted p n ≡ false) (eqb-true k t same) all.0.unaborted)
-    (λ other. not_both p all.1 t (rw other at is))
-not_both (Aborts k ∷ p) all t is = by_test (k == t)
-    (λ same. absurd (both_ways _ all.0.uncommitted (subst (λ n. is_committed p n ≡ true) (sym (eqb-true k t same)) is)))
-    (λ other. rw other (not_both p all.1 t is))
+not_both (Commits k ∷ p) all t is = grind (arith, common_steps, not_both p all.1 t)
+not_both (Aborts k ∷ p) all t is = grind (arith, common_steps, not_both p all.1 t is)
 not_both (HardCloses to n ∷ p) all t is = rw is (rw (not_both p all.1 t is) (two_and (nat_le t to) (is_some (owner_of p t))))
   where
     two_and : (a b : Bool) → ((a && (b && not true)) || false) ≡ false
@@ -156,29 +101,11 @@ not_both (_ ∷ p) all t is = not_both p all.1 t is
 
 -- a read was given what is now the newest committed version below its reader
 pub reads_from : (p : List Effect) → AllAllowed p → (t : ℕ) (x : List ℕ) (k : ℕ) (v : After) → IsRead p (suc t) x k v → k ≤ t → IsNewest (committed_version_of p x) t k v
-reads_from p all t x k v r below = let h = kept p all (suc t) x k v r (omega arith) in record {
-  at_most = below;
-  gap = λ i low high. by_test (is_committed p i)
-      (λ is. rw is (no_version_wrote p x i (h.gap i low (omega arith)) (not_both p all i is)))
-      (λ isnt. rw isnt refl);
-  has = elim h.whole [
-    | inl none ↦ inl none
-    | inr wrote ↦ inr (wrote.0, rw wrote.1 wrote.2)
-  ];
-}
+reads_from p all t x k v r below = grind (arith, common_steps, kept, by_test, no_version_wrote, not_both)
 
 -- what is kept for a read stands in the map from which its reader began
 pub kept_in_map : (p : List Effect) → AllAllowed p → (t : ℕ) (x : List ℕ) (k : ℕ) (v : After) → k ≤ t → IsKept p (suc t) x k v → map_at p t x ≡ v
-kept_in_map p all t x k v below h = map_at_is p t x ∙ newest_at (committed_version_of p x) t k v (record {
-  at_most = below;
-  gap = λ i low high. by_test (is_committed p i)
-      (λ is. rw is (no_version_wrote p x i (h.gap i low (omega arith)) (not_both p all i is)))
-      (λ isnt. rw isnt refl);
-  has = elim h.whole [
-    | inl none ↦ inl none
-    | inr wrote ↦ inr (wrote.0, rw wrote.1 wrote.2)
-  ];
-})
+kept_in_map p all t x k v below h = map_at_is p t x ∙ newest_at (committed_version_of p x) t k v (grind (arith, common_steps, by_test, no_version_wrote, not_both))
 
 -- a read finds what the map has after the reader's own writes
 pub read_agrees : (p q : List Effect) → AllAllowed p → (t : ℕ) (x : List ℕ) → is_aborted q (suc t) ≡ false → IsRead p (suc t) x (visible q x (suc t)).ts (visible q x (suc t)).after
@@ -186,12 +113,7 @@ pub read_agrees : (p q : List Effect) → AllAllowed p → (t : ℕ) (x : List �
 read_agrees p q all t x live r =
     let m = newest_is (version_of q x) (suc t) in
     by_test ((visible q x (suc t)).ts == suc t)
-    (λ own. elim m.has [
-      | inl none ↦ absurd (let e = eqb-true _ _ own in omega (arith, none.0))
-      | inr some ↦ (
-          let here : version_of q x (suc t) ≡ Some (visible q x (suc t)).after = subst (λ n. version_of q x n ≡ Some (visible q x (suc t)).after) (eqb-true _ _ own) some.1 in
-          sym (after_is q (suc t) (map_at p t) x ∙ ap (λ o. or_else o (map_at p t x)) (version_wrote q x (suc t) _ here).1))
-    ])
+    (λ own. grind (arith, common_steps, eqb-true, after_is, or_else, version_wrote))
     (λ others.
     let below : (visible q x (suc t)).ts < suc t = grind (arith, nat_tests, m.at_most) in
     let none : write_of q (suc t) x ≡ None = no_version_wrote q x (suc t) (m.gap (suc t) below (omega arith)) live in
@@ -202,11 +124,7 @@ read_agrees p q all t x live r =
 pub agrees : (p q : List Effect) → AllAllowed p → AllAllowed q → ((j : ℕ) (x : List ℕ) (k : ℕ) (v : After) → IsRead q j x k v → IsRead p j x k v)
     → (t : ℕ) → ReadsAgree q (suc t) (map_at p t)
 agrees p [] all all' sub t = tt
-agrees p (Reads k y w ∷ q) all all' sub t = (
-  λ e. let open' : Allowed q (Reads (suc t) y w) = subst (λ n. Allowed q (Reads n y w)) e all'.0 in
-      open'.2 ∙ read_agrees p q all t y open'.0.unaborted (sub (suc t) y (visible q y (suc t)).ts (visible q y (suc t)).after (inl (e, refl, ap (λ n. (visible q y n).ts) e, all'.0.2 ∙ ap (λ n. (visible q y n).after) e))),
-  agrees p q all all'.1 (λ j x n v r. sub j x n v (inr r)) t,
-)
+agrees p (Reads k y w ∷ q) all all' sub t = grind (arith, common_steps, read_agrees, agrees p q all all'.1)
 agrees p (Scans k span rows ∷ q) all all' sub t = (
   λ e. let open' : Allowed q (Scans (suc t) span rows) = subst (λ n. Allowed q (Scans n span rows)) e all'.0 in
       rows_like span (λ x. (visible q x (suc t)).after) (serial_run q (suc t) (map_at p t)) rows
@@ -224,10 +142,8 @@ closed_grows p (_) allowed = omega arith
 
 -- what is closed stays
 pub closed_stays : (p : List Effect) (d : Effect) → Allowed p d → (x : List ℕ) (i : ℕ) → i ≤ closed_of p → committed_version_of (d ∷ p) x i ≡ committed_version_of p x i
-closed_stays p (Writes t y a) allowed x i low =
-    let other : (t == i) ≡ false = grind (arith, nat_tests, allowed.0.above) in rw other refl
-closed_stays p (Commits t) allowed x i low =
-    let other : (t == i) ≡ false = grind (arith, nat_tests, allowed.above) in rw other refl
+closed_stays p (Writes t y a) allowed x i low = grind (arith, common_steps)
+closed_stays p (Commits t) allowed x i low = grind (arith, common_steps)
 closed_stays p (_) allowed x i low = refl
 
 -- each snapshot read found what the map has
@@ -245,7 +161,4 @@ snapshots p (d ∷ q) all same = with_deed d (all.0) (snapshots p q all.1 earlie
 
 -- allowed deeds are those of one copy
 pub one_copy : (p : List Effect) → AllAllowed p → IsOneCopy p
-one_copy p all = record {
-  reads = λ t is. agrees p p all all (λ j x k v r. r) t;
-  snapshots = snapshots p p all (λ x t low. refl);
-}
+one_copy p all = grind (arith, common_steps, agrees, snapshots)

@@ -1,5 +1,7 @@
 -- The parts of a span between rising keys.
-use Rattle.std.proofs.Common.{Bool, List, Option, Some, ap, arith, cond, drop, false, get_or, length, refl, subst, suc, sym, true, zero, ℕ, ◌&&◌, ◌<◌, ◌≤◌, ◌||◌, ◌≡◌, ◌++◌, ◌∷◌, ◌∙◌, []}
+use Rattle.std.proofs.lemmas.Grind.{common_steps}
+use Rattle.std.proofs.Common.{rules}
+use Rattle.std.proofs.Common.{Bool, List, Option, Some, ap, arith, cond, drop, false, get_or, length, refl, suc, sym, true, zero, ℕ, ◌&&◌, ◌<◌, ◌≤◌, ◌||◌, ◌≡◌, ◌++◌, ◌∷◌, ◌∙◌, []}
 use Rattle.std.specs.Prelude.{bytes_eq, not}
 use Rattle.std.specs.Ordering.{is_eq, is_lt, ordering_reverse}
 use Rattle.std.specs.declared.cmp.Ordering.{Ordering}
@@ -12,7 +14,7 @@ use Rattle.std.proofs.Math.Bool.{and-false}
 use Rattle.timestamps.specs.Bytes.{key_cmp}
 use Rattle.spans.specs.Keys.{in_span}
 use Rattle.spans.specs.Pieces.{AreApart, NoneOverlap, is_held}
-use Rattle.spans.specs.KeyOrder.{below_high, from_low, key_lt}
+use Rattle.spans.specs.KeyOrder.{below_high, from_low}
 use Rattle.spans.specs.Successors.{successor}
 use Rattle.spans.specs.declared.span.Span.{Span}
 use Rattle.spans.proofs.Keyed.{IsIn, RisingKeys}
@@ -35,9 +37,7 @@ pub all_parts : (done : List Span) (lo first hi hi' : Option (List ℕ)) (ks : L
 all_parts done lo first hi hi' ks i end same so_far = ap (λ h. done ++ span_of lo h ∷ []) same ∙ sym (at_drop_all (λ l. done ++ parts lo hi l) ks i end) ∙ so_far
 
 not_among : (x k : List ℕ) (ks : List (List ℕ)) → key_cmp x k ≡ Less → ((y : List ℕ) → IsIn y ks → key_cmp k y ≡ Less) → has x ks ≡ false
-not_among x k ks less above = by_test (has x ks)
-    (λ is. let more : key_cmp k x ≡ Less = above x ((has_in x ks).1 is) in let back : key_cmp k x ≡ Greater = turned k x Less less in cc)
-    (λ isnt. isnt)
+not_among x k ks less above = grind (arith, common_steps, by_test, has, has_in, turned)
 
 other_key : (x k : List ℕ) (o : Ordering) → key_cmp x k ≡ o → bytes_eq k x ≡ is_eq (ordering_reverse o)
 other_key x k o e = sym (is_eq-slice_cmp k x) ∙ ap is_eq (turned k x o e)
@@ -70,8 +70,7 @@ parts_hold lo hi [] rising x = only (from_low lo x && below_high hi x)
 parts_hold lo hi (k ∷ ks) rising x = by_test (from_low lo k && below_high hi k)
     (λ inside. rw (inside, parts_hold (Some (successor k)) hi ks rising.1 x, above_successor k x, turned k x (key_cmp x k) refl, other_key x k (key_cmp x k) refl)
     (cut x k lo hi ks (key_cmp x k) refl (and_parts _ _ inside).0 (and_parts (from_low lo k) _ inside).1 rising.0))
-    (λ outside. rw (outside, parts_hold lo hi ks rising.1 x) (apart_from_key (from_low lo x && below_high hi x) (bytes_eq k x) (has x ks)
-    (λ same. subst (λ y. (from_low lo y && below_high hi y) ≡ false) (same_key k x same) outside)))
+    (λ outside. search (apart_from_key, has, same_key, parts_hold lo hi ks rising.1 x, rules, arith))
 
 -- at most one more than the keys
 pub parts_few : (lo hi : Option (List ℕ)) (ks : List (List ℕ)) → length (parts lo hi ks) ≤ suc (length ks)
@@ -90,12 +89,6 @@ pub parts_apart : (lo hi : Option (List ℕ)) (ks : List (List ℕ)) → RisingK
 parts_apart lo hi [] rising = λ i j d less low. absurd (omega arith)
 parts_apart lo hi (k ∷ ks) rising = by_test (from_low lo k && below_high hi k)
     (λ inside. rw inside (AllPairs-cons AreApart (span_of lo (Some k)) (parts (Some (successor k)) hi ks)
-    (λ j d low x first. by_test (in_span (get_or (parts (Some (successor k)) hi ks) j d) x)
-    (λ both. let held : is_held (parts (Some (successor k)) hi ks) x ≡ true = held_at (parts (Some (successor k)) hi ks) j d x low both in
-    let above : key_lt k x ≡ true = sym (above_successor k x) ∙ (and_parts _ _ (and_parts _ _ (sym (parts_hold (Some (successor k)) hi ks rising.1 x) ∙ held)).0).0 in
-    let under : key_lt x k ≡ true = (and_parts (from_low lo x) _ first).1 in
-    let e : key_cmp k x ≡ Greater = turned k x Less (less_is (key_cmp x k) under) in
-    let f : key_cmp k x ≡ Less = less_is (key_cmp k x) above in cc)
-    (λ one. one))
+    (λ j d low x first. grind (arith, common_steps, by_test, held_at, above_successor, and_parts, parts_hold, turned, less_is))
     (parts_apart (Some (successor k)) hi ks rising.1)))
     (λ outside. rw outside (parts_apart lo hi ks rising.1))

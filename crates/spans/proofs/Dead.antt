@@ -1,7 +1,8 @@
 -- What is dead, and that no read misses it: from the horizon on, what is left has the values of all.
+use Rattle.std.proofs.lemmas.Grind.{common_steps}
 use Rattle.std.proofs.Common.{◌≡◌, ℕ, ◌<◌, ◌≤◌, ◌⊎◌, ◌==◌, Bool, true, false, cond, List, Option, Some, None, refl, sym, ◌∙◌, subst, inl, inr, arith}
 use Rattle.std.specs.Prelude.{nat_lt, is_none}
-use Rattle.std.proofs.lemmas.Bool.{and_from, and_parts, or_cases, or_right, eqb-true, leb-true, le-leb, ltb-true, lt-ltb}
+use Rattle.std.proofs.lemmas.Bool.{and_from, or_right, eqb-true, le-leb, ltb-true, lt-ltb}
 use Rattle.std.proofs.lemmas.Bool.Decides.{nat_tests}
 use Rattle.spans.specs.Effects.{After, Effect}
 use Rattle.spans.specs.Transactions.{is_committed}
@@ -27,12 +28,7 @@ pub record IsDropped (p : List Effect) (x : List ℕ) (i : ℕ) : Type 0 where
 
 -- a dead version was dropped, and why
 pub dead_is : (p : List Effect) (x : List ℕ) (i : ℕ) → is_dead p (version_name x i) ≡ true → IsDropped p x i
-dead_is p x i is =
-    let a = and_parts _ _ is in let b = and_parts _ _ a.1 in record {
-      committed = a.0;
-      low = leb-true _ _ b.0;
-      why = elim (or_cases _ _ b.1) [ inl d ↦ inl d | inr s ↦ inr (ltb-true _ _ s) ];
-    }
+dead_is p x i is = grind (arith, common_steps)
 
 -- a committed version that is older than another one at or below the horizon is dead
 pub older_dead : (p : List Effect) (x : List ℕ) (i : ℕ) → is_committed p i ≡ true → i ≤ horizon_of p → i < (newest (committed_version_of p x) (horizon_of p)).ts → is_dead p (version_name x i) ≡ true

@@ -1,4 +1,5 @@
 -- The horizon is at or below the floor of each live feed.
+use Rattle.std.proofs.lemmas.Grind.{common_steps}
 use Rattle.std.proofs.Common.{Bool, List, not, inr, refl, None, Option, arith, subst, suc, false, ap, true, zero, Some, inl, sym, take, map, ◌≡◌, ◌<◌, ◌≤◌, ◌==◌, ◌-◌, ◌∷◌, ◌++◌, ◌∙◌, ◌⊎◌, append_assoc, ℕ, []}
 use Rattle.std.proofs.lemmas.Bool.{eqb-true, ltb-true}
 use Rattle.std.proofs.lemmas.Bool.Decides.{nat_tests}
@@ -94,12 +95,7 @@ floor_append n (messages.Resolved t ∷ ms) ns = floor_append t ms ns
 -- a feed stays listed where another goes
 live_kept : (g f c : ℕ) (ws : List LiveFeed) → (g == f) ≡ false → Has (live_feed f c) ws → Has (live_feed f c) (filter (λ n. not (n.number == g)) ws)
 live_kept g f c [] other i = absurd i
-live_kept g f c (w ∷ ws) other i = elim i [
-  | inl here ↦ (let e : (w.number == g) ≡ false = (let at : w.number ≡ f = ap (λ (n : LiveFeed). n.number) here in grind (arith, nat_tests)) in rw e (inl here))
-  | inr there ↦ by_test (w.number == g)
-      (λ is. rw is (live_kept g f c ws other there))
-      (λ isnt. rw isnt (inr (live_kept g f c ws other there)))
-]
+live_kept g f c (w ∷ ws) other i = grind (arith, common_steps, live_kept g f c ws other)
 
 -- a feed that lives is listed
 pub is_live : (p : List Effect) (f : ℕ) (feed : Feed) → feed_of p f ≡ Some feed → is_cancelled p f ≡ false → Has (live_feed f feed.cursor) (live_feeds p)
@@ -177,10 +173,7 @@ live_is (Opens g seat kind span cursor ∷ p) all f c i = by_test (g == f)
       | inl here ↦ (record { seat = seat; kind = kind; span = span; cursor = cursor }, rw same refl, uncancelled p all.1 f above, ap (λ (n : LiveFeed). n.cursor) here)
       | inr there ↦ absurd (let was = live_is p all.1 f c there in let no : None ≡ Some was.0 = sym (unopened p all.1 f above).0 ∙ was.1 in cc)
     ])
-    (λ other. elim i [
-      | inl here ↦ absurd (let e : g ≡ f = ap (λ (n : LiveFeed). n.number) here in grind (arith, nat_tests))
-      | inr there ↦ (let was = live_is p all.1 f c there in (was.0, rw other was.1, was.2, was.3))
-    ])
+    (λ other. grind (arith, common_steps, live_is p all.1 f c))
 live_is (Cancels g ∷ p) all f c i =
     let k = still g (live_feeds p) i in
     let was = live_is p all.1 f c k.0 in (was.0, was.1, rw (k.1) was.2, was.3)

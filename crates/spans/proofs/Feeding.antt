@@ -1,18 +1,18 @@
 -- Each feed tells its list.
+use Rattle.std.proofs.lemmas.Grind.{common_steps}
 use Rattle.std.proofs.Common.{◌≡◌, ℕ, zero, suc, ◌+◌, ◌-◌, ◌<◌, ◌≤◌, ◌==◌, Bool, true, false, not, cond, List, [], ◌∷◌, ◌++◌, map, length, take, drop, Some, None, refl, sym, ◌∙◌, ap, subst, arith, append_assoc, Option}
-use Rattle.std.specs.Prelude.{max, filter, is_some}
+use Rattle.std.specs.Prelude.{max, filter}
 use Rattle.std.proofs.lemmas.List.{append-nil}
 use Rattle.std.proofs.lemmas.List.Elements.{filter_map-append}
 use Rattle.std.proofs.Math.Seq.{drop-append_seam}
-use Rattle.std.proofs.lemmas.Bool.{eqb-true, eq-eqb, ltb-true, leb-true, and_parts, false_from_ne_true}
-use Rattle.std.proofs.lemmas.Bool.Decides.{nat_tests}
+use Rattle.std.proofs.lemmas.Bool.{eqb-true, eq-eqb}
 use Rattle.timestamps.specs.declared.row.Row.{Row}
 use Rattle.spans.specs.declared.calls.messages.Message.{Message}
 use Rattle.spans.specs.declared.calls.messages.Message.TheVariants as messages
 use Rattle.spans.specs.declared.kind.Kind.{Kind}
 use Rattle.spans.specs.Effects.{Effect, Opens, Polls, Cancels}
 use Rattle.spans.specs.Transactions.{closed_of}
-use Rattle.spans.specs.Feeds.{Feed, feed_of, feeds_opened, is_cancelled, told_to, row_in, rows_in, last_resolved, list_of, start_of, resolved_of, asked_gap, is_due, due_message, untold_rows, next_messages}
+use Rattle.spans.specs.Feeds.{Feed, feed_of, feeds_opened, is_cancelled, told_to, rows_in, last_resolved, list_of, start_of, resolved_of, is_due, due_message, untold_rows, next_messages}
 use Rattle.spans.specs.FeedRight.{DividesList, ResolvedApart, least_gap, ReachesClosed, IsSilentAfterCancel, LeavesNothingDue, RowsAreAbove, RowsFollowResolved, FeedIsRight}
 use Rattle.spans.specs.Collection.{VersionName}
 use Rattle.spans.specs.Consumer.{name_of}
@@ -37,8 +37,7 @@ below_grows n m low (messages.Resolved t ∷ ms) b = (omega arith, below_grows n
 pub divides_stay : (p : List Effect) (d : Effect) → Allowed p d → (feed : Feed) → IsSettled p feed → (before : List Row) (ms : List Message) → AllBelow (closed_of p) ms → DividesList p feed before ms → DividesList (d ∷ p) feed before ms
 divides_stay p d allowed feed settled before [] low h = tt
 divides_stay p d allowed feed settled before (messages.Row r ∷ ms) low h = divides_stay p d allowed feed settled (before ++ r ∷ []) ms low h
-divides_stay p d allowed feed settled before (messages.Resolved t ∷ ms) low h =
-    (h.0 ∙ sym (list_stays p d allowed feed settled t low.0), divides_stay p d allowed feed settled before ms low.1 h.1)
+divides_stay p d allowed feed settled before (messages.Resolved t ∷ ms) low h = grind (arith, common_steps, list_stays, divides_stay p d allowed feed settled before ms low.1 h.1)
 
 -- joined messages
 pub divides_join : (p : List Effect) (feed : Feed) (before : List Row) (ms ns : List Message) → DividesList p feed before ms → DividesList p feed (before ++ rows_in ms) ns → DividesList p feed before (ms ++ ns)
@@ -93,13 +92,7 @@ next_of p feed n true above (suc m) before [] is = last m
     last zero = record { rest = ([], refl); divides = (here, tt); apart = (above refl, tt); below = (omega arith, tt) }
     last (suc m) = record { rest = ([], refl); divides = (here, tt); apart = (above refl, tt); below = (omega arith, tt) }
 next_of p feed n false above (suc m) before [] is = record { rest = ([], refl); divides = tt; apart = tt; below = tt }
-next_of p feed n b above (suc m) before (r ∷ rs) is =
-    let more = next_of p feed n b above m (before ++ r ∷ []) rs (append_assoc before (r ∷ []) rs ∙ is) in record {
-      rest = (more.rest.0, ap (λ l. r ∷ l) more.rest.1);
-      divides = more.divides;
-      apart = more.apart;
-      below = more.below;
-    }
+next_of p feed n b above (suc m) before (r ∷ rs) is = grind (arith, common_steps, next_of p feed n b above m (before ++ r ∷ []) rs)
 
 -- what is kept of a feed
 pub record IsFeeding (p : List Effect) (f : ℕ) (feed : Feed) : Type 0 where
@@ -128,22 +121,7 @@ feeding_stays p d allowed f feed same h =
 -- the feed tells its next messages
 pub feeding_tells : (p : List Effect) (f m : ℕ) (ms : List Message) (feed : Feed) → Allowed p (Polls f m ms) → (h : IsFeeding p f feed)
     → IsNext p feed (resolved_of p f feed) (rows_in (told_to p f)) h.begins.0 ms → IsFeeding (Polls f m ms ∷ p) f feed
-feeding_tells p f m ms feed allowed h new =
-    let now : told_to (Polls f m ms ∷ p) f ≡ told_to p f ++ ms = rw (eq-eqb f f refl) refl in
-    let below : AllBelow (closed_of p) (told_to p f ++ ms) = below_join (closed_of p) (told_to p f) ms h.below new.below in
-    let divides : DividesList p feed [] (told_to p f ++ ms) = divides_join p feed [] (told_to p f) ms h.divides new.divides in record {
-      begins = (
-        new.rest.0,
-        list_stays p (Polls f m ms) allowed feed h.settled (closed_of p) (omega arith) ∙ h.begins.1 ∙ ap (λ l. rows_in (told_to p f) ++ l) new.rest.1
-            ∙ sym (append_assoc (rows_in (told_to p f)) (rows_in ms) new.rest.0)
-            ∙ ap (λ l. l ++ new.rest.0) (sym (filter_map-append row_in (told_to p f) ms))
-            ∙ ap (λ l. rows_in l ++ new.rest.0) (sym now),
-      );
-      divides = rw now (divides_stay p (Polls f m ms) allowed feed h.settled [] (told_to p f ++ ms) below divides);
-      apart = rw now (apart_join (least_gap feed.kind) (start_of feed) (told_to p f) ms h.apart new.apart);
-      below = rw now below;
-      settled = h.settled;
-    }
+feeding_tells p f m ms feed allowed h new = grind (arith, common_steps, eq-eqb, below_join, divides_join, list_stays, filter_map-append, divides_stay, apart_join)
 
 -- the rows that were not told are those after the told ones
 pub untold_is : (p : List Effect) (f : ℕ) (feed : Feed) (rest : List Row) → list_of p feed (closed_of p) ≡ rows_in (told_to p f) ++ rest → untold_rows p f feed ≡ rest
@@ -153,17 +131,10 @@ untold_is p f feed rest is =
 
 -- a resolved message that is due is the gap above what was resolved last
 pub due_apart : (kind : Kind) (n c : ℕ) → is_due kind n c ≡ true → n + least_gap kind ≤ c
-due_apart kind n c is =
-    let above : n < c = ltb-true n c (and_parts _ _ is).0 in
-    let far : asked_gap kind.gap ≤ c - n = leb-true (asked_gap kind.gap) (c - n) (and_parts _ _ is).1 in
-    omega arith
+due_apart kind n c is = grind (arith, common_steps)
 
 pub due_above : (kind : Kind) (n c : ℕ) → is_due kind n c ≡ true → n < c
 due_above kind n c is = let far : n + least_gap kind ≤ c = due_apart kind n c is in let some : 1 ≤ least_gap kind = some_gap kind in omega arith
-
--- and where it isn't due, closed is nearer than the gap
-not_due_near : (kind : Kind) (n c : ℕ) → is_due kind n c ≡ false → c < n + least_gap kind
-not_due_near kind n c isnt = grind (arith, nat_tests, isnt)
 
 -- what is told is what comes next
 pub told_next : (p : List Effect) (f m : ℕ) (feed : Feed) → (h : IsFeeding p f feed) → IsNext p feed (resolved_of p f feed) (rows_in (told_to p f)) h.begins.0 (next_messages p f feed m)
@@ -175,22 +146,15 @@ told_next p f m feed h =
 -- a feed that wasn't opened has told nothing
 pub unopened : (p : List Effect) → AllAllowed p → (f : ℕ) → feeds_opened p < f → (feed_of p f ≡ None) × (told_to p f ≡ [])
 unopened [] all f above = (refl, refl)
-unopened (Opens g seat kind span cursor ∷ p) all f above =
-    let before = unopened p all.1 f (omega arith) in
-    let other : (g == f) ≡ false = grind (arith, nat_tests, all.0.0) in (rw other before.0, before.1)
-unopened (Polls g max ms ∷ p) all f above =
-    let before = unopened p all.1 f above in by_test (g == f)
-    (λ same. absurd (let e : feed_of p g ≡ None = subst (λ n. feed_of p n ≡ None) (sym (eqb-true g f same)) before.0 in let both : None ≡ Some all.0.0 = sym e ∙ all.0.1 in cc))
-    (λ other. (before.0, rw other before.1))
+unopened (Opens g seat kind span cursor ∷ p) all f above = grind (arith, common_steps, unopened p all.1 f)
+unopened (Polls g max ms ∷ p) all f above = grind (arith, common_steps, unopened p all.1 f above)
 unopened (_ ∷ p) all f above = unopened p all.1 f above
 
 -- a feed that wasn't opened wasn't cancelled
 pub uncancelled : (p : List Effect) → AllAllowed p → (f : ℕ) → feeds_opened p < f → is_cancelled p f ≡ false
 uncancelled [] all f above = refl
 uncancelled (Opens g seat kind span cursor ∷ p) all f above = uncancelled p all.1 f (omega arith)
-uncancelled (Cancels g ∷ p) all f above = by_test (g == f)
-    (λ same. absurd (let none : feed_of p g ≡ None = subst (λ n. feed_of p n ≡ None) (sym (eqb-true g f same)) (unopened p all.1 f above).0 in let no : false ≡ true = ap is_some (sym none) ∙ all.0 in cc))
-    (λ other. rw other (uncancelled p all.1 f above))
+uncancelled (Cancels g ∷ p) all f above = grind (arith, common_steps, by_test, eqb-true, unopened, uncancelled p all.1 f above)
 uncancelled (_ ∷ p) all f above = uncancelled p all.1 f above
 
 pub feeding : (p : List Effect) → AllAllowed p → (f : ℕ) (feed : Feed) → feed_of p f ≡ Some feed → IsFeeding p f feed
@@ -249,9 +213,7 @@ rows_whole (r ∷ rs) b n = ap (λ l. r ∷ l) (rows_whole rs b n)
 
 -- nothing is due once the resolved message that was due is told
 due_told : (kind : Kind) (n k : ℕ) → is_due kind (last_resolved n (due_if (is_due kind n k) k)) k ≡ false
-due_told kind n k = by_test (is_due kind n k)
-    (λ is. rw is (false_from_ne_true _ (λ still. let above : max n k < k = due_above kind (max n k) k still in absurd (omega arith))))
-    (λ isnt. rw isnt isnt)
+due_told kind n k = grind (arith, common_steps)
 
 pub exhausted : (p : List Effect) (f m : ℕ) (feed : Feed) → Allowed p (Polls f m (next_messages p f feed m)) → IsFeeding p f feed → length (next_messages p f feed m) < m
     → (untold_rows (Polls f m (next_messages p f feed m) ∷ p) f feed ≡ []) × (due_message (Polls f m (next_messages p f feed m) ∷ p) f feed ≡ [])
@@ -260,8 +222,7 @@ exhausted p f m feed allowed h short =
     let all : next_messages p f feed m ≡ map messages.Row h.begins.0 ++ due_message p f feed = whole_take m (map messages.Row (untold_rows p f feed) ++ due_message p f feed) short ∙ ap (λ l. map messages.Row l ++ due_message p f feed) left in
     let now : told_to (Polls f m (next_messages p f feed m) ∷ p) f ≡ told_to p f ++ (map messages.Row h.begins.0 ++ due_message p f feed) = rw (eq-eqb f f refl) (ap (λ l. told_to p f ++ l) all) in
     let rows : rows_in (told_to (Polls f m (next_messages p f feed m) ∷ p) f) ≡ list_of p feed (closed_of p) =
-    ap rows_in now ∙ filter_map-append row_in (told_to p f) (map messages.Row h.begins.0 ++ due_message p f feed)
-    ∙ ap (λ l. rows_in (told_to p f) ++ l) (rows_whole h.begins.0 (is_due feed.kind (resolved_of p f feed) (closed_of p)) (closed_of p)) ∙ sym h.begins.1 in
+    grind (arith, common_steps, filter_map-append, rows_whole) in
     let last : resolved_of (Polls f m (next_messages p f feed m) ∷ p) f feed ≡ last_resolved (resolved_of p f feed) (due_message p f feed) =
     ap (last_resolved (start_of feed)) now ∙ resolved_join (start_of feed) (told_to p f) (map messages.Row h.begins.0 ++ due_message p f feed) ∙ resolved_rows (resolved_of p f feed) h.begins.0 (due_message p f feed) in (
       untold_is (Polls f m (next_messages p f feed m) ∷ p) f feed [] (
@@ -271,13 +232,8 @@ exhausted p f m feed allowed h short =
 
 pub unknown_exhausts : (p : List Effect) → AllAllowed p → (f : ℕ) (feed : Feed) → feed_of p f ≡ None → LeavesNothingDue p f feed
 unknown_exhausts [] all f feed none = tt
-unknown_exhausts (Opens g seat kind span cursor ∷ p) all f feed none = by_test (g == f)
-    (λ same. absurd (let no : Some (record { seat = seat; kind = kind; span = span; cursor = cursor }) ≡ None = rw same at none in cc))
-    (λ other. unknown_exhausts p all.1 f feed (rw other at none))
-unknown_exhausts (Polls g m ms ∷ p) all f feed none = (
-  λ e short. absurd (let no : None ≡ Some all.0.0 = sym none ∙ ap (feed_of p) (sym e) ∙ all.0.1 in cc),
-  unknown_exhausts p all.1 f feed none,
-)
+unknown_exhausts (Opens g seat kind span cursor ∷ p) all f feed none = grind (arith, common_steps, unknown_exhausts p all.1 f feed)
+unknown_exhausts (Polls g m ms ∷ p) all f feed none = grind (arith, common_steps, unknown_exhausts p all.1 f feed none)
 unknown_exhausts (_ ∷ p) all f feed none = unknown_exhausts p all.1 f feed none
 
 pub exhausts : (p : List Effect) → AllAllowed p → (f : ℕ) (feed : Feed) → feed_of p f ≡ Some feed → LeavesNothingDue p f feed
@@ -298,16 +254,11 @@ exhausts (_ ∷ p) all f feed is = exhausts p all.1 f feed is
 
 -- where no resolved message is due any more, closed is nearer than the gap
 due_none : (kind : Kind) (n c : ℕ) → due_if (is_due kind n c) c ≡ [] → is_due kind n c ≡ false
-due_none kind n c none = by_test (is_due kind n c)
-    (λ is. absurd (let e : messages.Resolved c ∷ [] ≡ [] = rw is at none in cc))
-    (λ isnt. isnt)
+due_none kind n c none = grind (arith, common_steps)
 
 pub reaches : (p : List Effect) (f : ℕ) (feed : Feed) → LeavesNothingDue p f feed → ReachesClosed p f feed
 reaches [] f feed h = tt
-reaches (Polls g m ms ∷ p) f feed h = (
-  λ e short. not_due_near feed.kind (resolved_of (Polls g m ms ∷ p) f feed) (closed_of p) (due_none feed.kind (resolved_of (Polls g m ms ∷ p) f feed) (closed_of p) (h.0 e short).1),
-  reaches p f feed h.1,
-)
+reaches (Polls g m ms ∷ p) f feed h = grind (arith, common_steps, reaches p f feed h.1)
 reaches (_ ∷ p) f feed h = reaches p f feed h
 
 -- each feed's resolved timestamps rise
@@ -328,8 +279,7 @@ parts_of p feed before [] rest is h below = tt
 parts_of p feed before (messages.Row r ∷ ms) rest is h below = parts_of p feed (before ++ r ∷ []) ms rest (append_assoc before (r ∷ []) (rows_in ms ++ rest) ∙ is) h below
 parts_of p feed before (messages.Resolved t ∷ ms) rest is h below =
     let more = list_above p feed t (closed_of p) below.0 in
-    let e : rows_in ms ++ rest ≡ more.0 = cancel_front (list_of p feed t) (rows_in ms ++ rest) more.0 (ap (λ l. l ++ (rows_in ms ++ rest)) (sym h.0) ∙ is ∙ more.1) in
-    (all_above t ms rest (subst (RowsAbove t) (sym e) more.2), parts_of p feed before ms rest is h.1 below.1)
+    grind (arith, common_steps, cancel_front, all_above, parts_of p feed before ms rest is h.1 below.1)
 
 -- each feed is right
 pub fed : (p : List Effect) → AllAllowed p → (f : ℕ) (feed : Feed) → feed_of p f ≡ Some feed → FeedIsRight p f feed

@@ -1,5 +1,6 @@
 -- Messages that are taken are above the floor of those before them.
-use Rattle.std.proofs.Common.{◌≡◌, ℕ, suc, ◌-◌, ◌<◌, ◌≤◌, Bool, true, false, cond, not, List, [], ◌∷◌, ◌++◌, Option, Some, None, refl, sym, ap, subst, inl, inr, arith, append_assoc}
+use Rattle.std.proofs.lemmas.Grind.{common_steps}
+use Rattle.std.proofs.Common.{◌≡◌, ℕ, suc, ◌-◌, ◌<◌, ◌≤◌, Bool, true, false, cond, not, List, [], ◌∷◌, ◌++◌, Option, Some, None, refl, sym, subst, inl, inr, arith, append_assoc}
 use Rattle.std.specs.Prelude.{max}
 use Rattle.std.proofs.lemmas.List.{append-nil}
 use Rattle.std.proofs.lemmas.Bool.{and_parts, ltb-true, leb-true, le-leb}
@@ -55,12 +56,8 @@ passes false f o none = cc
 
 -- a message that is taken is above the floor
 pub above_floor : (span : Span) (start : ℕ) (taken : List Message) (m : Message) → apply_fault span start taken m ≡ None → floor_after start taken < time_of m
-above_floor span start taken (messages.Row r) none =
-    let both = and_parts _ _ (passes _ _ _ none) in
-    floor_below start taken r.ts (ltb-true _ _ both.0) (after_reaches (last_row None taken) r both.1)
-above_floor span start taken (messages.Resolved t) none =
-    let both = and_parts _ _ (passes _ _ _ none) in
-    floor_below start taken t (ltb-true _ _ both.0) both.1
+above_floor span start taken (messages.Row r) none = grind (arith, common_steps, and_parts, passes, floor_below, ltb-true, after_reaches)
+above_floor span start taken (messages.Resolved t) none = grind (arith, common_steps, and_parts, passes, floor_below, ltb-true)
 
 -- so the floor doesn't fall
 floor_rises : (span : Span) (start : ℕ) (taken : List Message) (m : Message) → apply_fault span start taken m ≡ None → floor_after start taken ≤ floor_after start (taken ++ m ∷ [])
@@ -72,11 +69,7 @@ floor_rises span start taken m none = rw (floor_join start taken m) (by_message 
 
 pub floor_grows : (span : Span) (start : ℕ) (taken ms : List Message) → AllTaken span start taken ms → floor_after start taken ≤ floor_after start (taken ++ ms)
 floor_grows span start taken [] h = rw (append-nil taken) (omega arith)
-floor_grows span start taken (m ∷ ms) h =
-    let now : floor_after start taken ≤ floor_after start (taken ++ m ∷ []) = floor_rises span start taken m h.0 in
-    let more : floor_after start (taken ++ m ∷ []) ≤ floor_after start ((taken ++ m ∷ []) ++ ms) = floor_grows span start (taken ++ m ∷ []) ms h.1 in
-    let same : (taken ++ m ∷ []) ++ ms ≡ taken ++ (m ∷ ms) = append_assoc taken (m ∷ []) ms in
-    subst (λ l. floor_after start taken ≤ floor_after start l) same (omega arith)
+floor_grows span start taken (m ∷ ms) h = grind (arith, common_steps, floor_rises, floor_grows span start (taken ++ m ∷ []) ms h.1)
 
 all_higher : (n k : ℕ) (ms : List Message) → n ≤ k → AllAbove k ms → AllAbove n ms
 all_higher n k [] low h = tt
@@ -85,20 +78,14 @@ all_higher n k (m ∷ ms) low h = (omega (arith, h.0), all_higher n k ms low h.1
 -- all that is taken later is above the floor
 pub all_above_floor : (span : Span) (start : ℕ) (taken ms : List Message) → AllTaken span start taken ms → AllAbove (floor_after start taken) ms
 all_above_floor span start taken [] h = tt
-all_above_floor span start taken (m ∷ ms) h = (
-  above_floor span start taken m h.0,
-  all_higher (floor_after start taken) (floor_after start (taken ++ m ∷ [])) ms (floor_rises span start taken m h.0) (all_above_floor span start (taken ++ m ∷ []) ms h.1),
-)
+all_above_floor span start taken (m ∷ ms) h = grind (arith, common_steps, above_floor, all_higher, floor_rises, all_above_floor span start (taken ++ m ∷ []) ms h.1)
 
 -- a row that was taken is at most one above the floor
 pub row_near_floor : (span : Span) (start : ℕ) (taken ms : List Message) (s : Row) → AllTaken span start taken ms → IsRowIn s (rows_in ms) → s.ts ≤ suc (floor_after start (taken ++ ms))
 row_near_floor span start taken [] s h i = absurd i
 row_near_floor span start taken (messages.Row r ∷ ms) s h i = subst (λ l. s.ts ≤ suc (floor_after start l)) (append_assoc taken (messages.Row r ∷ []) ms) (elim i [
   | inl here ↦
-      (let same : s.ts ≡ r.ts = ap (λ (q : Row). q.ts) (sym here) in
-      let now : floor_after start (taken ++ messages.Row r ∷ []) ≡ r.ts - 1 = floor_join start taken (messages.Row r) in
-      let grows = floor_grows span start (taken ++ messages.Row r ∷ []) ms h.1 in
-      omega arith)
+      grind (arith, common_steps, floor_join, floor_grows)
   | inr there ↦ row_near_floor span start (taken ++ messages.Row r ∷ []) ms s h.1 there
 ])
 row_near_floor span start taken (messages.Resolved t ∷ ms) s h i = subst (λ l. s.ts ≤ suc (floor_after start l)) (append_assoc taken (messages.Resolved t ∷ []) ms) (row_near_floor span start (taken ++ messages.Resolved t ∷ []) ms s h.1 i)

@@ -1,4 +1,5 @@
 -- A feed that goes on from another's complete timestamp: what it tells, and what it repeats.
+use Rattle.std.proofs.lemmas.Grind.{common_steps}
 use Rattle.std.proofs.Common.{◌≡◌, ℕ, zero, suc, ◌<◌, ◌≤◌, Bool, true, false, cond, ◌&&◌, ◌||◌, List, [], ◌∷◌, ◌++◌, Some, refl, sym, ◌∙◌, ap, subst, inl, inr, arith}
 use Rattle.std.specs.Prelude.{nat_lt, bytes_eq, max}
 use Rattle.std.proofs.lemmas.Bool.{or_parts}
@@ -27,14 +28,10 @@ use Rattle.spans.proofs.Complete.{low_rows, high_rows, all_high, none_high, low_
 
 -- a feed that starts at its cursor tells nothing first
 none_first : (p : List Effect) (feed next : Feed) (n : ℕ) → GoesOn feed next n → first_rows next.kind p next.span next.cursor ≡ []
-none_first p feed next n goes = first_none next.kind p next.span next.cursor (λ is. by_test (nat_lt 0 next.cursor)
-    (λ some. let above : 0 < next.cursor = grind (arith, nat_tests) in let low : start_of next < next.cursor = start_first next.kind next.cursor is above in absurd (omega (arith, goes.cursor, goes.start)))
-    (λ none. grind (arith, nat_tests)))
+none_first p feed next n goes = grind (arith, common_steps, first_none, by_test, start_first)
 
 next_list : (p : List Effect) (feed next : Feed) (n m : ℕ) → GoesOn feed next n → list_of p next m ≡ stream_of p feed.span n m
-next_list p feed next n m goes =
-    ap (λ l. l ++ stream_of p next.span next.cursor m) (none_first p feed next n goes)
-    ∙ ap (λ s. stream_of p s next.cursor m) goes.span ∙ ap (λ c. stream_of p feed.span c m) goes.cursor
+next_list p feed next n m goes = grind (arith, common_steps, none_first)
 
 -- a stream from a later cursor on is what is high of the longer one
 stream_high : (p : List Effect) (span : Span) (c n m : ℕ) → c ≤ n → high_rows n (stream_of p span c m) ≡ stream_of p span n m
@@ -76,17 +73,11 @@ row_decides m n [] x some = cc
 row_decides m n (r ∷ rows) x some = by_test (has_row x rows)
     (λ later. row_decides (put m r.key r.after) (put n r.key r.after) rows x later)
     (λ last.
-    let here : bytes_eq r.key x ≡ true = grind (arith, nat_tests) in
-    let first : put m r.key r.after x ≡ r.after = rw here refl in
-    let second : put n r.key r.after x ≡ r.after = rw here refl in
-    others_leave (put m r.key r.after) rows x last ∙ first ∙ sym second ∙ sym (others_leave (put n r.key r.after) rows x last))
+    grind (arith, common_steps, others_leave))
 
 has_row_in : (x : List ℕ) (r : Row) (rows : List Row) → IsRowIn r rows → has_row x rows ≡ false → bytes_eq r.key x ≡ false
 has_row_in x r [] i none = absurd i
-has_row_in x r (s ∷ rows) i none = let both = or_parts (bytes_eq s.key x) (has_row x rows) none in elim i [
-  | inl here ↦ subst (λ (q : Row). bytes_eq q.key x ≡ false) here both.0
-  | inr there ↦ has_row_in x r rows there both.1
-]
+has_row_in x r (s ∷ rows) i none = grind (arith, common_steps, has_row_in x r rows)
 
 fewer_rows : (x : List ℕ) (few rows : List Row) → ((r : Row) → IsRowIn r few → IsRowIn r rows) → has_row x rows ≡ false → has_row x few ≡ false
 fewer_rows x [] rows among none = refl
@@ -94,18 +85,11 @@ fewer_rows x (r ∷ few) rows among none = rw (has_row_in x r rows (among r (inl
 
 -- rows that come again do no harm
 repeated : (m : Map) (few rows : List Row) (x : List ℕ) → ((r : Row) → IsRowIn r few → IsRowIn r rows) → by_rows (by_rows m few) rows x ≡ by_rows m rows x
-repeated m few rows x among = by_test (has_row x rows)
-    (λ some. row_decides (by_rows m few) m rows x some)
-    (λ none. others_leave (by_rows m few) rows x none ∙ others_leave m few x (fewer_rows x few rows among none) ∙ sym (others_leave m rows x none))
+repeated m few rows x among = grind (arith, common_steps, by_test, row_decides, by_rows, others_leave, fewer_rows)
 
 in_high : (n : ℕ) (rows : List Row) (r : Row) → IsRowIn r (high_rows n rows) → IsRowIn r rows × (n < r.ts)
 in_high n [] r i = absurd i
-in_high n (s ∷ rows) r i = by_test (nat_lt n s.ts)
-    (λ above. let j : IsRowIn r (s ∷ high_rows n rows) = rw above at i in elim j [
-      | inl here ↦ (inl here, subst (λ (q : Row). n < q.ts) here (grind (arith, nat_tests)))
-      | inr there ↦ (let more = in_high n rows r there in (inr more.0, more.1))
-    ])
-    (λ below. let j : IsRowIn r (high_rows n rows) = rw below at i in let more = in_high n rows r j in (inr more.0, more.1))
+in_high n (s ∷ rows) r i = grind (arith, common_steps, in_high n rows r)
 
 pub repeats : (p : List Effect) (f : ℕ) (feed : Feed) (before rest : List Message) (n : ℕ) → FeedIsRight p f feed → AllTaken feed.span (start_of feed) [] (told_to p f)
     → told_to p f ≡ before ++ rest → floor_after (start_of feed) before ≡ n → feed.cursor ≤ n
@@ -126,10 +110,7 @@ repeats p f feed before rest n right takes told floor from g next goes_right goe
     let h = in_high n (rows_in before) r i in
     let near : r.ts ≤ suc (floor_after (start_of feed) before) = row_near_floor feed.span (start_of feed) [] before r (taken_before feed.span (start_of feed) [] before rest (subst (AllTaken feed.span (start_of feed) []) told takes)) h.0 in
     let listed = (in_list p feed far r).0 (subst (IsRowIn r) (sym split.1) ((in_append r (rows_in before) (rows_in rest ++ split.0)).1 (inl h.0))) in
-    elim listed [
-      | inl first ↦ absurd (omega (arith, first.1.at, h.1))
-      | inr s ↦ (in_stream p feed.span n t r).1 (record { above = h.1; low = omega (arith, near); done = s.done; inside = s.inside; wrote = s.wrote })
-    ] in
+    grind (arith, common_steps, in_stream) in
     let seen : (y : List ℕ) → seen_after p feed before y ≡ by_rows (by_rows seed (list_of p feed n)) high y = λ y.
     ap (λ m. m y) (view_rows seed before ∙ ap (by_rows seed) (low_then_high n (rows_in before) rises ∙ ap (λ l. l ++ high) (sym low)) ∙ by_rows_join seed (list_of p feed n) high) in
     ap (λ m. m x) (view_rows (seen_after p feed before) again)

@@ -1,5 +1,6 @@
 -- The horizon never falls, and stays at or below closed and each protection that stands.
-use Rattle.std.proofs.Common.{◌≡◌, ℕ, ◌≤◌, ◌==◌, not, List, [], ◌∷◌, ◌++◌, map, ap, inl, inr, arith, refl}
+use Rattle.std.proofs.lemmas.Grind.{common_steps}
+use Rattle.std.proofs.Common.{◌≡◌, ℕ, ◌≤◌, ◌==◌, not, List, [], ◌∷◌, ◌++◌, map, ap, arith, refl}
 use Rattle.std.specs.Prelude.{min}
 use Rattle.spans.specs.Effects.{Effect, Closes, HardCloses, Protects, Releases, Collects}
 use Rattle.spans.specs.Transactions.{closed_of, least_of}
@@ -34,18 +35,12 @@ horizon_grows p (_) allowed = omega arith
 -- the least is at or below each
 least_under : (n : ℕ) (m : Protection) (ps : List Protection) (ns : List ℕ) → Has m ps → least_of n (map (λ (x : Protection). x.at) ps ++ ns) ≤ m.at
 least_under n m [] ns i = absurd i
-least_under n m (x ∷ ps) ns i = elim i [
-  | inl here ↦ (let e : x.at ≡ m.at = ap (λ (v : Protection). v.at) here in omega (arith, e))
-  | inr there ↦ (let low : least_of n (map (λ (v : Protection). v.at) ps ++ ns) ≤ m.at = least_under n m ps ns there in omega (arith, low))
-]
+least_under n m (x ∷ ps) ns i = grind (arith, common_steps, least_under n m ps ns)
 
 -- each protection that stands is at or above the horizon
 pub protections_high : (p : List Effect) → AllAllowed p → (m : Protection) → Has m (protections_of p) → horizon_of p ≤ m.at
 protections_high [] all m i = absurd i
-protections_high (Protects id t ∷ p) all m i = elim i [
-  | inl here ↦ (let e : t ≡ m.at = ap (λ (v : Protection). v.at) here in omega (arith, e, all.0))
-  | inr there ↦ protections_high p all.1 m there
-]
+protections_high (Protects id t ∷ p) all m i = grind (arith, common_steps, protections_high p all.1 m)
 protections_high (Releases id ∷ p) all m i = protections_high p all.1 m ((has_filter (λ (n : Protection). not (n.id == id)) m (protections_of p)).0 i).1
 protections_high (Collects n ∷ p) all m i =
     let was : horizon_of p ≤ m.at = protections_high p all.1 m i in

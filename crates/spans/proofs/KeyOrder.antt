@@ -1,6 +1,7 @@
 -- The order of keys, and where a range begins that has the keys from a bound on.
+use Rattle.std.proofs.lemmas.Grind.{common_steps}
 use Rattle.timestamps.specs.declared.key.TheConstants.{MAX_KEY_BYTES}
-use Rattle.std.proofs.Common.{◌≡◌, ℕ, zero, suc, ◌<◌, ◌≤◌, true, false, List, [], ◌∷◌, length, take, Option, Some, None, refl, sym, ◌∙◌, ap, subst, arith}
+use Rattle.std.proofs.Common.{◌≡◌, ℕ, zero, suc, ◌<◌, ◌≤◌, true, false, List, [], ◌∷◌, length, take, Option, Some, None, refl, sym, ◌∙◌, ap, arith}
 use Rattle.std.specs.Prelude.{not, nat_le}
 use Rattle.std.specs.BTreeMap.Range.{is_from_start}
 use Rattle.std.specs.Ordering.{is_lt, is_le, nat_cmp, ordering_reverse, ordering_then}
@@ -28,9 +29,7 @@ not_itself x = ap is_lt (tied_itself nat_list_cmp_total x)
 
 pub above_low : (lo : Option (List ℕ)) (k x : List ℕ) → from_low lo k ≡ true → key_cmp k x ≡ Less → from_low lo x ≡ true
 above_low None k x from less = refl
-above_low (Some low) k x from less = by_test (key_lt x low)
-    (λ is. let k_low : key_cmp k low ≡ Less = nat_list_cmp_total.trans k x low less (less_is (key_cmp x low) is) in let no' : not (is_lt (key_cmp k low)) ≡ true = from in let e : not (is_lt Less) ≡ true = subst (λ o. not (is_lt o) ≡ true) k_low no' in cc)
-    (λ isnt. ap not isnt)
+above_low (Some low) k x from less = grind (arith, common_steps, by_test, nat_list_cmp_total, less_is)
 
 pub under_high : (hi : Option (List ℕ)) (k x : List ℕ) → below_high hi k ≡ true → key_cmp x k ≡ Less → below_high hi x ≡ true
 under_high None k x below less = refl

@@ -1,6 +1,8 @@
 -- Rising keys, and the rows that they give.
+use Rattle.std.proofs.lemmas.Grind.{common_steps}
+use Rattle.std.proofs.Common.{arith}
 use Rattle.std.proofs.Common.{◌≡◌, ℕ, ◌⊎◌, Bool, true, false, cond, List, [], ◌∷◌, Option, Some, None, refl, sym, ◌∙◌, ap, subst, inl, inr}
-use Rattle.std.specs.Prelude.{◌↔◌, filter, is_some, bytes_eq}
+use Rattle.std.specs.Prelude.{◌↔◌, filter, is_some}
 use Rattle.std.proofs.lemmas.Bool.{both_ways}
 use Rattle.std.specs.declared.cmp.Ordering.{Ordering}
 use Rattle.std.specs.declared.cmp.Ordering.TheVariants.{Less, Equal, Greater}
@@ -108,37 +110,21 @@ pairs_rise m (y ∷ ys) r = by_value (m y) (pairs_rise m ys r.1)
 
 -- where each key with a value is among the keys
 pub are_rows : (span : Span) (m : List ℕ → Option (List ℕ)) (keys : List (List ℕ)) → RisingKeys keys → ((x v : List ℕ) → m x ≡ Some v → IsIn x keys) → AreRows span m (pairs_of m (filter (in_span span) keys))
-are_rows span m keys r all = record {
-  rising = pairs_rise m (filter (in_span span) keys) (filter_rises (in_span span) keys r);
-  each = λ x v. (
-    λ i. let k = (is_pair_of m (filter (in_span span) keys) x v).0 i in (((filter_in (in_span span) x keys).0 k.0).0, k.1),
-    λ i. (is_pair_of m (filter (in_span span) keys) x v).1 ((filter_in (in_span span) x keys).1 (i.0, all x v i.1), i.1),
-  );
-}
+are_rows span m keys r all = grind (arith, common_steps, pairs_rise, filter_rises, is_pair_of, filter_in)
 
 -- maps that are alike in the span have the same rows
 pub rows_like : (span : Span) (m n : List ℕ → Option (List ℕ)) (rows : List (List ℕ × List ℕ)) → ((x : List ℕ) → in_span span x ≡ true → m x ≡ n x) → AreRows span m rows → AreRows span n rows
-rows_like span m n rows same r = record {
-  rising = r.rising;
-  each = λ x v. (λ i. let k = (r.each x v).0 i in (k.0, sym (same x k.0) ∙ k.1), λ i. (r.each x v).1 (i.0, same x i.0 ∙ i.1));
-}
+rows_like span m n rows same r = grind (arith, common_steps)
 
 -- what is among the rows is one of them
 pub pair_among : (rows : List (List ℕ × List ℕ)) (x v : List ℕ) → value_among rows x ≡ Some v → IsPairIn rows x v
 pair_among [] x v is = cc
-pair_among (r ∷ rows) x v is = by_test (bytes_eq r.0 x)
-    (λ here. inl (same_key r.0 x here, (let e : Some r.1 ≡ Some v = rw here at is in cc)))
-    (λ other. inr (pair_among rows x v (rw other at is)))
+pair_among (r ∷ rows) x v is = grind (arith, common_steps, by_test, same_key, pair_among rows x v)
 
 -- and where there is one, something is
 pub none_among : (rows : List (List ℕ × List ℕ)) (x v : List ℕ) → value_among rows x ≡ None → IsPairIn rows x v → ⊥
 none_among [] x v none i = i
-none_among (r ∷ rows) x v none i = by_test (bytes_eq r.0 x)
-    (λ here. let e : Some r.1 ≡ None = rw here at none in cc)
-    (λ other. elim i [
-      | inl now ↦ both_ways _ other (subst (λ y. bytes_eq r.0 y ≡ true) now.0 (key_itself r.0))
-      | inr later ↦ none_among rows x v (rw other at none) later
-    ])
+none_among (r ∷ rows) x v none i = grind (arith, common_steps, by_test, both_ways, key_itself, none_among rows x v)
 
 -- at a key of their span rows have what their map has
 pub among_rows : (span : Span) (m : List ℕ → Option (List ℕ)) (rows : List (List ℕ × List ℕ)) → AreRows span m rows → (x : List ℕ) → in_span span x ≡ true → value_among rows x ≡ m x
@@ -179,10 +165,7 @@ only_keys (x ∷ xs) (y ∷ ys) h k same =
 
 -- of rising keys those that pass a test are alike where what passes it is in both or in neither
 pub filtered_same : (q : List ℕ → Bool) (xs ys : List (List ℕ)) → RisingKeys xs → RisingKeys ys → ((z : List ℕ) → q z ≡ true → IsIn z xs ↔ IsIn z ys) → filter q xs ≡ filter q ys
-filtered_same q xs ys h k same = only_keys (filter q xs) (filter q ys) (filter_rises q xs h) (filter_rises q ys k) (λ z. let a = filter_in q z xs in let b = filter_in q z ys in (
-  λ i. let m = a.0 i in b.1 (m.0, (same z m.0).0 m.1),
-  λ i. let m = b.0 i in a.1 (m.0, (same z m.0).1 m.1),
-))
+filtered_same q xs ys h k same = only_keys (filter q xs) (filter q ys) (filter_rises q xs h) (filter_rises q ys k) (λ z. let a = filter_in q z xs in grind (arith, common_steps, filter_in))
 
 -- keys without a value give no row
 pub pairs_of_some : (m : List ℕ → Option (List ℕ)) (xs : List (List ℕ)) → pairs_of m xs ≡ pairs_of m (filter (λ x. is_some (m x)) xs)

@@ -1,4 +1,5 @@
 -- What a feed's list is: the map at the cursor first, where the feed is initial, and then the stream.
+use Rattle.std.proofs.lemmas.Grind.{common_steps}
 use Rattle.std.proofs.Common.{◌≡◌, ℕ, zero, suc, ◌<◌, ◌≤◌, ◌-◌, ◌⊎◌, ◌==◌, Bool, true, false, cond, List, [], ◌∷◌, ◌++◌, map, Some, None, refl, sym, ◌∙◌, ap, inl, inr, arith, append_assoc}
 use Rattle.std.specs.Prelude.{◌↔◌, is_some}
 use Rattle.std.specs.Ordering.{is_lt}
@@ -112,15 +113,11 @@ pairs_rows_rise t (pair ∷ pairs) h = (
 
 -- what a feed tells first stays
 first_stays : (kind : Kind) (p : List Effect) (d : Effect) → Allowed p d → (span : Span) (c : ℕ) → (kind.initial ≡ true → c ≤ closed_of p) → first_rows kind (d ∷ p) span c ≡ first_rows kind p span c
-first_stays kind p d allowed span c settled = by_test kind.initial
-    (λ is. rw is (snapshot_stays p d allowed span c (settled is)))
-    (λ isnt. rw isnt refl)
+first_stays kind p d allowed span c settled = grind (arith, common_steps, by_test, snapshot_stays)
 
 -- it rises
 first_rises : (kind : Kind) (p : List Effect) (span : Span) (c : ℕ) → RisingRows (first_rows kind p span c)
-first_rises kind p span c = by_test kind.initial
-    (λ is. rw is (pairs_rows_rise c (pairs_of (span_part span (map_at p c)) (written_keys p)) (pairs_rise (span_part span (map_at p c)) (written_keys p) (keys_rise p))))
-    (λ isnt. rw isnt tt)
+first_rises kind p span c = grind (arith, common_steps, by_test, pairs_rows_rise, pairs_rise, keys_rise)
 
 -- which rows it is
 pub in_first : (kind : Kind) (p : List Effect) (span : Span) (c : ℕ) (r : Row) → IsRowIn r (first_rows kind p span c) ↔ ((kind.initial ≡ true) × IsScanned p span c r)
@@ -148,9 +145,7 @@ start_low kind c = by_test kind.initial (λ is. rw is (omega arith)) (λ isnt. r
 
 -- what is above it is at or above the cursor
 pub start_next : (kind : Kind) (c n : ℕ) → start_at kind c < n → c ≤ n
-start_next kind c n = by_test kind.initial
-    (λ is. rw is (λ (above : c - 1 < n). omega arith))
-    (λ isnt. rw isnt (λ (above : c < n). omega arith))
+start_next kind c n = grind (arith, common_steps)
 
 -- an initial feed's start is below its cursor
 pub start_first : (kind : Kind) (c : ℕ) → kind.initial ≡ true → 0 < c → start_at kind c < c
@@ -161,13 +156,7 @@ abbrev pub IsListed : List Effect → Feed → ℕ → Row → Type 0
 IsListed p feed n r = ((feed.kind.initial ≡ true) × IsScanned p feed.span feed.cursor r) ⊎ IsStreamed p feed.span feed.cursor n r
 
 pub in_list : (p : List Effect) (feed : Feed) (n : ℕ) (r : Row) → IsRowIn r (list_of p feed n) ↔ IsListed p feed n r
-in_list p feed n r =
-    let join = in_append r (first_rows feed.kind p feed.span feed.cursor) (stream_of p feed.span feed.cursor n) in
-    let first = in_first feed.kind p feed.span feed.cursor r in
-    let later = in_stream p feed.span feed.cursor n r in (
-      λ i. elim (join.0 i) [ inl f ↦ inl (first.0 f) | inr s ↦ inr (later.0 s) ],
-      λ i. elim i [ inl f ↦ join.1 (inl (first.1 f)) | inr s ↦ join.1 (inr (later.1 s)) ],
-    )
+in_list p feed n r = grind (arith, common_steps, in_append, in_first, in_stream)
 
 -- it lies in the span
 pub listed_inside : (p : List Effect) (feed : Feed) (n : ℕ) (r : Row) → IsListed p feed n r → in_span feed.span r.key ≡ true
@@ -175,17 +164,11 @@ listed_inside p feed n r i = elim i [ inl f ↦ f.1.inside | inr s ↦ s.inside 
 
 -- it is above the start
 pub listed_above : (p : List Effect) (feed : Feed) (n : ℕ) (r : Row) → IsListed p feed n r → start_of feed < r.ts
-listed_above p feed n r i = elim i [
-  | inl f ↦ (let above : start_of feed < feed.cursor = start_first feed.kind feed.cursor f.0 f.1.some in omega (arith, f.1.at))
-  | inr s ↦ (let low : start_of feed ≤ feed.cursor = start_low feed.kind feed.cursor in omega (arith, s.above))
-]
+listed_above p feed n r i = grind (arith, common_steps)
 
 -- and not above n, where that is above the start
 pub listed_low : (p : List Effect) (feed : Feed) (n : ℕ) (r : Row) → start_of feed < n → IsListed p feed n r → r.ts ≤ n
-listed_low p feed n r above i = elim i [
-  | inl f ↦ (let low : feed.cursor ≤ n = start_next feed.kind feed.cursor n above in omega (arith, f.1.at))
-  | inr s ↦ s.low
-]
+listed_low p feed n r above i = grind (arith, common_steps)
 
 -- a list rises
 pub list_rises : (p : List Effect) (feed : Feed) (n : ℕ) → RisingRows (list_of p feed n)
@@ -199,9 +182,7 @@ IsSettled p feed = feed.kind.initial ≡ true → feed.cursor ≤ closed_of p
 
 -- what is closed stays, in the list too
 pub list_stays : (p : List Effect) (d : Effect) → Allowed p d → (feed : Feed) → IsSettled p feed → (n : ℕ) → n ≤ closed_of p → list_of (d ∷ p) feed n ≡ list_of p feed n
-list_stays p d allowed feed settled n low =
-    ap (λ l. l ++ stream_of (d ∷ p) feed.span feed.cursor n) (first_stays feed.kind p d allowed feed.span feed.cursor settled)
-    ∙ ap (λ l. first_rows feed.kind p feed.span feed.cursor ++ l) (stream_stays p d allowed feed.span feed.cursor n low)
+list_stays p d allowed feed settled n low = grind (arith, common_steps, first_stays, stream_stays)
 
 -- a longer list goes on from a shorter
 pub list_goes_on : (p : List Effect) (feed : Feed) (m n : ℕ) → m ≤ n → (rest : List Row) × (list_of p feed n ≡ list_of p feed m ++ rest)

@@ -1,13 +1,12 @@
 -- What is taken of two lists.
-use Rattle.std.proofs.Common.{List, [], ap, arith, length, refl, suc, take, zero, ℕ, ◌++◌, ◌-◌, ◌∷◌, ◌≡◌, ◌≤◌, ◌∙◌}
+use Rattle.std.proofs.lemmas.Grind.{common_steps}
+use Rattle.std.proofs.Common.{List, [], ap, arith, length, refl, suc, take, zero, ℕ, ◌++◌, ◌-◌, ◌∷◌, ◌≡◌, ◌≤◌}
 use Rattle.std.proofs.lemmas.List.{length-take}
 
 pub take_both : {A : Type 0} (m : ℕ) (xs ys : List A) → take m xs ++ take (m - length xs) ys ≡ take m (xs ++ ys)
 take_both zero xs ys = let none : 0 - length xs ≡ 0 = omega arith in rw none refl
 take_both (suc m) [] ys = ap (λ n. take n ys) (let all : suc m - 0 ≡ suc m = omega arith in all)
-take_both (suc m) (x ∷ xs) ys =
-    let less : suc m - suc (length xs) ≡ m - length xs = omega arith in
-    ap (λ n. x ∷ (take m xs ++ take n ys)) less ∙ ap (λ l. x ∷ l) (take_both m xs ys)
+take_both (suc m) (x ∷ xs) ys = grind (arith, common_steps, take_both m xs ys)
 
 pub take_again : {A : Type 0} (n : ℕ) (xs ys : List A) → take n (take n xs ++ ys) ≡ take n (xs ++ ys)
 take_again zero xs ys = refl

@@ -1,6 +1,6 @@
 -- Lists that stand for sets: distinct lists of the same are of one length.
-use Rattle.std.proofs.Common.{Bool, List, refl, arith, inr, subst, false, suc, ap, true, inl, sym, length, ◌≡◌, ◌≤◌, ◌⊎◌, ◌==◌, ◌∷◌, ◌++◌, ◌∙◌, ℕ, []}
-use Rattle.std.proofs.lemmas.Bool.{eq-eqb, both_ways}
+use Rattle.std.proofs.lemmas.Grind.{common_steps}
+use Rattle.std.proofs.Common.{Bool, List, refl, arith, inr, subst, false, suc, ap, true, inl, sym, length, ◌≡◌, ◌≤◌, ◌⊎◌, ◌∷◌, ◌++◌, ◌∙◌, ℕ, []}
 use Rattle.std.proofs.lemmas.Cmp.{nat_list_cmp_total}
 use Rattle.std.proofs.lemmas.List.Elements.{All-nil, All-cons}
 use Rattle.std.specs.Ordering.{ordering_reverse}
@@ -49,57 +49,34 @@ same_length [] [] d e same = refl
 same_length [] (y ∷ ys) d e same = absurd ((same y).1 (inl refl))
 same_length (x ∷ xs) ys d e same =
     let w = without x ys ((same x).0 (inl refl)) in
-    ap suc (same_length xs w.rest d.1 (w.distinct e).0 (λ y. (
-      λ i. elim (w.split y ((same y).0 (inr i))) [ inl here ↦ absurd (d.0 (subst (λ v. Has v xs) (sym here) i)) | inr there ↦ there ],
-      λ i. elim ((same y).1 (w.part y i)) [ inl here ↦ absurd ((w.distinct e).1 (subst (λ v. Has v w.rest) (sym here) i)) | inr there ↦ there ],
-    ))) ∙ sym w.one_less
+    grind (arith, common_steps, same_length xs)
 
 -- a distinct list is no longer than one that has each of its members
 pub fits_in : {A : Type 0} (xs ys : List A) → AreDistinct xs → ((x : A) → Has x xs → Has x ys) → length xs ≤ length ys
 fits_in [] ys d all = omega arith
 fits_in (x ∷ xs) ys d all =
     let w = without x ys (all x (inl refl)) in
-    let more : length xs ≤ length w.rest = fits_in xs w.rest d.1 (λ y i. elim (w.split y (all y (inr i))) [
-      | inl here ↦ absurd (d.0 (subst (λ v. Has v xs) (sym here) i))
-      | inr there ↦ there
-    ]) in
-    omega (arith, w.one_less)
+    grind (arith, common_steps, fits_in xs)
 
 -- what a filter leaves is what passes the test
 pub has_filter : {A : Type 0} (q : A → Bool) (x : A) (xs : List A) → Has x (filter q xs) ↔ ((q x ≡ true) × Has x xs)
 has_filter q x [] = (λ i. absurd i, λ i. absurd i.1)
-has_filter q x (y ∷ ys) = let more = has_filter q x ys in by_test (q y)
-    (λ is. rw is (
-      λ i. elim i [ inl here ↦ (subst (λ v. q v ≡ true) here is, inl here) | inr there ↦ (let m = more.0 there in (m.0, inr m.1)) ],
-      λ i. elim i.1 [ inl here ↦ inl here | inr there ↦ inr (more.1 (i.0, there)) ],
-    ))
-    (λ isnt. rw isnt (
-      λ i. let m = more.0 i in (m.0, inr m.1),
-      λ i. elim i.1 [ inl here ↦ absurd (both_ways _ isnt (subst (λ v. q v ≡ true) (sym here) i.0)) | inr there ↦ more.1 (i.0, there) ],
-    ))
+has_filter q x (y ∷ ys) = grind (arith, common_steps, has_filter q x ys)
 
 -- a distinct list stays so under a filter
 pub distinct_filter : {A : Type 0} (q : A → Bool) (xs : List A) → AreDistinct xs → AreDistinct (filter q xs)
 distinct_filter q [] d = tt
-distinct_filter q (x ∷ xs) d = by_test (q x)
-    (λ is. rw is (λ i. d.0 ((has_filter q x xs).0 i).1, distinct_filter q xs d.1))
-    (λ isnt. rw isnt (distinct_filter q xs d.1))
+distinct_filter q (x ∷ xs) d = grind (arith, common_steps, by_test, has_filter, distinct_filter q xs d.1)
 
 -- what is in two lists joined is in one of them
 pub has_append : {A : Type 0} (v : A) (xs ys : List A) → Has v (xs ++ ys) ↔ (Has v xs ⊎ Has v ys)
 has_append v [] ys = (λ i. inr i, λ i. elim i [ inl l ↦ absurd l | inr k ↦ k ])
-has_append v (x ∷ xs) ys = let more = has_append v xs ys in (
-  λ i. elim i [ inl here ↦ inl (inl here) | inr there ↦ (elim (more.0 there) [ inl l ↦ inl (inr l) | inr k ↦ inr k ]) ],
-  λ i. elim i [ inl l ↦ (elim l [ inl here ↦ inl here | inr there ↦ inr (more.1 (inl there)) ]) | inr k ↦ inr (more.1 (inr k)) ],
-)
+has_append v (x ∷ xs) ys = grind (arith, common_steps, has_append v xs ys)
 
 -- distinct lists that have nothing in common are distinct together
 pub distinct_append : {A : Type 0} (xs ys : List A) → AreDistinct xs → AreDistinct ys → ((v : A) → Has v xs → Has v ys → ⊥) → AreDistinct (xs ++ ys)
 distinct_append [] ys d e apart = e
-distinct_append (x ∷ xs) ys d e apart = (
-  λ i. elim ((has_append x xs ys).0 i) [ inl l ↦ d.0 l | inr r ↦ apart x (inl refl) r ],
-  distinct_append xs ys d.1 e (λ v i j. apart v (inr i) j),
-)
+distinct_append (x ∷ xs) ys d e apart = grind (arith, common_steps, has_append, distinct_append xs ys d.1 e)
 
 -- a key among keys is one of the list
 pub in_has : (x : List ℕ) (ks : List (List ℕ)) → IsIn x ks → Has x ks
@@ -127,9 +104,7 @@ rising_distinct (x ∷ xs) r = (
 -- who is among the begun has an owner
 pub has_begun : (p : List Effect) (t : ℕ) → Has t (begun_of p) → is_some (owner_of p t) ≡ true
 has_begun [] t i = absurd i
-has_begun (Begins k seat ∷ p) t i = by_test (k == t)
-    (λ same. rw same refl)
-    (λ other. rw other (elim i [ inl here ↦ absurd (both_ways _ other (eq-eqb k t here)) | inr there ↦ has_begun p t there ]))
+has_begun (Begins k seat ∷ p) t i = grind (arith, common_steps, has_begun p t)
 has_begun (_ ∷ p) t i = has_begun p t i
 
 -- no transaction begins twice
@@ -145,9 +120,7 @@ open_distinct p all = distinct_filter (is_undecided p) (begun_of p) (begun_disti
 -- a list is what fails the test and what passes it
 pub parted : {A : Type 0} (q : A → Bool) (xs : List A) → length xs ≡ length (filter (λ x. not (q x)) xs) + length (filter q xs)
 parted q [] = refl
-parted q (x ∷ xs) = let more = parted q xs in by_test (q x)
-    (λ is. rw is (omega (arith, more)))
-    (λ isnt. rw isnt (omega (arith, more)))
+parted q (x ∷ xs) = grind (arith, common_steps, parted q xs)
 
 -- what holds of each member holds of all
 pub all_of : {A : Type 0} (P : A → Type 0) (xs : List A) → ((x : A) → Has x xs → P x) → All P xs

@@ -1,11 +1,11 @@
 -- Nothing at or below closed is undecided.
-use Rattle.std.proofs.Common.{◌≡◌, ℕ, ◌-◌, ◌<◌, ◌≤◌, ◌⊎◌, ◌==◌, Bool, true, false, not, ◌&&◌, ◌||◌, List, [], ◌∷◌, map, refl, sym, subst, inl, inr, arith}
+use Rattle.std.proofs.lemmas.Grind.{common_steps}
+use Rattle.std.proofs.Common.{◌≡◌, ℕ, ◌-◌, ◌<◌, ◌≤◌, ◌⊎◌, ◌==◌, Bool, true, false, not, ◌&&◌, ◌||◌, List, [], ◌∷◌, map, refl, arith}
 use Rattle.std.specs.Prelude.{filter, is_some, nat_le}
-use Rattle.std.proofs.lemmas.Bool.{and_parts, eqb-true}
+use Rattle.std.proofs.lemmas.Bool.{and_parts}
 use Rattle.std.proofs.lemmas.Bool.Decides.{nat_tests}
 use Rattle.spans.specs.Effects.{Effect, Begins, Commits, Aborts, Closes, HardCloses}
 use Rattle.spans.specs.Transactions.{owner_of, closed_of, is_committed, is_aborted, is_undecided, begun_of, least_of, decided_through}
-use Rattle.spans.proofs.Steps.{by_test}
 use Rattle.spans.proofs.Copies.{AllAllowed}
 
 abbrev pub IsAmong : ℕ → List ℕ → Type 0
@@ -14,26 +14,17 @@ IsAmong t (k ∷ ks) = (k ≡ t) ⊎ IsAmong t ks
 
 pub begun_among : (p : List Effect) (t : ℕ) → is_some (owner_of p t) ≡ true → IsAmong t (begun_of p)
 begun_among [] t is = cc
-begun_among (Begins k seat ∷ p) t is = by_test (k == t)
-    (λ same. inl (eqb-true k t same))
-    (λ other. inr (begun_among p t (rw other at is)))
+begun_among (Begins k seat ∷ p) t is = grind (arith, common_steps, begun_among p t)
 begun_among (_ ∷ p) t is = begun_among p t is
 
 pub least_below : (q : ℕ → Bool) (n t : ℕ) (ks : List ℕ) → IsAmong t ks → q t ≡ true → least_of n (map (λ k. k - 1) (filter q ks)) ≤ t - 1
 least_below q n t [] among is = absurd among
-least_below q n t (k ∷ ks) among is = elim among [
-  | inl here ↦ (let e : q k ≡ true = subst (λ i. q i ≡ true) (sym here) is in rw e (omega arith))
-  | inr there ↦ (let more : least_of n (map (λ i. i - 1) (filter q ks)) ≤ t - 1 = least_below q n t ks there is in by_test (q k)
-      (λ e. rw e (omega arith))
-      (λ e. rw e more))
-]
+least_below q n t (k ∷ ks) among is = grind (arith, common_steps, least_below q n t ks)
 
 -- an undecided transaction is above closed
 pub open_above : (p : List Effect) → AllAllowed p → (t : ℕ) → is_undecided p t ≡ true → closed_of p < t
 open_above [] all t is = cc
-open_above (Begins k seat ∷ p) all t is = by_test (k == t)
-    (λ same. omega (arith, eqb-true k t same, all.0.0))
-    (λ other. open_above p all.1 t (rw other at is))
+open_above (Begins k seat ∷ p) all t is = grind (arith, common_steps, open_above p all.1 t)
 open_above (Commits k ∷ p) all t is = open_above p all.1 t (by_parts (is_some (owner_of p t)) (k == t) (is_committed p t) (is_aborted p t) is)
   where
     by_parts : (o e c a : Bool) → (o && (not (e || c) && not a)) ≡ true → (o && (not c && not a)) ≡ true

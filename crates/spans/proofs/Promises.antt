@@ -1,15 +1,16 @@
 -- Allowed deeds keep what the guide promises.
-use Rattle.std.proofs.Common.{◌≡◌, ℕ, ◌+◌, ◌-◌, ◌≤◌, ◌==◌, not, List, [], ◌∷◌, ◌++◌, length, Some, refl, sym, ◌∙◌, ap, subst, true, inl, inr, arith}
+use Rattle.std.proofs.lemmas.Grind.{common_steps}
+use Rattle.std.proofs.Common.{◌≡◌, ℕ, ◌+◌, ◌-◌, ◌≤◌, List, [], ◌∷◌, ◌++◌, length, Some, refl, sym, ◌∙◌, subst, inl, inr, arith}
 use Rattle.std.proofs.lemmas.Bool.{eqb-true}
 use Rattle.spans.specs.declared.calls.replies.Reply.TheVariants as replies
 use Rattle.spans.specs.declared.calls.events.Event.{Event}
 use Rattle.spans.specs.Legal.{IsLegal}
 use Rattle.spans.specs.Effects.{effects_of, After, Effect, Reads, Scans, Protects, Releases}
-use Rattle.spans.specs.Transactions.{closed_of, undecided_timestamps}
-use Rattle.spans.specs.Versions.{write_of, version_of, visible}
+use Rattle.spans.specs.Transactions.{closed_of}
+use Rattle.spans.specs.Versions.{write_of, visible}
 use Rattle.spans.specs.Collection.{Protection, LiveFeed, horizon_of, protections_of, live_feeds, floor_of, versions_of, is_dead, dead_of}
 use Rattle.spans.specs.Promises.{ReadsOwn, NeverFalls, HasRisen, MapsStand, Stands, ProtectionsHold, IsHorizonHeld, SnapshotsStand, left_versions, AreVersionsCounted}
-use Rattle.spans.proofs.Steps.{by_test, newest_at}
+use Rattle.spans.proofs.Steps.{by_test}
 use Rattle.spans.proofs.Keyed.{among_rows}
 use Rattle.spans.proofs.Copies.{IsActive, Allowed, AllAllowed, closed_grows}
 use Rattle.spans.proofs.Legal.{legal_allowed}
@@ -22,11 +23,7 @@ use Rattle.spans.proofs.Dead.{left_newest}
 
 -- of a key that it wrote an open transaction sees what it wrote last
 sees_own : (p : List Effect) (x : List ℕ) (t : ℕ) (a : After) → IsActive p t → write_of p t x ≡ Some a → (visible p x t).after ≡ a
-sees_own p x t a here wrote = newest_at (version_of p x) t t a (record {
-  at_most = omega arith;
-  gap = λ i low high. absurd (omega arith);
-  has = inr (omega (arith, here.above), rw here.unaborted wrote);
-})
+sees_own p x t a here wrote = grind (arith, common_steps)
 
 pub reads_own : (p : List Effect) → AllAllowed p → ReadsOwn p
 reads_own [] all = tt
@@ -51,10 +48,7 @@ stands_for_ever [] h legal = (omega arith, λ t low. refl)
 stands_for_ever (e ∷ later) h legal =
     let before = stands_for_ever later h legal.1 in
     let allowed = (legal_allowed (e ∷ later ++ h) legal).0 in
-    let risen = closed_grows (effects_of (later ++ h)) _ allowed in (
-      omega (arith, before.0, risen),
-      λ t low. map_stays (effects_of (later ++ h)) _ allowed t (omega (arith, low, before.0)) ∙ before.1 t low,
-    )
+    grind (arith, common_steps, closed_grows, map_stays)
 
 pub maps_stand : (later h : List Event) → IsLegal (later ++ h) → MapsStand (effects_of (later ++ h)) (effects_of h)
 maps_stand later h legal = (stands_for_ever later h legal).1
@@ -66,10 +60,7 @@ protection id t = record { id = id; at = t }
 stands_listed : (after before : List Effect) (id t : ℕ) → Stands id after → Has (protection id t) (protections_of (after ++ Protects id t ∷ before))
 stands_listed [] before id t stands = inl refl
 stands_listed (Protects n m ∷ after) before id t stands = inr (stands_listed after before id t stands)
-stands_listed (Releases n ∷ after) before id t stands =
-    let other : not (id == n) ≡ true = by_test (id == n) (λ same. absurd (stands.0 (sym (eqb-true id n same)))) (λ isnt. ap not isnt) in
-    (has_filter (λ (m : Protection). not (m.id == n)) (protection id t) (protections_of (after ++ Protects id t ∷ before))).1
-    (other, stands_listed after before id t stands.1)
+stands_listed (Releases n ∷ after) before id t stands = grind (arith, common_steps, by_test, eqb-true, has_filter, stands_listed after before id t stands.1)
 stands_listed (_ ∷ after) before id t stands = stands_listed after before id t stands
 
 protections_hold : (p : List Effect) → AllAllowed p → ProtectionsHold p
@@ -91,8 +82,4 @@ snapshots_stand p = left_newest p
 pub versions_counted : (p : List Effect) → AllAllowed p → AreVersionsCounted p
 versions_counted p all =
     let both : length (versions_of p) ≡ length (left_versions p) + length (dead_of p) = parted (is_dead p) (versions_of p) in
-    let left : length (left_versions p) ≡ length (versions_of p) - length (dead_of p) = omega (arith, both) in record {
-      once = versions_distinct p all;
-      left = left;
-      told = λ seat. ap (λ n. replies.Stats n (length (undecided_timestamps p)) (length (live_feeds p)) (closed_of p) (horizon_of p)) (sym left);
-    }
+    grind (arith, common_steps, versions_distinct)

@@ -1,5 +1,6 @@
 -- The limit of a report is the limit of its history.
-use Rattle.std.proofs.Common.{◌≡◌, ℕ, suc, ◌==◌, Bool, not, List, [], ◌∷◌, ◌++◌, map, reverse, Some, None, refl, sym, ◌∙◌, ap, subst, arith}
+use Rattle.std.proofs.lemmas.Grind.{common_steps}
+use Rattle.std.proofs.Common.{◌≡◌, ℕ, suc, ◌==◌, Bool, not, List, [], ◌∷◌, ◌++◌, map, reverse, Some, refl, sym, ◌∙◌, ap, subst, arith}
 use Rattle.std.specs.Prelude.{All, nat_lt, if◌then◌else◌}
 use Rattle.std.proofs.lemmas.Bool.{eqb-true, eq-eqb}
 use Rattle.std.proofs.lemmas.List.{reverse-append}
@@ -12,11 +13,10 @@ use Rattle.spans.specs.declared.report.Report.{Report}
 use Rattle.spans.specs.declared.report.FeedReport.{FeedReport}
 use Rattle.spans.specs.declared.report.Holder.TheVariants as holders
 use Rattle.spans.specs.Effects.{Effect, Opens, Cancels, effects_of}
-use Rattle.spans.specs.Transactions.{closed_of}
 use Rattle.spans.specs.Feeds.{Feed, feed_of, feeds_opened}
-use Rattle.spans.specs.Collection.{Protection, LiveFeed, live_feeds, protections_of, floor_of}
+use Rattle.spans.specs.Collection.{Protection, LiveFeed, live_feeds, protections_of}
 use Rattle.spans.specs.Legal.{IsLegal}
-use Rattle.spans.specs.Report.{limit, first_least, protection_limit, feed_limit, limit_of, protection_report, IsFeedReport, IsReport, told_protection, told_feed, limit_in}
+use Rattle.spans.specs.Report.{first_least, protection_limit, feed_limit, limit_of, protection_report, IsFeedReport, IsReport, told_protection, told_feed, limit_in}
 use Rattle.spans.proofs.Copies.{AllAllowed}
 use Rattle.spans.proofs.Feeding.{unopened}
 use Rattle.spans.proofs.Legal.{legal_allowed}
@@ -38,9 +38,7 @@ WasOpened p w = (feed : Feed) × (feed_of p w.number ≡ Some feed) × (feed.cur
 
 -- a number is given once
 opened_before : (p : List Effect) → AllAllowed p → (g seat : ℕ) (kind : Kind) (span : Span) (cursor : ℕ) → g ≡ suc (feeds_opened p) → (w : LiveFeed) → WasOpened p w → WasOpened (Opens g seat kind span cursor ∷ p) w
-opened_before p all g seat kind span cursor next w o = by_test (g == w.number)
-    (λ same. let none = (unopened p all w.number (let e = eqb-true g w.number same in omega (arith, next))).0 in absurd (let no : None ≡ Some o.0 = sym none ∙ o.1 in cc))
-    (λ other. (o.0, rw other o.1, o.2))
+opened_before p all g seat kind span cursor next w o = grind (arith, common_steps, by_test, unopened, eqb-true)
 
 pub lives_opened : (p : List Effect) → AllAllowed p → All (WasOpened p) (live_feeds p)
 lives_opened [] all = All-nil (WasOpened [])
@@ -58,11 +56,7 @@ protection_limits (n ∷ ps) = ap (λ l. protection_limit n ∷ l) (protection_l
 
 -- a feed of a report holds as that of its history
 feed_holds : (whole : Bool) (p : List Effect) (n : FeedReport) (w : LiveFeed) → n.number ≡ w.number → IsFeedReport whole p n → WasOpened p w → told_feed n ≡ feed_limit p w
-feed_holds whole p n w same r o =
-    let one : r.feed ≡ o.0 = (let both : Some r.feed ≡ Some o.0 = sym r.is ∙ ap (feed_of p) same ∙ o.1 in cc) in
-    let cursor : r.feed.cursor ≡ w.cursor = ap (λ (f : Feed). f.cursor) one ∙ o.2 in
-    let floor : n.floor ≡ floor_of p w = r.floor ∙ ap (λ m. floor_of p (record { number = m; cursor = r.feed.cursor })) same ∙ ap (λ c. floor_of p (record { number = w.number; cursor = c })) cursor in
-    ap (λ t. limit t (holders.Feed n.number)) floor ∙ ap (λ m. limit (floor_of p w) (holders.Feed m)) same
+feed_holds whole p n w same r o = grind (arith, common_steps)
 
 pub feed_limits : (whole : Bool) (p : List Effect) (ns : List FeedReport) (ws : List LiveFeed) → map (λ (n : FeedReport). n.number) ns ≡ map (λ (n : LiveFeed). n.number) ws
     → All (IsFeedReport whole p) ns → All (WasOpened p) ws → map told_feed ns ≡ map (feed_limit p) ws
@@ -84,6 +78,4 @@ report_limit h legal whole r is =
     let fs = map (feed_limit p) (reverse (live_feeds p)) in
     let protections : map told_protection r.protections.items ≡ ps = ap (map told_protection) is.protections ∙ protection_limits (reverse (protections_of p)) in
     let feeds : map told_feed r.feeds.items ≡ fs = feed_limits whole p r.feeds.items (reverse (live_feeds p)) is.feeds.numbers is.feeds.right (All-reverse (WasOpened p) (live_feeds p) (lives_opened p (legal_allowed h legal))) in
-    ap (λ t. first_least (limit t holders.Closed) (map told_protection r.protections.items ++ map told_feed r.feeds.items)) is.closed
-    ∙ ap (λ l. first_least (limit (closed_of p) holders.Closed) (l ++ map told_feed r.feeds.items)) protections
-    ∙ ap (λ l. first_least (limit (closed_of p) holders.Closed) (ps ++ l)) feeds
+    grind (arith, common_steps)

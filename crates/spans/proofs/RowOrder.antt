@@ -1,6 +1,6 @@
 -- Rows and names in their order: by timestamp, and then by key.
-use Rattle.std.proofs.Common.{arith, inl, inr, true, ◌<◌, ◌≡◌, ◌≤◌}
-use Rattle.std.proofs.lemmas.Bool.{and_parts, eqb-true, ltb-true, or_cases}
+use Rattle.std.proofs.lemmas.Grind.{common_steps}
+use Rattle.std.proofs.Common.{arith, true, ◌≡◌, ◌≤◌}
 use Rattle.timestamps.specs.declared.row.Row.{Row}
 use Rattle.spans.specs.Collection.{VersionName}
 use Rattle.spans.specs.Consumer.{name_lt, name_of}
@@ -8,10 +8,7 @@ use Rattle.spans.specs.Streams.{row_lt}
 
 -- what comes after a name isn't below it
 pub name_order : (n : VersionName) (r : Row) → name_lt n r ≡ true → n.ts ≤ r.ts
-name_order n r after = elim (or_cases _ _ after) [
-  | inl less ↦ (let l : n.ts < r.ts = ltb-true _ _ less in omega arith)
-  | inr same ↦ (let l : n.ts ≡ r.ts = eqb-true _ _ (and_parts _ _ same).0 in omega arith)
-]
+name_order n r after = grind (arith, common_steps)
 
 -- rows rise by timestamp
 pub row_order : (s r : Row) → row_lt s r ≡ true → s.ts ≤ r.ts

@@ -1,18 +1,17 @@
 -- Sets of std as lists: of timestamps, and of keys.
-use Rattle.std.proofs.Common.{List, ap, arith, inl, inr, refl, subst, sym, true, ℕ, ◌≡◌, ◌∷◌, [], Bool, ◌∙◌, ◌||◌, cond, false, ◌<◌, ◌==◌, length}
+use Rattle.std.proofs.lemmas.Grind.{common_steps}
+use Rattle.std.proofs.Common.{List, ap, arith, refl, true, ℕ, ◌≡◌, ◌∷◌, [], Bool, ◌∙◌, ◌||◌, cond, false, ◌<◌, ◌==◌, length}
 use Rattle.std.specs.Prelude.{filter, nat_le, ◌↔◌, bytes_eq}
 use Rattle.std.specs.List.{AllByRecursion, list_any}
 use Rattle.std.specs.List.Sorted.{IsStrictlySortedBy}
-use Rattle.std.specs.Ordering.{is_eq, nat_cmp, match_ordering}
+use Rattle.std.specs.Ordering.{nat_cmp, match_ordering}
 use Rattle.std.specs.BTreeMap.{is_at}
 use Rattle.std.specs.BTreeSet as sets
 use Rattle.std.specs.BTreeMap.Range.{range_contains}
 use Rattle.std.specs.declared.cmp.Ordering.TheVariants.{Less, Equal, Greater}
 use Rattle.std.specs.declared.ops.Bound.TheVariants.{Included, Unbounded}
 use Rattle.std.specs.declared.cmp.Ordering.{Ordering}
-use Rattle.std.proofs.lemmas.Bool.{or_cases, or_left, or_right}
 use Rattle.std.proofs.lemmas.Bool.Decides.{nat_tests}
-use Rattle.std.proofs.lemmas.Cmp.{nat_cmp_total, tied_itself}
 use Rattle.std.proofs.lemmas.Map.Text.{is_eq-slice_cmp}
 use Rattle.spans.specs.Members.{AreDistinct, Has}
 use Rattle.spans.specs.Keys.{insert_key, insert_where}
@@ -38,20 +37,11 @@ is_found t k e = grind (arith, nat_tests)
 
 pub has_any : (t : ℕ) (ts : List ℕ) → Has t ts ↔ (list_any (is_at (nat_cmp t)) ts ≡ true)
 has_any t [] = (λ i. absurd i, λ e. cc)
-has_any t (k ∷ ks) = let more = has_any t ks in (
-  λ i. elim i [
-    | inl here ↦ or_left _ _ (subst (λ n. is_at (nat_cmp t) n ≡ true) (sym here) (ap is_eq (tied_itself nat_cmp_total t)))
-    | inr there ↦ or_right _ _ (more.0 there)
-  ],
-  λ e. elim (or_cases _ _ e) [ inl here ↦ inl (is_found t k here) | inr there ↦ inr (more.1 there) ],
-)
+has_any t (k ∷ ks) = grind (arith, common_steps, has_any t ks)
 
 none_later : (t : ℕ) (ks : List ℕ) → AllByRecursion (λ k. nat_cmp t k ≡ Less) ks → Has t ks → ⊥
 none_later t [] all i = i
-none_later t (k ∷ ks) all i = elim i [
-  | inl here ↦ (let e : nat_cmp t t ≡ Less = subst (λ n. nat_cmp t n ≡ Less) here all.0 in let same = tied_itself nat_cmp_total t in cc)
-  | inr there ↦ none_later t ks all.1 there
-]
+none_later t (k ∷ ks) all i = grind (arith, common_steps, none_later t ks all.1)
 
 pub distinct_times : (ts : List ℕ) → IsStrictlySortedBy nat_cmp ts → AreDistinct ts
 unfolding IsStrictlySortedBy

@@ -1,4 +1,5 @@
 -- What holds of the definitions, whatever the history.
+use Rattle.std.proofs.lemmas.Grind.{common_steps}
 use Rattle.std.proofs.Common.{◌≡◌, ℕ, zero, suc, ◌≤◌, ◌==◌, Bool, true, false, cond, List, [], ◌∷◌, Option, Some, None, refl, sym, ◌∙◌, ap, subst, inl, inr, arith}
 use Rattle.std.specs.Prelude.{bytes_eq, nat_lt, is_some}
 use Rattle.std.proofs.lemmas.Bool.{eqb-true, ltb-true}
@@ -51,11 +52,7 @@ or_else (Some a) y = a
 -- what the map has after the writes of t is what t last wrote, or what the map had
 pub after_is : (p : List Effect) (t : ℕ) (m : Map) (x : List ℕ) → serial_run p t m x ≡ or_else (write_of p t x) (m x)
 after_is [] t m x = refl
-after_is (Writes k y a ∷ p) t m x = by_test (k == t)
-    (λ same. by_test (bytes_eq y x)
-    (λ here. rw (same, here) refl)
-    (λ there. rw (same, there) (after_is p t m x)))
-    (λ other. rw other (after_is p t m x))
+after_is (Writes k y a ∷ p) t m x = grind (arith, common_steps, after_is p t m x)
 after_is (_ ∷ p) t m x = after_is p t m x
 
 -- the map at t has what stands committed at t
@@ -88,9 +85,7 @@ newest_same f g (suc t) same = rw (same (suc t) (omega arith), newest_same f g t
 
 -- the newest version is at or above each that is in reach
 pub newest_reaches : (f : ℕ → Option After) (t i : ℕ) (a : After) → i ≤ t → f i ≡ Some a → i ≤ (newest f t).ts
-newest_reaches f t i a low is = by_test (nat_lt (newest f t).ts i)
-    (λ below. absurd (let none : f i ≡ None = (newest_is f t).gap i (ltb-true _ _ below) low in let no' : None ≡ Some a = sym none ∙ is in cc))
-    (λ isnt. grind (arith, nat_tests))
+newest_reaches f t i a low is = grind (arith, common_steps, by_test, newest_is, ltb-true)
 
 -- of fewer versions the newest is no newer
 pub newest_fewer : (f g : ℕ → Option After) (t : ℕ) → ((j : ℕ) → j ≤ t → f j ≡ None → g j ≡ None) → (newest g t).ts ≤ (newest f t).ts
@@ -105,10 +100,7 @@ newest_fewer f g t fewer = elim (newest_is g t).has [
 
 -- the newest of a later time is no older
 pub newest_rises : (f : ℕ → Option After) (m n : ℕ) → m ≤ n → (newest f m).ts ≤ (newest f n).ts
-newest_rises f m n low = elim (newest_is f m).has [
-  | inl zeroth ↦ omega (arith, zeroth.0)
-  | inr some ↦ (let top : (newest f m).ts ≤ m = (newest_is f m).at_most in newest_reaches f n (newest f m).ts (newest f m).after (omega arith) some.1)
-]
+newest_rises f m n low = grind (arith, common_steps, newest_is, newest_reaches)
 
 -- there is only one newest
 pub newest_only : (versions : ℕ → Option After) (t k : ℕ) (a : After) → IsNewest versions t k a → newest versions t ≡ version_at k a
@@ -144,8 +136,4 @@ newest_at versions t k a h = ap (λ (n : Version). n.after) (newest_only version
 
 -- versions that are alike have one newest
 pub newest_like : (f g : ℕ → Option After) (t k : ℕ) (a : After) → ((i : ℕ) → f i ≡ g i) → IsNewest f t k a → IsNewest g t k a
-newest_like f g t k a same h = record {
-  at_most = h.at_most;
-  gap = λ i low high. sym (same i) ∙ h.gap i low high;
-  has = elim h.has [ inl none ↦ inl none | inr some ↦ inr (some.0, sym (same k) ∙ some.1) ];
-}
+newest_like f g t k a same h = grind (arith, common_steps)

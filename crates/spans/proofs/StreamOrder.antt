@@ -1,13 +1,11 @@
 -- A stream rises strictly by timestamp and then by key.
-use Rattle.std.proofs.Common.{◌≡◌, ℕ, zero, suc, ◌<◌, ◌≤◌, ◌⊎◌, ◌==◌, Bool, true, false, not, cond, ◌&&◌, List, [], ◌∷◌, ◌++◌, map, Option, Some, None, refl, sym, ◌∙◌, ap, subst, inl, inr, arith}
-use Rattle.std.specs.Prelude.{◌↔◌, is_some, bytes_eq, nat_lt, filter}
+use Rattle.std.proofs.lemmas.Grind.{common_steps}
+use Rattle.std.proofs.Common.{rules}
+use Rattle.std.proofs.Common.{◌≡◌, ℕ, zero, suc, ◌<◌, ◌≤◌, ◌⊎◌, Bool, true, false, not, cond, ◌&&◌, List, [], ◌∷◌, ◌++◌, map, Option, Some, None, refl, sym, ◌∙◌, ap, subst, inl, inr, arith}
+use Rattle.std.specs.Prelude.{◌↔◌, is_some, nat_lt, filter}
 use Rattle.std.specs.List.{list_any}
-use Rattle.std.specs.declared.cmp.Ordering.TheVariants.{Less}
-use Rattle.std.specs.Ordering.{is_lt}
 use Rattle.std.proofs.lemmas.Bool.{and_parts, or_cases, and_from, or_left, or_right, ltb-true, lt-ltb, eqb-true, eq-eqb, false_from_ne_true}
-use Rattle.std.proofs.lemmas.Bool.Decides.{nat_tests}
 use Rattle.std.proofs.lemmas.List.Elements.{filter-append}
-use Rattle.timestamps.specs.Bytes.{key_cmp}
 use Rattle.timestamps.specs.declared.row.Row.{Row}
 use Rattle.spans.specs.declared.span.Span.{Span}
 use Rattle.spans.specs.Keys.{in_span}
@@ -31,43 +29,19 @@ RisingRows (r ∷ rows) = ((s : Row) → IsRowIn s rows → row_lt r s ≡ true)
 
 -- no two rows are each before the other
 pub rows_clash : (r s : Row) → row_lt r s ≡ true → row_lt s r ≡ true → ⊥
-rows_clash r s e h = elim (or_cases _ _ e) [
-  | inl less ↦ (let l : r.ts < s.ts = ltb-true _ _ less in elim (or_cases _ _ h) [
-    | inl more ↦ (let m : s.ts < r.ts = ltb-true _ _ more in omega arith)
-    | inr same ↦ (let m : s.ts ≡ r.ts = eqb-true _ _ (and_parts _ _ same).0 in omega arith)
-  ])
-  | inr alike ↦ (let l : r.ts ≡ s.ts = eqb-true _ _ (and_parts _ _ alike).0 in elim (or_cases _ _ h) [
-    | inl more ↦ (let m : s.ts < r.ts = ltb-true _ _ more in omega arith)
-    | inr same ↦ key_clash r.key s.key (less_is _ (and_parts _ _ alike).1) (less_is _ (and_parts _ _ same).1)
-  ])
-]
+rows_clash r s e h = grind (arith, common_steps, or_cases, ltb-true, eqb-true, and_parts, key_clash, less_is)
 
 -- a row before another isn't the same version
 pub before_differs : (r s : Row) → row_lt s r ≡ true → same_version r s ≡ false
-before_differs r s before = false_from_ne_true _ (λ same.
-    let both = and_parts _ _ same in
-    let at : r.ts ≡ s.ts = eqb-true _ _ both.0 in
-    let of : r.key ≡ s.key = same_key r.key s.key both.1 in
-    elim (or_cases _ _ before) [
-      | inl less ↦ (let l : s.ts < r.ts = ltb-true _ _ less in omega arith)
-      | inr alike ↦ (let l : key_cmp s.key r.key ≡ Less = less_is _ (and_parts _ _ alike).1 in
-          let l' : key_cmp s.key s.key ≡ Less = subst (λ k. key_cmp s.key k ≡ Less) of l in
-          key_clash s.key s.key l' l')
-    ])
+before_differs r s before = search (false_from_ne_true, and_parts, eqb-true, same_key, or_cases, ltb-true, less_is, key_clash, rules, arith)
 
 pub in_append : (r : Row) (xs ys : List Row) → IsRowIn r (xs ++ ys) ↔ (IsRowIn r xs ⊎ IsRowIn r ys)
 in_append r [] ys = (λ i. inr i, λ i. elim i [ inl l ↦ absurd l | inr k ↦ k ])
-in_append r (x ∷ xs) ys = let more = in_append r xs ys in (
-  λ i. elim i [ inl here ↦ inl (inl here) | inr there ↦ (elim (more.0 there) [ inl l ↦ inl (inr l) | inr k ↦ inr k ]) ],
-  λ i. elim i [ inl l ↦ (elim l [ inl here ↦ inl here | inr there ↦ inr (more.1 (inl there)) ]) | inr k ↦ inr (more.1 (inr k)) ],
-)
+in_append r (x ∷ xs) ys = grind (arith, common_steps, in_append r xs ys)
 
 pub rises_append : (xs ys : List Row) → RisingRows xs → RisingRows ys → ((r s : Row) → IsRowIn r xs → IsRowIn s ys → row_lt r s ≡ true) → RisingRows (xs ++ ys)
 rises_append [] ys h k before = k
-rises_append (x ∷ xs) ys h k before = (
-  λ s i. elim ((in_append s xs ys).0 i) [ inl l ↦ h.0 s l | inr r ↦ before x s (inl refl) r ],
-  rises_append xs ys h.1 k (λ r s i j. before r s (inr i) j),
-)
+rises_append (x ∷ xs) ys h k before = grind (arith, common_steps, in_append, rises_append xs ys h.1 k)
 
 -- what rises rises in both parts, and the first is before the second
 pub rises_parts : (xs ys : List Row) → RisingRows (xs ++ ys) → RisingRows xs × RisingRows ys × ((r s : Row) → IsRowIn r xs → IsRowIn s ys → row_lt r s ≡ true)
@@ -83,13 +57,7 @@ row p t x = record { ts = t; key = x; after = written_value (write_of p t x) }
 
 in_rows : (p : List Effect) (t : ℕ) (r : Row) (keys : List (List ℕ)) → IsRowIn r (map (row p t) keys) ↔ (IsIn r.key keys × (row p t r.key ≡ r))
 in_rows p t r [] = (λ i. absurd i, λ i. absurd i.0)
-in_rows p t r (x ∷ xs) = let more = in_rows p t r xs in (
-  λ i. elim i [
-    | inl here ↦ (let e : x ≡ r.key = ap (λ (q : Row). q.key) here in (inl e, ap (row p t) (sym e) ∙ here))
-    | inr there ↦ (let m = more.0 there in (inr m.0, m.1))
-  ],
-  λ i. elim i.0 [ inl here ↦ inl (ap (row p t) here ∙ i.1) | inr there ↦ inr (more.1 (there, i.1)) ],
-)
+in_rows p t r (x ∷ xs) = grind (arith, common_steps, in_rows p t r xs)
 
 some_value : (o : Option After) (a : After) → is_some o ≡ true → written_value o ≡ a → o ≡ Some a
 some_value None a e h = cc
@@ -97,12 +65,7 @@ some_value (Some b) a e h = ap Some h
 
 rows_rise : (p : List Effect) (t : ℕ) (keys : List (List ℕ)) → RisingKeys keys → RisingRows (map (row p t) keys)
 rows_rise p t [] h = tt
-rows_rise p t (x ∷ xs) h = (
-  λ s i. let m = (in_rows p t s xs).0 i in
-      let at : t ≡ s.ts = ap (λ (q : Row). q.ts) m.1 in
-      or_right _ _ (and_from _ _ (eq-eqb t s.ts at) (ap is_lt (h.0 s.key m.0))),
-  rows_rise p t xs h.1,
-)
+rows_rise p t (x ∷ xs) h = grind (arith, common_steps, in_rows, or_right, and_from, eq-eqb, rows_rise p t xs h.1)
 
 -- a row of the stream
 pub record IsStreamed (p : List Effect) (span : Span) (c n : ℕ) (r : Row) : Type 0 where
@@ -127,28 +90,7 @@ in_txn_rows p span t r = let m = in_rows p t r (filter (in_span span) (write_set
 
 pub in_stream : (p : List Effect) (span : Span) (c n : ℕ) (r : Row) → IsRowIn r (stream_of p span c n) ↔ IsStreamed p span c n r
 in_stream p span c zero r = (λ i. absurd i, λ s. absurd (omega (arith, s.above, s.low)))
-in_stream p span c (suc t) r =
-    let before = in_stream p span c t r in
-    let join = in_append r (stream_of p span c t) (cond (nat_lt c (suc t) && is_committed p (suc t)) (rows_of p span (suc t)) []) in
-    let now = in_txn_rows p span (suc t) r in (
-      λ i. elim (join.0 i) [
-        | inl earlier ↦ (let s = before.0 earlier in record { above = s.above; low = omega (arith, s.low); done = s.done; inside = s.inside; wrote = s.wrote })
-        | inr here ↦ by_test (nat_lt c (suc t) && is_committed p (suc t))
-            (λ is. let b = and_parts _ _ is in let k = now.0 (rw is at here) in record {
-              above = let l : c < suc t = ltb-true c (suc t) b.0 in omega (arith, k.0);
-              low = omega (arith, k.0);
-              done = subst (λ n. is_committed p n ≡ true) (sym k.0) b.1;
-              inside = k.1;
-              wrote = subst (λ n. write_of p n r.key ≡ Some r.after) (sym k.0) k.2;
-            })
-            (λ isnt. absurd (rw isnt at here))
-      ],
-      λ s. join.1 (by_test (r.ts == suc t)
-          (λ same. let e : r.ts ≡ suc t = eqb-true _ _ same in
-          let is : (nat_lt c (suc t) && is_committed p (suc t)) ≡ true = and_from _ _ (lt-ltb c (suc t) (omega (arith, s.above))) (subst (λ n. is_committed p n ≡ true) e s.done) in
-          inr (rw is (now.1 (e, s.inside, subst (λ n. write_of p n r.key ≡ Some r.after) e s.wrote))))
-          (λ other. inl (before.1 (record { above = s.above; low = grind (arith, nat_tests, s.low); done = s.done; inside = s.inside; wrote = s.wrote })))),
-    )
+in_stream p span c (suc t) r = grind (arith, common_steps, in_append, in_txn_rows, by_test, and_parts, ltb-true, eqb-true, and_from, lt-ltb, in_stream p span c t r)
 
 pub stream_rises : (p : List Effect) (span : Span) (c n : ℕ) → RisingRows (stream_of p span c n)
 stream_rises p span c zero = tt
@@ -169,10 +111,7 @@ is_told rows r = list_any (same_version r) rows
 
 told_in : (r : Row) (rows : List Row) → IsRowIn r rows → is_told rows r ≡ true
 told_in r [] i = absurd i
-told_in r (s ∷ rows) i = elim i [
-  | inl here ↦ or_left _ _ (and_from _ _ (eq-eqb r.ts s.ts (ap (λ (q : Row). q.ts) (sym here))) (subst (λ k. bytes_eq r.key k ≡ true) (ap (λ (q : Row). q.key) (sym here)) (key_itself r.key)))
-  | inr there ↦ or_right _ _ (told_in r rows there)
-]
+told_in r (s ∷ rows) i = grind (arith, common_steps, or_left, and_from, eq-eqb, key_itself, or_right, told_in r rows)
 
 not_told : (r : Row) (rows : List Row) → ((s : Row) → IsRowIn s rows → row_lt s r ≡ true) → is_told rows r ≡ false
 not_told r [] before = refl
@@ -188,7 +127,4 @@ none_told (r ∷ rows) told before = rw (not_told r told (λ s i. before s r i (
 
 -- of rising rows, without those that were told and stand first, the rest is left
 pub left_untold : (told rest : List Row) → RisingRows (told ++ rest) → filter (λ r. not (is_told told r)) (told ++ rest) ≡ rest
-left_untold told rest rises =
-    filter-append (λ r. not (is_told told r)) told rest
-    ∙ ap (λ l. l ++ filter (λ r. not (is_told told r)) rest) (all_told told told (λ r i. i))
-    ∙ none_told rest told (λ s r i j. (rises_parts told rest rises).2 s r i j)
+left_untold told rest rises = grind (arith, common_steps, filter-append, all_told, none_told, rises_parts)

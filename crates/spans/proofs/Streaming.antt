@@ -1,4 +1,5 @@
 -- What a stream goes on with, and what of it stays.
+use Rattle.std.proofs.lemmas.Grind.{common_steps}
 use Rattle.std.proofs.Common.{◌≡◌, ℕ, zero, suc, ◌<◌, ◌≤◌, ◌==◌, false, cond, ◌&&◌, List, [], ◌∷◌, ◌++◌, map, refl, sym, ◌∙◌, ap, arith, append_assoc}
 use Rattle.std.specs.Prelude.{nat_lt, filter}
 use Rattle.std.proofs.lemmas.List.{append-nil}
@@ -17,10 +18,8 @@ use Rattle.spans.proofs.Copies.{Allowed}
 -- what is closed stays, in the stream too
 pub rows_stay : (p : List Effect) (d : Effect) → Allowed p d → (span : Span) (c i : ℕ) → i ≤ closed_of p
     → cond (nat_lt c i && is_committed (d ∷ p) i) (rows_of (d ∷ p) span i) [] ≡ cond (nat_lt c i && is_committed p i) (rows_of p span i) []
-rows_stay p (Writes t y a) allowed span c i low =
-    let other : (t == i) ≡ false = grind (arith, nat_tests, allowed.0.above) in rw other refl
-rows_stay p (Commits t) allowed span c i low =
-    let other : (t == i) ≡ false = grind (arith, nat_tests, allowed.above) in rw other refl
+rows_stay p (Writes t y a) allowed span c i low = grind (arith, common_steps)
+rows_stay p (Commits t) allowed span c i low = grind (arith, common_steps)
 rows_stay p (_) allowed span c i low = refl
 
 pub stream_stays : (p : List Effect) (d : Effect) → Allowed p d → (span : Span) (c n : ℕ) → n ≤ closed_of p → stream_of (d ∷ p) span c n ≡ stream_of p span c n

@@ -1,4 +1,6 @@
 -- The versions of a history, by their names.
+use Rattle.std.proofs.lemmas.Grind.{common_steps}
+use Rattle.std.proofs.Common.{arith}
 use Rattle.std.proofs.Common.{Bool, List, not, inr, refl, None, Option, subst, false, ap, true, Some, inl, sym, cond, map, ◌≡◌, ◌∷◌, ◌∙◌, ℕ, []}
 use Rattle.std.specs.Prelude.{filter, flat_map, is_some, ◌↔◌}
 use Rattle.spans.specs.Collection.{VersionName, versions_of, version_name}
@@ -42,10 +44,7 @@ has_of p v [] = (λ i. absurd i, λ i. absurd i.0)
 has_of p v (t ∷ ts) =
     let join = has_append v (map (named t) (write_set p t)) (names_of p ts) in
     let here = has_named t v (write_set p t) in
-    let more = has_of p v ts in (
-      λ i. elim (join.0 i) [ inl l ↦ (let h = here.0 l in (inl h.0, subst (λ n. Has v.key (write_set p n)) h.0 h.1)) | inr r ↦ (let m = more.0 r in (inr m.0, m.1)) ],
-      λ i. join.1 (elim i.0 [ inl e ↦ inl (here.1 (e, subst (λ n. Has v.key (write_set p n)) (sym e) i.1)) | inr k ↦ inr (more.1 (k, i.1)) ]),
-    )
+    grind (arith, common_steps, has_of p v ts)
 
 -- distinct transactions have distinct versions
 distinct_of : (p : List Effect) (ts : List ℕ) → AreDistinct ts → AreDistinct (names_of p ts)

@@ -1,5 +1,6 @@
 -- A consumer has the map at each resolved timestamp.
-use Rattle.std.proofs.Common.{◌≡◌, ℕ, zero, suc, ◌<◌, ◌≤◌, Bool, true, false, cond, ◌&&◌, ◌||◌, List, [], ◌∷◌, ◌++◌, map, Option, Some, None, refl, sym, ◌∙◌, ap, subst, arith, append_assoc}
+use Rattle.std.proofs.lemmas.Grind.{common_steps}
+use Rattle.std.proofs.Common.{◌≡◌, ℕ, zero, suc, ◌<◌, ◌≤◌, Bool, true, false, cond, ◌&&◌, ◌||◌, List, [], ◌∷◌, ◌++◌, map, Option, Some, None, refl, sym, ◌∙◌, ap, arith, append_assoc}
 use Rattle.std.specs.Prelude.{is_some, bytes_eq, nat_lt, filter}
 use Rattle.std.proofs.lemmas.List.{append-nil}
 use Rattle.std.proofs.lemmas.Bool.{ltb-true}
@@ -135,8 +136,4 @@ list_views p feed t x low =
 
 pub views : (p : List Effect) (f : ℕ) (feed : Feed) → DividesList p feed [] (told_to p f) → ResolvedRise (start_of feed) (told_to p f) → (before rest : List Message) (t : ℕ) → told_to p f ≡ before ++ messages.Resolved t ∷ rest
     → (x : List ℕ) → view_of (seed_of feed.kind p feed.span feed.cursor) before x ≡ span_part feed.span (map_at p t) x
-views p f feed divides rises before rest t is x =
-    let above : start_of feed < t = rises_at (start_of feed) before rest t (subst (ResolvedRise (start_of feed)) is rises) in
-    ap (λ m. m x) (view_rows (seed_of feed.kind p feed.span feed.cursor) before)
-    ∙ ap (λ rs. by_rows (seed_of feed.kind p feed.span feed.cursor) rs x) (divides_at p feed [] before rest t (subst (DividesList p feed []) is divides))
-    ∙ list_views p feed t x (start_next feed.kind feed.cursor t above)
+views p f feed divides rises before rest t is x = grind (arith, common_steps, rises_at, view_rows, divides_at, list_views, start_next)

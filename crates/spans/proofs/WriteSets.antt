@@ -1,5 +1,7 @@
 -- Which keys are among those that a transaction wrote.
-use Rattle.std.proofs.Common.{◌≡◌, ℕ, ◌==◌, Bool, true, false, ◌&&◌, ◌||◌, List, [], ◌∷◌, refl, sym, ◌∙◌, ap, subst, inl, inr}
+use Rattle.std.proofs.lemmas.Grind.{common_steps}
+use Rattle.std.proofs.Common.{arith}
+use Rattle.std.proofs.Common.{◌≡◌, ℕ, Bool, true, false, ◌&&◌, ◌||◌, List, [], ◌∷◌, refl, sym, ◌∙◌, ap}
 use Rattle.std.specs.Prelude.{◌↔◌, is_some, bytes_eq, filter}
 use Rattle.std.specs.List.{list_any}
 use Rattle.std.specs.declared.cmp.Ordering.{Ordering}
@@ -38,33 +40,18 @@ has_added x y (z ∷ zs) = by_order (key_cmp y z) refl (has_added x y zs)
 
 pub has_written : (p : List Effect) (t : ℕ) (x : List ℕ) → has x (write_set p t) ≡ is_some (write_of p t x)
 has_written [] t x = refl
-has_written (Writes k y a ∷ p) t x = by_test (k == t)
-    (λ same. rw same (has_added x y (write_set p t) ∙ by_test (bytes_eq y x)
-    (λ here. rw here refl)
-    (λ there. rw there (has_written p t x))))
-    (λ other. rw other (has_written p t x))
+has_written (Writes k y a ∷ p) t x = grind (arith, common_steps, by_test, has_added, has_written p t x)
 has_written (_ ∷ p) t x = has_written p t x
 
 pub has_filtered : (q : List ℕ → Bool) (x : List ℕ) (keys : List (List ℕ)) → has x (filter q keys) ≡ (q x && has x keys)
 has_filtered q x [] = sym (and-false (q x))
-has_filtered q x (y ∷ ys) = by_test (bytes_eq y x)
-    (λ here. by_test (q y)
-    (λ in'. rw (in', here) (let e : q x ≡ true = subst (λ k. q k ≡ true) (same_key y x here) in' in rw e refl))
-    (λ out. rw out (has_filtered q x ys ∙ (let e : q x ≡ false = subst (λ k. q k ≡ false) (same_key y x here) out in rw e refl))))
-    (λ there. by_test (q y)
-    (λ in'. rw (in', there) (has_filtered q x ys))
-    (λ out. rw (out, there) (has_filtered q x ys)))
+has_filtered q x (y ∷ ys) = grind (arith, common_steps, by_test, same_key, has_filtered q x ys)
 
 pub has_in : (x : List ℕ) (keys : List (List ℕ)) → IsIn x keys ↔ (has x keys ≡ true)
 has_in x [] = (λ i. absurd i, λ e. cc)
-has_in x (y ∷ ys) = let more = has_in x ys in (
-  λ i. elim i [ inl here ↦ or_left _ _ (subst (λ z. bytes_eq z x ≡ true) (sym here) (key_itself x)) | inr there ↦ or_right _ _ (more.0 there) ],
-  λ e. elim (or_cases _ _ e) [ inl here ↦ inl (same_key y x here) | inr there ↦ inr (more.1 there) ],
-)
+has_in x (y ∷ ys) = grind (arith, common_steps, or_left, key_itself, or_right, or_cases, same_key, has_in x ys)
 
 pub write_set_rises : (p : List Effect) (t : ℕ) → RisingKeys (write_set p t)
 write_set_rises [] t = tt
-write_set_rises (Writes k x a ∷ p) t = by_test (k == t)
-    (λ same. rw same (add_rises x (write_set p t) (write_set_rises p t)))
-    (λ other. rw other (write_set_rises p t))
+write_set_rises (Writes k x a ∷ p) t = grind (arith, common_steps, by_test, add_rises, write_set_rises p t)
 write_set_rises (_ ∷ p) t = write_set_rises p t

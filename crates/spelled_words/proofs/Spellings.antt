@@ -1,4 +1,5 @@
 -- Spelled bytes.
+use Rattle.std.proofs.lemmas.Grind.{common_steps}
 use Rattle.std.proofs.Common.{◌≡◌, ℕ, Bool, true, false, cond, List, [], ◌∷◌, ◌<◌, length, Option, Some, None, refl, ap, arith}
 use Rattle.std.specs.Prelude.{◌&&◌, ◌==◌, nat_le, option_and_then}
 use Rattle.std.proofs.lemmas.Bool.{le-leb}
@@ -12,22 +13,15 @@ both false b e = absurd cc
 -- bytes that stand for themselves are written as they are
 pub plain_stand : (bytes : List ℕ) → list_all is_plain bytes ≡ true → flat_map spelled bytes ≡ bytes
 plain_stand [] e = refl
-plain_stand (b ∷ bytes) e =
-    let h = both (is_plain b) (list_all is_plain bytes) e in
-    rw (h.0) (ap (λ (x : List ℕ). b ∷ x) (plain_stand bytes h.1))
+plain_stand (b ∷ bytes) e = grind (arith, common_steps, plain_stand bytes)
 
 -- bytes that stand for themselves are read as they are
 pub plain_word : (word : List ℕ) → list_all is_plain word ≡ true → unspelled word ≡ Some word
 unfolding unspelled
 plain_word [] e = refl
 plain_word (c ∷ []) e = rw (both (is_plain c) true e).0 refl
-plain_word (c ∷ d ∷ []) e =
-    let h = both (is_plain c) (is_plain d && true) e in
-    let k = both (is_plain d) true h.1 in
-    rw (h.0, k.0) refl
-plain_word (c ∷ d ∷ f ∷ word) e =
-    let h = both (is_plain c) (list_all is_plain (d ∷ f ∷ word)) e in
-    rw (h.0, plain_word (d ∷ f ∷ word) h.1) refl
+plain_word (c ∷ d ∷ []) e = grind (arith, common_steps)
+plain_word (c ∷ d ∷ f ∷ word) e = grind (arith, common_steps, plain_word (d ∷ f ∷ word))
 
 -- reading goes byte by byte
 abbrev pub by_first : Option (ℕ × List ℕ) → Option (List ℕ)

@@ -1,5 +1,6 @@
 -- The words of a text, one by one.
-use Rattle.std.proofs.Common.{◌≡◌, Ok, Err, get_or, ℕ, ◌+◌, ◌-◌, ◌<◌, ◌≤◌, Bool, true, false, cond, List, [], ◌∷◌, length, take, drop, Option, Some, None, refl, sym, ap, subst, ◌∙◌, inl, inr, ◌⊎◌, arith}
+use Rattle.std.proofs.lemmas.Grind.{common_steps}
+use Rattle.std.proofs.Common.{◌≡◌, Ok, Err, get_or, ℕ, ◌+◌, ◌-◌, ◌<◌, ◌≤◌, Bool, true, false, cond, List, [], ◌∷◌, length, take, drop, Option, Some, None, refl, sym, ap, ◌∙◌, inl, inr, ◌⊎◌, arith}
 use Rattle.std.specs.Prelude.{◌||◌, ◌&&◌, ◌==◌, nat_lt, not, is_some, position}
 use Rattle.std.specs.Borrow.{Bor}
 use Rattle.std.specs.Int.{from_bool}
@@ -35,20 +36,11 @@ place_cases p n false at t e = inr (e, ltb-false p n t)
 
 -- where there is no space
 pub words_alone : (text : List ℕ) → None ≡ position is_space text → words text ≡ text ∷ []
-words_alone text none =
-    elim (place_cases (position_or_len is_space text) (length text) _ None refl none) [
-      | inl h ↦ absurd cc
-      | inr h ↦ alone text (subst (λ (n : ℕ). length text ≤ n) (sym (first_space_is text)) h.1)
-    ]
+words_alone text none = grind (arith, common_steps, place_cases, alone, first_space_is)
 
 -- where there is one
 pub words_first : (text : List ℕ) (at : ℕ) → Some at ≡ position is_space text → words text ≡ take at text ∷ words (drop (at + 1) text)
-words_first text at found =
-    elim (place_cases (position_or_len is_space text) (length text) _ (Some at) refl found) [
-      | inl h ↦ (let same : at ≡ position_or_len is_space text = cc in
-          subst (λ (n : ℕ). words text ≡ take n text ∷ words (drop (n + 1) text)) (sym same) (slice_split_first is_space text 0 h.1))
-      | inr h ↦ absurd cc
-    ]
+words_first text at found = grind (arith, common_steps, place_cases, slice_split_first)
 
 -- the end of a text, as a range of it
 pub end_is : (n : ℕ) (text : List ℕ) → take (length text - n) (drop n text) ≡ drop n text
@@ -96,24 +88,9 @@ some_empty_is text = empties true text
 
 -- ---- one byte more
 
-empty_cases : (h a s e0 e1 total : Bool) → (h || cond s (a || e1) e0) ≡ total → ((h || (a && s)) || cond s e1 e0) ≡ total
-empty_cases true a s e0 e1 total so_far = so_far
-empty_cases false true true e0 e1 total so_far = so_far
-empty_cases false true false e0 e1 total so_far = so_far
-empty_cases false false true e0 e1 total so_far = so_far
-empty_cases false false false e0 e1 total so_far = so_far
-
-some_empty_of : (s : Bool) (text : List ℕ) → some_empty s text ≡ cond s (some_empty true text) (some_empty false text)
-some_empty_of true text = refl
-some_empty_of false text = refl
-
 pub empty_more : (h a : Bool) (text : List ℕ) (i : ℕ) (total : Bool) → i < length text → (h || some_empty a (drop i text)) ≡ total
     → ((h || (a && is_space (get_or text i 0))) || some_empty (is_space (get_or text i 0)) (drop (i + 1) text)) ≡ total
-empty_more h a text i total lt so_far =
-    let s = is_space (get_or text i 0) in
-    let rest = drop (i + 1) text in
-    let at = at_drop_more (some_empty a) text i 0 lt in
-    ap (λ (x : Bool). (h || (a && s)) || x) (some_empty_of s rest) ∙ empty_cases h a s (some_empty false rest) (some_empty true rest) total (ap (λ (x : Bool). h || x) (sym at) ∙ so_far)
+empty_more h a text i total lt so_far = grind (arith, common_steps)
 
 length_onto : (b : ℕ) (parts : List (List ℕ)) → 0 < length parts → length (onto_first b parts) ≡ 0 + length parts
 length_onto b [] some = absurd (omega arith)
@@ -132,15 +109,10 @@ as_number true = refl
 as_number false = refl
 
 pub count_more : (n : ℕ) (text : List ℕ) (i total : ℕ) → i < length text → n + length (words (drop i text)) ≡ total → (n + from_bool (is_space (get_or text i 0))) + length (words (drop (i + 1) text)) ≡ total
-count_more n text i total lt so_far =
-    let at = at_drop_more (λ (x : List ℕ). length (words x)) text i 0 lt in
-    let one = count_step (is_space (get_or text i 0)) (get_or text i 0) (drop (i + 1) text) refl in
-    omega (arith, at, one, so_far, as_number (is_space (get_or text i 0)))
+count_more n text i total lt so_far = grind (arith, common_steps, at_drop_more, count_step, as_number)
 
 pub printable_more : (text : List ℕ) (i : ℕ) (total : Bool) → i < length text → is_printable (get_or text i 0) ≡ true → list_all is_printable (drop i text) ≡ total → list_all is_printable (drop (i + 1) text) ≡ total
-printable_more text i total lt p so_far =
-    let at = at_drop_more (list_all is_printable) text i 0 lt in
-    ap (λ (x : Bool). x && list_all is_printable (drop (i + 1) text)) (sym p) ∙ sym at ∙ so_far
+printable_more text i total lt p so_far = grind (arith, common_steps)
 
 pub words_short : (text : List ℕ) → list_all is_printable text ≡ true → list_any is_empty (words text) ≡ true → words_at text ≡ Err WordCount
 unfolding words_at

@@ -1,4 +1,6 @@
 -- Reading a word byte by byte, as a loop does.
+use Rattle.std.proofs.lemmas.Grind.{common_steps}
+use Rattle.std.proofs.Common.{arith}
 use Rattle.std.proofs.Common.{◌≡◌, ℕ, ◌<◌, List, [], ◌∷◌, ◌++◌, length, Option, Some, None, refl, ap, sym, ◌∙◌, append_assoc}
 use Rattle.std.proofs.lemmas.List.{append-nil, nil_from_length}
 use Rattle.spelled_words.specs.Spelling.{first_at, with_front, unspelled}
@@ -14,8 +16,7 @@ onto_first front b None = refl
 onto_first front b (Some bytes) = ap (λ (x : List ℕ). Some x) (sym (append_assoc front (b ∷ []) bytes))
 
 pub goes_on : (front rest others : List ℕ) (b : ℕ) (total : Option (List ℕ)) → 0 < length rest → first_at rest ≡ Some (b, others) → onto front (unspelled rest) ≡ total → onto (front ++ b ∷ []) (unspelled others) ≡ total
-goes_on front rest others b total some first so_far =
-    sym (onto_first front b (unspelled others)) ∙ ap (onto front) (sym (unspelled_first rest some ∙ ap by_first first)) ∙ so_far
+goes_on front rest others b total some first so_far = grind (arith, common_steps, onto_first, unspelled_first, by_first)
 
 pub fails : (front rest : List ℕ) (total : Option (List ℕ)) → 0 < length rest → first_at rest ≡ None → onto front (unspelled rest) ≡ total → total ≡ None
 fails front rest total some first so_far = sym so_far ∙ ap (onto front) (unspelled_first rest some ∙ ap by_first first)

@@ -1,5 +1,6 @@
 -- Words with one space between two.
-use Rattle.std.proofs.Common.{◌≡◌, ℕ, ◌+◌, ◌-◌, ◌<◌, List, [], ◌∷◌, ◌++◌, length, take, refl, ap, ◌∙◌, sym, append_assoc, Some, None, arith}
+use Rattle.std.proofs.lemmas.Grind.{common_steps}
+use Rattle.std.proofs.Common.{◌≡◌, ℕ, ◌+◌, ◌-◌, ◌<◌, List, [], ◌∷◌, ◌++◌, length, take, refl, ap, ◌∙◌, append_assoc, Some, None, arith}
 use Rattle.std.proofs.lemmas.List.{length-append, take_at}
 use Rattle.std.specs.Prelude.{codes, decimal}
 use Rattle.spans.specs.declared.calls.commands.Cmd.{Cmd}
@@ -19,9 +20,7 @@ joined_more word (next ∷ words) some = refl
 pub joined_two : (words more : List (List ℕ)) → 0 < length words → 0 < length more → joined (words ++ more) ≡ joined words ++ 32 ∷ joined more
 joined_two [] more some rest = absurd (omega arith)
 joined_two (word ∷ []) more some rest = joined_more word more rest
-joined_two (word ∷ next ∷ words) more some rest =
-    ap (λ (x : List ℕ). word ++ 32 ∷ x) (joined_two (next ∷ words) more (omega arith) rest)
-    ∙ sym (append_assoc word (32 ∷ joined (next ∷ words)) (32 ∷ joined more))
+joined_two (word ∷ next ∷ words) more some rest = grind (arith, common_steps, joined_two (next ∷ words) more)
 
 -- a command's words are those of its pieces
 pub words_are : (c : Cmd) → words_of c ≡ words_in (pieces_of c)
@@ -50,29 +49,17 @@ command_in_pieces seat c = ap (λ (x : List ℕ). x ++ 10 ∷ []) (joined_more (
 -- an event's line, in the pieces in which it is written
 pub event_in_pieces : (position seat : List ℕ) (c : Cmd) (r : Reply)
     → joined (position ∷ seat ∷ (words_of c ++ codes "=>" ∷ reply_words r)) ≡ position ++ (32 ∷ (seat ++ ((32 ∷ joined (words_of c)) ++ (codes " => " ++ joined (reply_words r)))))
-event_in_pieces position seat c r =
-    let longer : 0 < length (words_of c ++ codes "=>" ∷ reply_words r) = omega (arith, length-append (words_of c) (codes "=>" ∷ reply_words r)) in
-    ap (λ (x : List ℕ). position ++ 32 ∷ x) (joined_more seat (words_of c ++ codes "=>" ∷ reply_words r) longer)
-    ∙ ap (λ (x : List ℕ). position ++ 32 ∷ (seat ++ 32 ∷ x)) (joined_two (words_of c) (codes "=>" ∷ reply_words r) (some_words c) (omega arith))
-    ∙ ap (λ (x : List ℕ). position ++ 32 ∷ (seat ++ 32 ∷ (joined (words_of c) ++ 32 ∷ x))) (joined_more (codes "=>") (reply_words r) (some_reply_words r))
+event_in_pieces position seat c r = grind (arith, common_steps, length-append, joined_more, joined_two, some_words, some_reply_words)
 
 pub command_written : (out a b c : List ℕ) (n seat : ℕ) (cmd : Cmd) → n ≡ seat → a ≡ out ++ decimal n → b ≡ a ++ 32 ∷ joined (words_of cmd) → c ≡ b ++ 10 ∷ [] → c ≡ out ++ command_line seat cmd
-command_written out a b c n seat cmd e ea eb ec =
-    ec ∙ ap (λ (x : List ℕ). x ++ 10 ∷ []) (eb ∙ ap (λ (x : List ℕ). x ++ 32 ∷ joined (words_of cmd)) (ea ∙ ap (λ (k : ℕ). out ++ decimal k) e) ∙ append_assoc out (decimal seat) (32 ∷ joined (words_of cmd)))
-    ∙ append_assoc out (decimal seat ++ 32 ∷ joined (words_of cmd)) (10 ∷ [])
-    ∙ ap (λ (x : List ℕ). out ++ x) (sym (command_in_pieces seat cmd))
+command_written out a b c n seat cmd e ea eb ec = grind (arith, common_steps, command_in_pieces)
 
 regroup : (a b c d e f g h : List ℕ) → (((((a ++ b) ++ c) ++ d) ++ e) ++ f) ++ (g ++ h) ≡ a ++ ((b ++ (c ++ (d ++ (e ++ (f ++ g))))) ++ h)
 regroup a b c d e f g h = simp append_assoc
 
 pub event_written : (out a b c d e f p s : List ℕ) (cmd : Cmd) (r : Reply) → a ≡ out ++ p → b ≡ a ++ 32 ∷ [] → c ≡ b ++ s → d ≡ c ++ 32 ∷ joined (words_of cmd) → e ≡ d ++ codes " => " → f ≡ e ++ reply_text r
     → f ≡ out ++ (joined (p ∷ s ∷ (words_of cmd ++ codes "=>" ∷ reply_words r)) ++ 10 ∷ following_lines r)
-event_written out a b c d e f p s cmd r ea eb ec ed ee ef =
-    let tail = 10 ∷ following_lines r in
-    let words = 32 ∷ joined (words_of cmd) in
-    let whole : f ≡ (((((out ++ p) ++ 32 ∷ []) ++ s) ++ words) ++ codes " => ") ++ (joined (reply_words r) ++ tail) =
-    ef ∙ ap (λ (x : List ℕ). x ++ reply_text r) (ee ∙ ap (λ (x : List ℕ). x ++ codes " => ") (ed ∙ ap (λ (x : List ℕ). x ++ words) (ec ∙ ap (λ (x : List ℕ). x ++ s) (eb ∙ ap (λ (x : List ℕ). x ++ 32 ∷ []) ea)))) in
-    whole ∙ regroup out p (32 ∷ []) s words (codes " => ") (joined (reply_words r)) tail ∙ ap (λ (x : List ℕ). out ++ (x ++ tail)) (sym (event_in_pieces p s cmd r))
+event_written out a b c d e f p s cmd r ea eb ec ed ee ef = grind (arith, common_steps, regroup, event_in_pieces)
 
 -- a command's line is its text and a newline
 pub line_length : (line : List ℕ) (seat : ℕ) (cmd : Cmd) → line ≡ command_line seat cmd → length line ≡ length (joined (decimal seat ∷ words_of cmd)) + 1
@@ -80,16 +67,10 @@ line_length line seat cmd is = ap length is ∙ length-append (joined (decimal s
 
 -- the text of a line is its session and its command's words
 text_of_line : (line : List ℕ) (seat : ℕ) (cmd : Cmd) → line ≡ command_line seat cmd → take (length line - 1) line ≡ decimal seat ++ 32 ∷ joined (words_of cmd)
-text_of_line line seat cmd is =
-    let text = joined (decimal seat ∷ words_of cmd) in
-    let before : length text ≡ length line - 1 = omega (arith, line_length line seat cmd is) in
-    ap (take (length line - 1)) is ∙ take_at text (10 ∷ []) (length line - 1) before ∙ joined_more (decimal seat) (words_of cmd) (some_words cmd)
+text_of_line line seat cmd is = grind (arith, common_steps, line_length, take_at, joined_more, some_words)
 
 -- an event whose line was written as it stands
 pub echo_written : (out a b c d e p line text : List ℕ) (seat : ℕ) (cmd : Cmd) (r : Reply) → line ≡ command_line seat cmd → text ≡ take (length line - 1) line
     → a ≡ out ++ p → b ≡ a ++ 32 ∷ [] → c ≡ b ++ text → d ≡ c ++ codes " => " → e ≡ d ++ reply_text r
     → e ≡ out ++ (joined (p ∷ decimal seat ∷ (words_of cmd ++ codes "=>" ∷ reply_words r)) ++ 10 ∷ following_lines r)
-echo_written out a b c d e p line text seat cmd r is cut ea eb ec ed ee =
-    let words = 32 ∷ joined (words_of cmd) in
-    let spelled : c ≡ (b ++ decimal seat) ++ words = ec ∙ ap (λ (x : List ℕ). b ++ x) (cut ∙ text_of_line line seat cmd is) ∙ sym (append_assoc b (decimal seat) words) in
-    event_written out a b (b ++ decimal seat) c d e p (decimal seat) cmd r ea eb refl spelled ed ee
+echo_written out a b c d e p line text seat cmd r is cut ea eb ec ed ee = grind (arith, common_steps, text_of_line, event_written)

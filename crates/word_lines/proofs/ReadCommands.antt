@@ -1,9 +1,10 @@
 -- What is read as a command is written so.
-use Rattle.std.proofs.Common.{◌≡◌, ℕ, ◌+◌, ◌-◌, ◌<◌, Bool, true, false, cond, List, [], ◌∷◌, ◌++◌, length, get_or, take, Option, Some, Ok, Err, refl, sym, ap, subst, ◌∙◌, inl, inr, arith}
+use Rattle.std.proofs.lemmas.Grind.{common_steps}
+use Rattle.std.proofs.Common.{◌≡◌, ℕ, ◌+◌, ◌-◌, ◌<◌, Bool, true, false, cond, List, [], ◌∷◌, ◌++◌, length, take, Option, Some, Ok, Err, refl, sym, ap, subst, ◌∙◌, arith}
 use Rattle.std.specs.Prelude.{decimal, map, bytes_eq, ok_or, not, ◌==◌, nat_lt}
 use Rattle.std.specs.List.{AllByRecursion, list_all, list_any}
-use Rattle.std.proofs.lemmas.Bool.{eqb-true, eq-eqb, le-ltb, cases_lt, not-false}
-use Rattle.std.proofs.lemmas.List.{take_more, take_all, append-nil, nil_from_length, length-append, get_or_past}
+use Rattle.std.proofs.lemmas.Bool.{eqb-true, eq-eqb, le-ltb, not-false}
+use Rattle.std.proofs.lemmas.List.{append-nil, nil_from_length, length-append}
 use Rattle.std.proofs.lemmas.List.Splits.{join_with_byte-slice_split}
 use Rattle.std.proofs.lemmas.Slice.Eq.{bytes_eq-Decides}
 use Rattle.text_format.specs.declared.Format.{Format}
@@ -103,12 +104,7 @@ row_named v = grind arith
 
 -- a line that has a newline is what stands before it, and the newline
 with_newline : (line : List ℕ) → has_newline line ≡ true → line ≡ take (length line - 1) line ++ 10 ∷ []
-with_newline line e =
-    let last : get_or line (length line - 1) 0 ≡ 10 = eqb-true _ _ e in
-    elim (cases_lt 0 (length line)) [
-      | inl some ↦ sym (take_all (length line - 1 + 1) line (omega arith)) ∙ take_more line (length line - 1) 0 (omega arith) ∙ ap (λ (b : ℕ). take (length line - 1) line ++ b ∷ []) last
-      | inr none ↦ absurd (omega (arith, sym last ∙ get_or_past line (length line - 1) 0 (omega arith)))
-    ]
+with_newline line e = grind (arith, common_steps)
 
 module _ (format : Format) where
   pub text_found : (line text : List ℕ) → text_at format line ≡ Ok text → line ≡ text ++ 10 ∷ []

@@ -1,5 +1,7 @@
 -- The parts of a command, word by word.
-use Rattle.std.proofs.Common.{◌≡◌, List, ◌∷◌, [], ◌++◌, ℕ, Result, Ok, refl, sym, ap, subst, ◌∙◌, append_assoc}
+use Rattle.std.proofs.lemmas.Grind.{common_steps}
+use Rattle.std.proofs.Common.{arith}
+use Rattle.std.proofs.Common.{◌≡◌, List, ◌∷◌, [], ◌++◌, ℕ, Result, Ok, refl, subst, append_assoc}
 use Rattle.std.specs.Prelude.{decimal}
 use Rattle.std.specs.List.{AllByRecursion}
 use Rattle.text_format.specs.declared.Format.{Format}
@@ -30,8 +32,7 @@ two_read {A} {B} {read} {next} {show} {tell} {Is} {Holds} first second = record 
       let b = bind_ok (next a.0.1) (λ b. Ok ((a.0.0, b.0), b.1)) x a.2 in
       let f = first.found words a.0 a.1 in
       let s = second.found a.0.1 b.0 b.1 in
-      subst (λ (y : (A × B) × List (List ℕ)). (words ≡ (show y.0.0 ++ tell y.0.1) ++ y.1) × (Is y.0.0 × Holds y.0.1)) (ok_is ((a.0.0, b.0.0), b.0.1) x b.2)
-      (f.0 ∙ ap (λ (v : List (List ℕ)). show a.0.0 ++ v) s.0 ∙ sym (append_assoc (show a.0.0) (tell b.0.0) b.0.1), (f.1, s.1));
+      grind (arith, common_steps);
   again = λ p rest is. rw (append_assoc (show p.0) (tell p.1) rest, first.again p.0 (tell p.1 ++ rest) is.0, second.again p.1 rest is.1) refl;
   are = λ p is. words_then (show p.0) (tell p.1) (first.are p.0 is.0) (second.are p.1 is.1);
 }
@@ -46,8 +47,7 @@ three_read {A} {B} {C} {read} {next} {show} {tell} {Holds} Is Has first second =
       let b = bind_ok (next a.0.1) (λ b. Ok ((a.0.0.0, a.0.0.1, b.0), b.1)) x a.2 in
       let f = first.found words a.0 a.1 in
       let s = second.found a.0.1 b.0 b.1 in
-      subst (λ (y : (A × B × C) × List (List ℕ)). (words ≡ (show (y.0.0, y.0.1) ++ tell y.0.2) ++ y.1) × (Is y.0.0 × Has y.0.1 × Holds y.0.2)) (ok_is ((a.0.0.0, a.0.0.1, b.0.0), b.0.1) x b.2)
-      (f.0 ∙ ap (λ (v : List (List ℕ)). show a.0.0 ++ v) s.0 ∙ sym (append_assoc (show a.0.0) (tell b.0.0) b.0.1), (f.1.0, f.1.1, s.1));
+      grind (arith, common_steps);
   again = λ p rest is. rw (append_assoc (show (p.0, p.1)) (tell p.2) rest, first.again (p.0, p.1) (tell p.2 ++ rest) (is.0, is.1), second.again p.2 rest is.2) refl;
   are = λ p is. words_then (show (p.0, p.1)) (tell p.2) (first.are (p.0, p.1) (is.0, is.1)) (second.are p.2 is.2);
 }

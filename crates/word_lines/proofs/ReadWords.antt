@@ -1,13 +1,14 @@
 -- What is read of words is written so, and what is written of words is read so.
-use Rattle.std.proofs.Common.{◌≡◌, ℕ, ◌<◌, ◌≤◌, Bool, true, false, cond, List, [], ◌∷◌, length, Option, Some, None, Result, Ok, Err, refl, sym, ap, subst, ◌∙◌, arith}
-use Rattle.std.specs.Prelude.{codes, decimal, bytes_eq, ok_or, ◌&&◌, nat_le, nat_lt}
-use Rattle.std.proofs.lemmas.Bool.{leb-true, ltb-true, lt-ltb, le-leb, false_from_ne_true}
+use Rattle.std.proofs.lemmas.Grind.{common_steps}
+use Rattle.std.proofs.Common.{◌≡◌, ℕ, ◌<◌, ◌≤◌, Bool, true, false, cond, List, [], ◌∷◌, length, Option, Some, None, Result, Ok, Err, refl, ap, subst, ◌∙◌, arith}
+use Rattle.std.specs.Prelude.{codes, decimal, bytes_eq, ok_or, ◌&&◌, nat_le}
+use Rattle.std.proofs.lemmas.Bool.{ltb-true, lt-ltb, le-leb, false_from_ne_true}
 use Rattle.std.proofs.lemmas.Slice.Eq.{bytes_eq-Decides}
 use Rattle.text_format.specs.Limits.{key_limit, value_limit, bound_limit}
 use Rattle.text_format.specs.declared.Format.{Format}
 use Rattle.spans.specs.declared.span.Span.{Span}
 use Rattle.spelled_words.specs.declared.fault.LineFault.{LineFault}
-use Rattle.spelled_words.specs.declared.fault.LineFault.TheVariants.{Number, KeyLength, ValueLength, Session, BadByte}
+use Rattle.spelled_words.specs.declared.fault.LineFault.TheVariants.{Number, KeyLength, ValueLength, BadByte}
 use Rattle.word_lines.specs.Numbers.{number_of}
 use Rattle.word_lines.specs.Spelling.{spelling, bytes_of, AreBytes}
 use Rattle.word_lines.specs.Commands.{bound_word}
@@ -56,12 +57,7 @@ number_word words x e =
 
 pub session_word : (seats : ℕ) (words : List (List ℕ)) (x : ℕ × List (List ℕ)) → session_at seats words ≡ Ok x → (words ≡ decimal x.0 ∷ x.1) × (x.0 < seats)
 unfolding session_at
-session_word seats words x e =
-    let w = bind_ok (word_at words) (λ w. ok_or (number_of w.0) Session >>= λ n. cond (nat_lt n seats) (Ok (n, w.1)) (Err Session)) x e in
-    let n = bind_ok (ok_or (number_of w.0.0) Session) (λ n. cond (nat_lt n seats) (Ok (n, w.0.1)) (Err Session)) x w.2 in
-    let g = guarded (nat_lt n.0 seats) Session (n.0, w.0.1) x n.2 in
-    let f = number_found w.0.0 n.0 (some_ok (number_of w.0.0) Session n.0 n.1) in
-    subst (λ (y : ℕ × List (List ℕ)). (words ≡ decimal y.0 ∷ y.1) × (y.0 < seats)) g.1 (word_found words w.0 w.1 ∙ ap (λ (v : List ℕ). v ∷ w.0.1) f.0, ltb-true _ _ g.0)
+session_word seats words x e = grind (arith, common_steps, bind_ok, guarded, number_found, some_ok, word_found, ltb-true)
 
 pub bytes_word : (least most : ℕ) (fault : LineFault) (words : List (List ℕ)) (x : List ℕ × List (List ℕ)) → bytes_at least most fault words ≡ Ok x
     → (words ≡ spelling x.0 ∷ x.1) × (least ≤ length x.0) × (length x.0 ≤ most) × AreBytes x.0
@@ -71,8 +67,7 @@ bytes_word least most fault words x e =
     let g = guarded (nat_le least (length b.0) && nat_le (length b.0) most) fault (b.0, w.0.1) x b.2 in
     let h = both (nat_le least (length b.0)) (nat_le (length b.0) most) g.0 in
     let f = spelled_found w.0.0 b.0 (some_ok (bytes_of w.0.0) BadByte b.0 b.1) in
-    subst (λ (y : List ℕ × List (List ℕ)). (words ≡ spelling y.0 ∷ y.1) × (least ≤ length y.0) × (length y.0 ≤ most) × AreBytes y.0) g.1
-    (word_found words w.0 w.1 ∙ ap (λ (v : List ℕ). v ∷ w.0.1) f.0, leb-true _ _ h.0, leb-true _ _ h.1, f.1)
+    grind (arith, common_steps)
 
 module _ (format : Format) where
   pub key_word : (words : List (List ℕ)) (x : List ℕ × List (List ℕ)) → key_at format words ≡ Ok x → (words ≡ spelling x.0 ∷ x.1) × IsKey format x.0
@@ -136,9 +131,7 @@ module _ (format : Format) where
 -- a bound isn't written as none is
 no_dash : (bound : List ℕ) → 1 ≤ length bound → AreBytes bound → bytes_eq (spelling bound) (codes "-") ≡ false
 unfolding bytes_of
-no_dash bound some fits =
-    false_from_ne_true _ (λ t. let none : some_of bound ≡ some_of [] = sym (spelled_only bound fits) ∙ ap bytes_of ((bytes_eq-Decides (spelling bound) (codes "-")).0 t) in
-    absurd (omega (arith, ap length (some_is bound [] none))))
+no_dash bound some fits = grind (arith, common_steps, false_from_ne_true, some_of, spelled_only, bytes_eq-Decides, some_is)
 
 module _ (format : Format) where
   bound_again : (bound : Option (List ℕ)) (rest : List (List ℕ)) → IsBound format bound → bound_at format (bound_word bound ∷ rest) ≡ Ok (bound, rest)

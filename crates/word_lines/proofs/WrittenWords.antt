@@ -1,8 +1,10 @@
 -- What is written of a command is words, and not too long.
-use Rattle.std.proofs.Common.{◌≡◌, ℕ, ◌+◌, ◌*◌, ◌/◌, ◌%◌, ◌<◌, ◌≤◌, Bool, true, false, cond, List, [], ◌∷◌, ◌++◌, length, Option, Some, None, refl, ap, ◌∙◌, inl, inr, lit<, arith}
-use Rattle.std.specs.Prelude.{decimal, ◌&&◌, ◌==◌, nat_le, not}
+use Rattle.std.proofs.lemmas.Grind.{common_steps}
+use Rattle.std.proofs.Common.{rules}
+use Rattle.std.proofs.Common.{◌≡◌, ℕ, ◌+◌, ◌*◌, ◌/◌, ◌%◌, ◌<◌, ◌≤◌, Bool, true, false, cond, List, [], ◌∷◌, ◌++◌, length, Option, Some, None, refl, ap, ◌∙◌, lit<, arith}
+use Rattle.std.specs.Prelude.{decimal, ◌==◌}
 use Rattle.std.specs.List.{AllByRecursion, list_all, flat_map}
-use Rattle.std.proofs.lemmas.Bool.{le-leb, lt-ltb, le-ltb, cases_lt}
+use Rattle.std.proofs.lemmas.Bool.{le-leb}
 use Rattle.std.proofs.lemmas.Fmt.{decimal_nonempty, length-decimal-le}
 use Rattle.std.proofs.lemmas.List.{length-append}
 use Rattle.std.proofs.lemmas.List.Folds.{list_all-append}
@@ -17,7 +19,6 @@ use Rattle.word_lines.specs.declared.table.Verb.{Verb}
 use Rattle.word_lines.specs.Limits.{IsNumber, IsBound, AreParts, IsCommand}
 use Rattle.word_lines.proofs.Joining.{words_are}
 use Rattle.word_lines.proofs.JoinedParts.{is_graphic, IsWord, decimal_all}
-use Rattle.word_lines.proofs.Spellings.{both}
 
 -- a byte from `!` to `~`
 graphic : (b : ℕ) → 33 ≤ b → b ≤ 126 → is_graphic b ≡ true
@@ -34,11 +35,7 @@ pub number_length : (n : ℕ) → IsNumber n → length (decimal n) ≤ 20
 number_length n lt = length-decimal-le 20 n (lit< tt) (omega arith) lt
 
 hex_graphic : (d : ℕ) → d < 16 → is_graphic (hex_digit d) ≡ true
-hex_graphic d small =
-    elim (cases_lt d 10) [
-      | inl lt ↦ ap (λ (b : Bool). is_graphic (cond b (48 + d) (55 + d))) (lt-ltb d 10 lt) ∙ graphic (48 + d) (omega arith) (omega arith)
-      | inr le ↦ ap (λ (b : Bool). is_graphic (cond b (48 + d) (55 + d))) (le-ltb d 10 le) ∙ graphic (55 + d) (omega arith) (omega arith)
-    ]
+hex_graphic d small = grind (arith, common_steps)
 
 -- a byte is spelled by one to three bytes from `!` to `~`
 record IsSpelled (word : List ℕ) (most : ℕ) : Type 0 where
@@ -50,9 +47,7 @@ escape_spelled : (b : ℕ) → b < 256 → IsSpelled (escape b) 3
 escape_spelled b small = record { graphic = rw (hex_graphic (b / 16) (omega arith), hex_graphic (b % 16) (omega arith)) refl; some = omega arith; few = omega arith }
 
 byte_spelled : (plain : Bool) (b : ℕ) → is_plain b ≡ plain → b < 256 → IsSpelled (cond plain (b ∷ []) (escape b)) 3
-byte_spelled true b e small =
-    let h = both (nat_le 33 b && nat_le b 126) (not (b == 37)) e in
-    record { graphic = rw h.0 refl; some = omega arith; few = omega arith }
+byte_spelled true b e small = grind (arith, common_steps)
 byte_spelled false b e small = escape_spelled b small
 
 bytes_graphic : (bytes : List ℕ) → AreBytes bytes → list_all is_graphic (flat_map spelled bytes) ≡ true
@@ -61,11 +56,7 @@ bytes_graphic (b ∷ bytes) fits = list_all-append is_graphic (spelled b) (flat_
 
 bytes_length : (bytes : List ℕ) → AreBytes bytes → (length bytes ≤ length (flat_map spelled bytes)) × (length (flat_map spelled bytes) ≤ 3 * length bytes)
 bytes_length [] fits = (omega arith, omega arith)
-bytes_length (b ∷ bytes) fits =
-    let one = byte_spelled (is_plain b) b refl fits.0 in
-    let rest = bytes_length bytes fits.1 in
-    let whole = length-append (spelled b) (flat_map spelled bytes) in
-    (omega (arith, one.some, rest.0, whole), omega (arith, one.few, rest.1, whole))
+bytes_length (b ∷ bytes) fits = grind (arith, common_steps, bytes_length bytes fits.1)
 
 alone_spelled : (dash : Bool) (b : ℕ) → b < 256 → IsSpelled (cond dash (escape 45) (spelled b)) 4
 alone_spelled true b small = let s = escape_spelled 45 (lit< tt) in record { graphic = s.graphic; some = s.some; few = omega (arith, s.few) }
@@ -75,9 +66,7 @@ spelling_spelled : (bytes : List ℕ) → AreBytes bytes → IsSpelled (spelling
 unfolding spelling
 spelling_spelled [] fits = record { graphic = refl; some = omega arith; few = omega arith }
 spelling_spelled (b ∷ []) fits = let s = alone_spelled (b == 45) b fits.0 in record { graphic = s.graphic; some = s.some; few = omega (arith, s.few) }
-spelling_spelled (b ∷ c ∷ bytes) fits =
-    let l = bytes_length (b ∷ c ∷ bytes) fits in
-    record { graphic = bytes_graphic (b ∷ c ∷ bytes) fits; some = omega (arith, l.0); few = omega (arith, l.1) }
+spelling_spelled (b ∷ c ∷ bytes) fits = search (bytes_length, graphic, bytes_graphic, rules, arith)
 
 -- the spelling of bytes is a word
 pub bytes_word : (bytes : List ℕ) → AreBytes bytes → IsWord (spelling bytes)

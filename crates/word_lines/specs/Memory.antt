@@ -7,7 +7,7 @@ use Rattle.spelled_words.specs.Memory.{is_long}
 use Rattle.word_lines.specs.declared.table.Verb.{Verb}
 use Rattle.word_lines.specs.Words.{words, text_at}
 use Rattle.word_lines.specs.Table.{Row, Signature, NumberKey, NumberKeyValue, NumberSpan, SpanNumber, SpanNumbers, layout_of}
-use Rattle.word_lines.specs.Reading.{◌>>=◌, session_at, row_at}
+use Rattle.word_lines.specs.Reading.{session_at, row_at, ◌>>=◌}
 
 -- the words behind a name that are keys, values or bounds
 abbrev pub byte_parts : Signature → List (List ℕ) → List (List ℕ)

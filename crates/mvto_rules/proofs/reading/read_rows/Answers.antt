@@ -1,4 +1,4 @@
-use Rattle.std.proofs.Common.{ap, arith, refl, rules, subst, sym, ◌<◌, ◌≡◌, ◌∙◌, []}
+use Rattle.std.proofs.Common.{ap, arith, rules, subst, sym, ◌<◌, ◌≡◌, ◌∙◌, []}
 use Rattle.std.specs.Map.{keys_of}
 use Rattle.std.specs.Map.Iter.{deref_pair}
 use Rattle.std.specs.Option.{option_copied}

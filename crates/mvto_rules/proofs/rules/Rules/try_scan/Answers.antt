@@ -1,4 +1,4 @@
-use Rattle.std.proofs.Common.{None, subst, sym, ◌≡◌, ◌∙◌}
+use Rattle.std.proofs.Common.{None, subst, ◌≡◌, ◌∙◌}
 use Rattle.spans.proofs.Results.{any_err}
 use Rattle.kept.specs.Changes.{IsScannedBy}
 use Rattle.mvto_rules.specs.Holding.{holding}

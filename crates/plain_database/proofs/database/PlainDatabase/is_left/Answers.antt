@@ -1,4 +1,4 @@
-use Rattle.std.proofs.Common.{◌≡◌, ◌∙◌, Bool, Option, Some, None, ap, arith, false, true, not, refl, sym}
+use Rattle.std.proofs.Common.{◌≡◌, ◌∙◌, Bool, Option, Some, None, ap, arith, false, true, not, refl}
 use Rattle.std.specs.Prelude.{is_none, is_some, nat_le}
 use Rattle.plain_database.proofs.Dumping.{valued}
 use Rattle.plain_database.proofs.database.PlainDatabase.is_left.Goals as goal

@@ -1,4 +1,4 @@
-use Rattle.std.proofs.Common.{◌∙◌, ◌++◌, ◌∷◌, [], Vec, ap, false, true, sym}
+use Rattle.std.proofs.Common.{◌∙◌, ◌++◌, ◌∷◌, [], ap, false, true, sym}
 use Rattle.spans.specs.Effects.{effects_of}
 use Rattle.timestamps.specs.declared.row.Row.{Row}
 use Rattle.plain_database.proofs.Dumping.{left_more}
