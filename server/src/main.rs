@@ -19,12 +19,12 @@
 //!
 //! `api` is beside that life: a transaction in one request, keys and rows, as JSON.
 //!
-//! Beside them: `door` (the lock, and turns), `seats` (the 64 seats), `consumers` and `names` (what consumers have
-//! stored, held while they are down), `lag` (rows closed above a timestamp), `transcript` (the events kept), `reports`,
-//! `metrics`, `dump`, `connections` (how many, and which are silent or stuck), `budget` (bytes that wait), `ws`, `query`,
-//! `refusal`, `options`, `tokens`, `tls`, `notify`, `log`, `page`, `before` (values before a feed's rows), `cuts` (where
-//! a long walk may be cut), `faults` (their words), `heap` (one for all threads), `memory` (how full it is), `growth`
-//! (what grows though it is full), `reserve` (what is taken beside the database).
+//! Beside them: `door` (the lock, turns, and the lane of long work), `seats` (the 64 seats), `consumers` and `names`
+//! (what consumers have stored, held while they are down), `lag` (rows closed above a timestamp), `transcript` (the
+//! events kept), `reports`, `metrics`, `dump`, `connections` (how many, and which are silent or stuck), `budget` (bytes
+//! that wait), `ws`, `query`, `refusal`, `options`, `tokens`, `tls`, `notify`, `log`, `page`, `before` (values before a
+//! feed's rows), `cuts` (where a long walk may be cut), `faults` (their words), `heap` (one for all threads), `memory`
+//! (how full it is), `growth` (what grows though it is full), `reserve` (what is taken beside the database).
 //!
 //! Three rules hold everywhere. All calls are made under one lock, which no one holds over an await. The database alone
 //! decides: the ledger only follows its answers, and where an answer isn't as the ledger foretells, the server says so

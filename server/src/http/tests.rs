@@ -204,6 +204,24 @@ fn half_an_escape_is_refused_wherever_it_stands() {
     }
 }
 
+#[test]
+fn a_feed_is_polled_first_once_its_stream_has_the_lane() {
+    let server = server(&[]);
+    let told = run(async {
+        let connection = server.connections.come(([127, 0, 0, 1], 1).into()).expect("a place");
+        let (ours, mut client) = duplex(1 << 16);
+        tokio::spawn(serve(connection.watch(ours), server.clone(), connection));
+        let lane = server.door.keep_lane().await;
+        client.write_all(format!("GET /feed HTTP/1.1\r\n{OWN}\r\n").as_bytes()).await.expect("there is room");
+        tokio::time::sleep(Duration::from_secs(3)).await;
+        let waiting = server.streams.told().0;
+        drop(lane);
+        tokio::time::sleep(Duration::from_secs(3)).await;
+        (waiting, server.streams.told().0)
+    });
+    assert_eq!(told, (0, 1));
+}
+
 // ---- drawn bodies
 
 /// Some lines, and what they are answered.

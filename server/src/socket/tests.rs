@@ -1,7 +1,7 @@
 use super::end::POLICY;
 use super::*;
 use crate::seats::EndedBy;
-use crate::testing::server;
+use crate::testing::{say, server};
 use tokio::io::{duplex, DuplexStream};
 
 /// A session's socket, and its client's end.
@@ -127,6 +127,27 @@ async fn a_session_that_is_silent_for_too_long_is_told_so() {
     assert_eq!(told, closed(POLICY, "silent"));
     drop(client);
     running.await.expect("it doesn't panic");
+}
+
+#[tokio::test(start_paused = true)]
+async fn a_session_that_waits_for_the_lane_can_be_cut() {
+    let (socket, mut client) = socket(&[]);
+    let (server, connection) = (socket.seated.server.clone(), socket.connection.clone());
+    server.door.run(|core| {
+        let mut one = crate::testing::session(core);
+        let rows: String = (0..5).map(|row| format!("put . k{row} {}\n", "v".repeat(65_000))).collect();
+        say(core, &mut one, &format!("begin\n{rows}commit .\n"));
+        crate::testing::end(core, &one);
+    });
+    let calls = || server.door.run(|core| core.ledger.calls);
+    let (before, lane) = (calls(), server.door.keep_lane().await);
+    client.write_all(&frame("scanat 1 - -\n")).await.expect("there is room");
+    let mut running = Box::pin(socket.run());
+    assert!(timeout(Duration::from_secs(5), &mut running).await.is_err());
+    connection.cut();
+    timeout(4 * LINGER, running).await.expect("it ends");
+    assert_eq!((server.door.run(|core| core.seats.count()), calls()), (0, before));
+    drop(lane);
 }
 
 #[tokio::test(start_paused = true)]
