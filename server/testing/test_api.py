@@ -7,12 +7,15 @@ import asyncio
 import contextlib
 import json
 import os
+import random
 import sys
+import time
 import unittest
 
 sys.path[:0] = [os.path.dirname(os.path.abspath(__file__))]
 import aiohttp  # noqa: E402
 
+from machine import LONGEST  # noqa: E402
 from test_served import refusal, served, told  # noqa: E402
 
 
@@ -35,6 +38,37 @@ async def undecided(client, lines):
         await socket.send_str(lines)
         await socket.receive()
         yield socket
+
+
+ACCOUNTS = ["acc/%d" % at for at in range(4)]
+MOVES = 20  # of each client
+LONGEST_PAUSE = 0.01  # seconds
+
+
+class Mover:
+    """A client that moves money between accounts. Behind a lost race it waits for a while that is drawn: those that have
+    met would else meet again and again, and the one that always comes second would never win."""
+
+    def __init__(self, client, draw):
+        self.client, self.dice = client, random.Random(draw)
+        self.moves, self.lost = [], 0  # timestamp, balances as they were read, balances as they were written
+
+    async def move(self, end):
+        while len(self.moves) < MOVES and time.monotonic() < end:
+            accounts = self.dice.sample(ACCOUNTS, 2)
+            rows = (await transact(self.client, {"then": [{"get": account} for account in accounts]}))[1]["results"]
+            read = {row["key"]: int(row["value"]) for row in rows}
+            written = {account: read[account] + step for account, step in zip(accounts, (-1, 1))}
+            same = [{"key": row["key"], "version": row["version"]} for row in rows]
+            pairs = ((account, str(balance)) for account, balance in written.items())
+            status, answer, _ = await transact(self.client, {"if": same, **put(*pairs)})
+            if status == 200:
+                self.moves.append((int(answer["timestamp"]), read, written))
+            elif (status, answer["error"]) == (409, "condition"):
+                self.lost += 1
+                await asyncio.sleep(self.dice.random() * LONGEST_PAUSE)
+            else:
+                raise AssertionError("%d %s" % (status, answer))
 
 
 def at_address(client, address):
@@ -117,26 +151,22 @@ class Transactions(unittest.IsolatedAsyncioTestCase):
             self.assertEqual((await client.get("/rows")).status, 200)
 
     async def test_money_stays_where_many_move_it_at_once(self):
-        """Read, compare and write, by several clients at once: what is lost to a race is refused."""
+        """Read, compare and write, by several clients at once: what is lost to a race is refused, and is read anew."""
         async with served() as client:
-            await transact(client, put(*(("acc/%d" % at, "100") for at in range(4))))
-
-            async def move(count, at):
-                moved = 0
-                for turn in range(count):
-                    keys = ["acc/%d" % ((at + turn) % 4), "acc/%d" % ((at + 2 * turn + 1) % 4)]
-                    if keys[0] == keys[1]:
-                        continue
-                    rows = (await transact(client, {"then": [{"get": key} for key in keys]}))[1]["results"]
-                    changed = [str(int(row["value"]) + step) for row, step in zip(rows, (-1, 1))]
-                    same = [{"key": row["key"], "version": row["version"]} for row in rows]
-                    moved += (await transact(client, {"if": same, **put(*zip(keys, changed))}))[0] == 200
-                return moved
-
-            moved = await asyncio.gather(*(move(50, at) for at in range(8)))
-            self.assertTrue(all(moved))
+            await transact(client, put(*((account, "100") for account in ACCOUNTS)))
+            end = time.monotonic() + LONGEST
+            movers = [Mover(client, draw) for draw in range(8)]
+            await asyncio.gather(*(mover.move(end) for mover in movers))
+            # In their order each has read what those before it have left, so none was lost and none counts twice.
+            balances = dict.fromkeys(ACCOUNTS, 100)
+            for timestamp, read, written in sorted(sum((mover.moves for mover in movers), []), key=lambda move: move[0]):
+                self.assertEqual(read, {account: balances[account] for account in read}, timestamp)
+                balances.update(written)
             rows = json.loads(await (await client.get("/rows?lo=acc/&hi=acc0")).text())["rows"]
-            self.assertEqual(sum(int(row["value"]) for row in rows), 400)
+            self.assertEqual({row["key"]: int(row["value"]) for row in rows}, balances)
+            self.assertEqual(sum(balances.values()), 400)
+            self.assertEqual({len(mover.moves) for mover in movers}, {MOVES}, [mover.lost for mover in movers])
+            self.assertTrue(any(mover.lost for mover in movers), "none has met another one")
 
 
 class Remembered(unittest.IsolatedAsyncioTestCase):
