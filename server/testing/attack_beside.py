@@ -68,6 +68,10 @@ def test_eight_clients_with_transactions_that_scan_4_megabytes(room: Room, scale
     return beside(room, "large_plans", "8", ask="put")
 
 
+def test_eight_clients_with_transactions_that_compare_9_megabytes(room: Room, scale: Scale) -> str:
+    return beside(room, "compared_plans", "8", ask="put")
+
+
 def test_four_clients_with_transactions_of_10000_conditions(room: Room, scale: Scale) -> str:
     return beside(room, "long_plans", "4", ask="put")
 

@@ -21,6 +21,7 @@ from handmade import HANDSHAKE, Cut, Session, Wire, bearer, fill, framed
 TOKEN = ""
 PAUSE = 0.05  # seconds before a client that was thrown out comes again
 MOST_ROWS = 32768  # of a scan that the library lets through
+HOLDERS: list[Session] = []  # of snapshots, as long as threads ask
 
 
 def say(word: str) -> None:
@@ -322,6 +323,17 @@ def large_plans(port: int, count: int = 8) -> None:
     """So many clients that scan 4 MB in a transaction."""
     fill_pages(port)
     all_ask(port, count, 200, "POST", "/transact", '{"then":[{"scan":["paged/","paged0"],"limit":10000}]}')
+
+
+def compared_plans(port: int, count: int = 8) -> None:
+    """So many clients that compare 9 MB with a snapshot, in a transaction."""
+    fill_pages(port)
+    HOLDERS.append(session(port))
+    closed = closed_at(HOLDERS[0])
+    if "=> protected" not in (told := HOLDERS[0].call("protect %s\n" % closed)):
+        raise ValueError(told)
+    plan = '{"if":[{"span":["paged/","paged0"],"unchanged":"%s"}],"then":[{"get":"paged/"}]}' % closed
+    all_ask(port, count, 200, "POST", "/transact", plan)
 
 
 def long_plans(port: int, count: int = 8) -> None:
