@@ -165,7 +165,7 @@ impl Core {
         let most = self.most_age();
         while let Some((since, ts)) = self.ledger.eldest().filter(|(since, _)| since.elapsed() > most) {
             let Some(transaction) = self.ledger.undecided.get(&ts) else { break };
-            self.abort("old_transaction", transaction.seat, ts);
+            self.abort("old_transaction", transaction.owner, ts);
             if self.ledger.eldest() == Some((since, ts)) {
                 break; // for want of memory: again in a second
             }
@@ -195,7 +195,7 @@ impl Core {
 
     fn abort_idle(&mut self, until: Instant) -> Turn {
         while let Some((seat, ts)) = self.seats.idle() {
-            self.abort("idle_transaction", seat, ts);
+            self.abort("idle_transaction", Owner::Seat(seat), ts);
             if self.ledger.undecided.contains_key(&ts) {
                 break; // for want of memory: again in a second
             }
@@ -206,9 +206,9 @@ impl Core {
         Turn::Done
     }
 
-    fn abort(&mut self, why: &'static str, seat: u8, ts: u64) {
-        self.log.warn(why, &[("timestamp", ts.into()), ("seat", seat.into())]);
-        self.demand(Owner::Seat(seat), Command::Abort { ts }, &Outcome::Aborted { ts });
+    fn abort(&mut self, why: &'static str, owner: Owner, ts: u64) {
+        self.log.warn(why, &[("timestamp", ts.into()), ("seat", owner.seat().into())]);
+        self.demand(owner, Command::Abort { ts }, &Outcome::Aborted { ts });
     }
 
     fn let_go_names(&mut self, _until: Instant) -> Turn {
@@ -363,7 +363,7 @@ pub async fn tidy(door: &Door, resident: Option<u64>) {
         door.run(|core| core.watch_memory(resident));
     }
     for step in STEPS {
-        door.turns(step).await;
+        door.turns(|core, until, _| step(core, until)).await;
     }
     door.ring();
 }

@@ -13,7 +13,7 @@ use crate::api::holds::Holds;
 use crate::api::pages::Page;
 use crate::closing::Closing;
 use crate::cuts::{Cuts, Write};
-use crate::door::Turn;
+use crate::door::{Length, Turn};
 use crate::journal::recovery::Recovered;
 use crate::journal::Journal;
 use crate::ledger::{Ledger, Reason};
@@ -288,9 +288,13 @@ impl Core {
         }
     }
 
-    /// Ends what a session has left, and frees its seat, in turns.
-    pub fn end(&mut self, seat: u8, until: Instant) -> Turn {
+    /// Ends what a session has left, and frees its seat, in turns: `Turn::Long` before a call that is longer than it may.
+    pub fn end(&mut self, seat: u8, until: Instant, length: Length) -> Turn {
         while let Some(taken) = self.seats.taken_mut(seat) {
+            let first = taken.begun.first();
+            if length == Length::Short && first.is_some_and(|&ts| self.ledger.takes_long_to_decide(ts)) {
+                return Turn::Long;
+            }
             // What can't be ended for want of memory is the work of each second: it isn't asked for here again.
             if let Some(ts) = taken.begun.pop_first() {
                 self.demand(Owner::Seat(seat), Command::Abort { ts }, &Outcome::Aborted { ts });

@@ -9,19 +9,21 @@
 //! 4. `moved` changes after the lock was given back, so who is woken finds it free.
 //! 5. Work that may hold the lock for longer than a turn goes one at a time, in the order in which it came: who has such
 //!    work takes the lane for it before it waits for the lock. So who comes with short work waits for one such at most.
+//!    A transaction that is read in turns keeps the lane between them: so one is undecided meanwhile.
 //! 6. Behind work that took too long while others waited, the lane rests. So long work leaves two thirds of the time
 //!    to others, however much of it there is.
 //! 7. Who works in the lane holds up its own thread alone. A thread of the runtime looks after the sockets of all
 //!    others too, so it hands that on before.
-//! 8. No one has the lane who waits for anything but the lane's rest and the lock. Who goes away gives it back.
+//! 8. No one has the lane who waits for anything but a turn, the lane's rest and the lock. Who goes away gives it back.
 //!
 //! What is long is known before, by its size, or shows itself within the time of a short one, and then begins anew in the
 //! lane. What isn't found out so is known behind it: who overran its turn takes the lane for the next one.
 //!
 //! ```text
 //! door.run(|core| core.ledger.closed)                       a short look
-//! door.turns(|core, until| core.end(seat, until)).await     work that can be cut: 5 ms, and again
-//! door.turn_of(plan.length(), |core, _| ..).await           work that can't: in the lane, where it may be long
+//! door.turns(|core, until, _| ..).await                     work that can be cut: 5 ms, and again
+//! door.turn_of(Length::Long, |core, _| ..).await            work that can't: in the lane
+//! door.turns_in_lane(|core, _| plan.turn(core)).await       work of many turns, beside which no other long work goes on
 //! ```
 
 use crate::core::Core;
@@ -144,6 +146,19 @@ impl Door {
         }
     }
 
+    /// Work in turns, which keeps the lane from its first turn to its last one: that gives something. So other long work
+    /// waits for all of it, and short work for one turn.
+    pub async fn turns_in_lane<R>(&self, mut work: impl FnMut(&mut Core, Instant) -> Option<R>) -> R {
+        let _lane = self.lane().await;
+        loop {
+            if let (Some(result), _) = aside(|| self.measured(&mut work)) {
+                return result;
+            }
+            tokio::task::yield_now().await;
+            self.rested().await;
+        }
+    }
+
     /// Keeps the lane, as long work does.
     #[cfg(test)]
     pub async fn keep_lane(&self) -> SemaphorePermit<'_> {
@@ -153,11 +168,16 @@ impl Door {
     /// Waits for the lane, and until it has rested.
     async fn lane(&self) -> SemaphorePermit<'_> {
         let lane = self.lane.acquire().await.expect("it is never closed");
+        self.rested().await;
+        lane
+    }
+
+    /// Waits until the lane has rested.
+    async fn rested(&self) {
         let left = self.rests.lock().saturating_duration_since(Instant::now());
         if !left.is_zero() {
             sleep(left).await;
         }
-        lane
     }
 
     fn measured<R>(&self, work: impl FnOnce(&mut Core, Instant) -> R) -> (R, Length) {
@@ -175,12 +195,12 @@ impl Door {
         })
     }
 
-    /// Work in turns, to its end.
-    pub async fn turns(&self, mut work: impl FnMut(&mut Core, Instant) -> Turn) {
+    /// Work in turns, to its end. It is told how long its next call may be.
+    pub async fn turns(&self, mut work: impl FnMut(&mut Core, Instant, Length) -> Turn) {
         let mut length = Length::Short;
         loop {
-            let (turn, was) = self.turn_of(length, &mut work).await;
-            length = was;
+            let (turn, was) = self.turn_of(length, |core, until| work(core, until, length)).await;
+            length = if turn == Turn::Long { Length::Long } else { was };
             match turn {
                 Turn::Done => return,
                 Turn::More | Turn::Crowded | Turn::Long => tokio::task::yield_now().await,
@@ -343,10 +363,42 @@ mod tests {
     }
 
     #[tokio::test]
+    async fn between_two_turns_in_the_lane_short_work_is_done_and_long_work_waits() {
+        let server = server(&[]);
+        let (door, order, mut turns) = (&server.door, Mutex::new(Vec::new()), 0);
+        let first = door.turns_in_lane(|_, _| {
+            order.lock().push("turn");
+            turns += 1;
+            (turns == 3).then_some(turns)
+        });
+        let long = door.turn_of(Length::Long, |_, _| order.lock().push("long"));
+        let short = async { door.run(|_| order.lock().push("short")) };
+        assert_eq!(tokio::join!(first, long, short).0, 3);
+        assert_eq!(*order.lock(), ["turn", "short", "turn", "turn", "long"]);
+        assert_eq!(door.lane.available_permits(), 1);
+    }
+
+    #[tokio::test]
+    async fn work_in_turns_takes_the_lane_where_it_asks_for_that() {
+        let server = server(&[]);
+        let (door, mut had) = (&server.door, Vec::new());
+        door.turns(|_, _, length| {
+            had.push((length, door.lane.available_permits()));
+            if length == Length::Short {
+                Turn::Long
+            } else {
+                Turn::Done
+            }
+        })
+        .await;
+        assert_eq!(had, [(Length::Short, 1), (Length::Long, 0)]);
+    }
+
+    #[tokio::test]
     async fn work_in_turns_takes_the_lane_behind_a_turn_that_was_long() {
         let server = server(&[]);
         let (door, mut had) = (&server.door, Vec::new());
-        door.turns(|_, _| {
+        door.turns(|_, _, _| {
             had.push(door.lane.available_permits() == 0);
             if had.len() == 1 {
                 sleep(LONG);

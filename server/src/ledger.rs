@@ -34,7 +34,7 @@ pub type Name = Arc<str>;
 /// An undecided transaction.
 #[derive(Clone, Copy, Debug)]
 pub struct Transaction {
-    pub seat: u8,
+    pub owner: Owner,
     pub since: Instant,
     /// How often it wrote a row, and bytes of the lines that did.
     pub wrote: Amount,
@@ -102,6 +102,8 @@ pub struct Closings {
 
 /// Rows above its floor that a feed passes over within a turn.
 const NEAR: u64 = 5000;
+/// Rows of a transaction that is decided in some 2 milliseconds.
+const FEW: u64 = 5000;
 /// Closings within this time are one entry of `Ledger::closings`.
 const ONE_ENTRY: Duration = Duration::from_millis(10);
 
@@ -233,6 +235,11 @@ impl Ledger {
         self.protected.iter().filter_map(|&(_, number)| Some((number, self.protections.get(&number)?)))
     }
 
+    /// Whether the commit or the abort of a transaction holds the lock for longer than a turn.
+    pub fn takes_long_to_decide(&self, ts: u64) -> bool {
+        self.undecided.get(&ts).is_some_and(|transaction| transaction.wrote.rows > FEW)
+    }
+
     /// Changes, by an error, once a transaction is decided.
     pub fn decision_of(&mut self, ts: u64) -> watch::Receiver<()> {
         match self.undecided.contains_key(&ts) {
@@ -280,7 +287,7 @@ impl Ledger {
 
     fn started(&mut self, seats: &mut Seats, owner: Owner, ts: u64) {
         let since = Instant::now();
-        self.undecided.insert(ts, Transaction { seat: owner.seat(), since, wrote: Amount::default() });
+        self.undecided.insert(ts, Transaction { owner, since, wrote: Amount::default() });
         self.ages.insert((since, ts));
         self.greatest = self.greatest.max(ts);
         self.growth.begin(self.greatest);
@@ -302,7 +309,7 @@ impl Ledger {
         self.growth.decide();
         self.ages.remove(&(transaction.since, ts));
         self.awaited.remove(&ts);
-        if let Some(taken) = seats.taken_mut(transaction.seat) {
+        if let Some(taken) = seats.of_mut(transaction.owner) {
             taken.begun.remove(&ts);
         }
         self.decided = true;

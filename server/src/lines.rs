@@ -48,7 +48,6 @@ use std::time::Instant;
 const GREATEST_LENGTH: usize = 19; // digits of the greatest timestamp
 const MOST_POLLED: u64 = 63; // messages: at their longest they have 4 MB, which --max-answer lets through
 const SHORT: usize = 1 << 18; // bytes of rows or messages that take some 2 milliseconds
-const MOST_WRITTEN: u64 = 5000; // rows of a transaction that take as long to decide
 
 /// What a session may do.
 #[derive(Clone, Copy, Debug)]
@@ -243,8 +242,7 @@ fn takes_long(core: &Core, session: &Session, line: &[u8]) -> bool {
         b"poll" => number().is_some_and(|feed| core.ledger.is_far_behind(feed)),
         b"commit" | b"abort" => {
             let timestamp = if rest == b"." { session.last } else { number() };
-            let transaction = timestamp.and_then(|timestamp| core.ledger.undecided.get(&timestamp));
-            transaction.is_some_and(|transaction| transaction.wrote.rows > MOST_WRITTEN)
+            timestamp.is_some_and(|timestamp| core.ledger.takes_long_to_decide(timestamp))
         }
         b"collect" | b"closehard" => true,
         _ => false,
@@ -314,6 +312,9 @@ fn prepared(core: &Core, session: &mut Session, line: &[u8], is_spoiled: bool) -
     check_right(session, command)?;
     check_keys(session, command, rest.unwrap_or(b""))?;
     match (command, rest) {
+        (b"get" | b"scan" | b"put" | b"del" | b"commit" | b"abort", Some(rest)) if is_the_servers(core, rest) => {
+            Err(Fault::NotYours)
+        }
         (b"commit" | b"abort", _) if is_spoiled => Ok(dot(session, b"abort", line)),
         _ if is_spoiled => Err(Fault::Skipped),
         (b"begin", _) => begin(core, session, line, rest),
@@ -396,6 +397,13 @@ fn begin(core: &Core, session: &mut Session, line: &[u8], rest: Option<&[u8]>) -
     // Half a line is never taken for a line.
     let is_drawn = rest.is_none() && line.ends_with(b"\n");
     Ok(is_drawn.then(|| format!("begin {}\n", core.ledger.next_timestamp()).into_bytes()))
+}
+
+/// Whether a line names a transaction that a request runs. A session may have the server's own seat.
+fn is_the_servers(core: &Core, rest: &[u8]) -> bool {
+    let number = rest.split(|&byte| byte == b' ').next().and_then(number_in);
+    let transaction = number.and_then(|timestamp| core.ledger.undecided.get(&timestamp));
+    transaction.is_some_and(|transaction| transaction.owner == Owner::Server)
 }
 
 /// Whether a line is of the transaction that the session began last, by a dot.

@@ -228,7 +228,7 @@ fn transaction(timestamp: u64, one: &Transaction, now: Instant) -> String {
     Object::new()
         .text("kind", "transaction")
         .digits("timestamp", timestamp)
-        .count("seat", u64::from(one.seat))
+        .count("seat", u64::from(one.owner.seat()))
         .seconds("age", now.saturating_duration_since(one.since))
         .line()
 }

@@ -65,9 +65,9 @@ impl Seated {
 impl Drop for Seated {
     fn drop(&mut self) {
         let seat = self.session.seat;
-        if self.server.door.turn(|core, until| core.end(seat, until)) != Turn::Done {
+        if self.server.door.turn(|core, until| core.end(seat, until, Length::Short)) != Turn::Done {
             let server = self.server.clone();
-            tokio::spawn(async move { server.door.turns(|core, until| core.end(seat, until)).await });
+            tokio::spawn(async move { server.door.turns(|core, until, length| core.end(seat, until, length)).await });
         }
     }
 }

@@ -5,7 +5,7 @@ use crate::budget::Budget;
 use crate::closing;
 use crate::connections::Connections;
 use crate::core::Core;
-use crate::door::{Door, Turn};
+use crate::door::{Door, Length, Turn};
 use crate::gate::{Gate, Who};
 use crate::http::{Request, Response};
 use crate::journal::Ticket;
@@ -117,7 +117,7 @@ pub fn session(core: &mut Core) -> Session {
 
 pub fn end(core: &mut Core, session: &Session) {
     let far = Instant::now() + Duration::from_secs(60);
-    assert_eq!(core.end(session.seat, far), Turn::Done);
+    assert_eq!(core.end(session.seat, far, Length::Long), Turn::Done);
 }
 
 /// The answers to some lines as they come, in one turn.

@@ -426,8 +426,36 @@ fn a_session_ends_in_turns() {
     let mut one = session(&mut core);
     answers(&mut core, &mut one, &"begin\n".repeat(5));
     let past = Instant::now();
-    let turns = std::iter::from_fn(|| (core.end(one.seat, past) == Turn::More).then_some(())).count();
+    let turns = std::iter::from_fn(|| (core.end(one.seat, past, Length::Long) == Turn::More).then_some(())).count();
     assert_eq!((turns, core.ledger.undecided.len(), core.seats.count()), (6, 0, 0));
+}
+
+#[test]
+fn a_session_with_a_transaction_of_many_rows_ends_in_the_lane() {
+    let mut core = core(&["--keep", "10"]);
+    let [mut few, mut many] = [(); 2].map(|()| session(&mut core));
+    let far = Instant::now() + Duration::from_secs(60);
+    for (one, count, turn, left) in [(&mut few, 5000, Turn::Done, 0), (&mut many, 5001, Turn::Long, 1)] {
+        answers(&mut core, one, &format!("begin\n{}", "put . a 1\n".repeat(count)));
+        assert_eq!((core.end(one.seat, far, Length::Short), core.ledger.undecided.len()), (turn, left));
+        assert_eq!((core.end(one.seat, far, Length::Long), core.ledger.undecided.len()), (Turn::Done, 0));
+    }
+    assert_eq!((core.shouts, core.seats.count()), (0, 0));
+}
+
+#[test]
+fn no_line_is_of_a_transaction_that_a_request_runs() {
+    let mut core = core(&[]);
+    // One of them has the seat of the server's own calls.
+    let sessions: Vec<Session> = (0..64).map(|_| session(&mut core)).collect();
+    assert_eq!(core.ask(Owner::Server, Command::Begin { ts: 7 }), Ok(Outcome::Started { ts: 7 }));
+    for mut one in sessions {
+        let told = answers(&mut core, &mut one, "get 7 a\nscan 7 a b\nput 7 a 1\ndel 7 a\ncommit 7\nabort 7\n");
+        let refused: Vec<String> = (1..=6).map(|line| format!("fault {line} 64 notyours")).collect();
+        assert_eq!(told, refused, "seat {}", one.seat);
+        end(&mut core, &one);
+    }
+    assert_eq!(core.ask(Owner::Server, Command::Commit { ts: 7 }), Ok(Outcome::Committed { ts: 7, rows: 0 }));
 }
 
 #[test]

@@ -15,7 +15,7 @@ fn filled() -> (Core, Session) {
     say(&mut core, &mut one, &format!("begin 2\n{dels}commit .\nopen l m 2\nopen l m 2\n"));
     let large: String = (0..5).map(|row| format!("put . l{row} {}\n", "v".repeat(65_000))).collect();
     say(&mut core, &mut one, &format!("begin 3\n{large}commit .\n"));
-    let [few, many] = [MOST_WRITTEN, MOST_WRITTEN + 1].map(|count| "put . x 1\n".repeat(count as usize));
+    let [few, many] = [5000, 5001].map(|count| "put . x 1\n".repeat(count));
     answers(&mut core, &mut one, &format!("begin 11\n{few}begin 12\n{many}begin 13\n{many}begin 14\n"));
     (core, one)
 }

@@ -14,7 +14,7 @@ impl Model {
         // No transaction is undecided for long.
         let is_late = self.dice.one_in(2);
         let life = self.life();
-        let oldest = life.core.ledger.undecided.iter().next().map(|(ts, one)| (*ts, one.seat));
+        let oldest = life.core.ledger.undecided.iter().next().map(|(ts, one)| (*ts, one.owner.seat()));
         let oldest = oldest.filter(|_| is_late && life.core.ledger.undecided.len() > 3);
         if let Some((_, seat)) = oldest {
             at = life.clients.iter().position(|client| client.session.seat == seat).unwrap_or(at);
