@@ -2,7 +2,7 @@
 //!
 //! ```text
 //! POST /transact        transact -> plan, strict, bytes     what it asks
-//!                                -> run, pages              the calls, all under one lock
+//!                                -> run, pages              the calls, under one lock or in turns
 //! GET, PUT .. /key/KEY  keys     -> a plan of one step, or a read at closed
 //! GET /rows             rows     -> pages, holds            the snapshot is held from page to page
 //! GET /openapi.json     openapi                             its words for programs

@@ -11,12 +11,13 @@
 //!    it has come to: it may have no row.
 
 use crate::core::Core;
-use crate::door::TURN;
 use ripsawbean::{Command, CommandError, Refusal, Room, Span};
 use std::time::Instant;
 
 /// Bytes of a page: each row has those of its key and its value, and 17 more.
 pub const MOST_BYTES: u64 = 4 << 20;
+/// Rows of a long read that are read at once, and bytes of them.
+pub const PART: Room = Room { rows: 1000, bytes: 1 << 18 };
 
 /// Parts of a walk behind which it may end early.
 const FEWEST_PARTS: usize = 8;
@@ -42,8 +43,9 @@ pub enum Unread {
 
 impl Core {
     /// The first rows of a span at a closed timestamp, `most` at most.
+    #[cfg(test)]
     pub fn page(&mut self, span: Span<'_>, at: u64, most: usize) -> Result<Page, Unread> {
-        self.page_until(span, at, Room { rows: most as u64, bytes: MOST_BYTES }, Instant::now() + TURN)
+        self.page_until(span, at, Room { rows: most as u64, bytes: MOST_BYTES }, Instant::now() + crate::door::TURN)
     }
 
     /// The same of those that find room, as far as it comes until then.

@@ -2,10 +2,9 @@
 //! this by itself. What comes to nothing has changed nothing and leaves nothing, and what is told is right.
 
 use super::plan::Plan;
-use super::run::{run, End, Stop};
+use super::run::{run, End, Pace, Stop};
 use crate::before::with_before;
 use crate::core::Core;
-use crate::door::Length;
 use crate::outcome::Outcome;
 use crate::seats::Owner;
 use crate::testing::{core, say, session, tidy};
@@ -55,7 +54,7 @@ fn each(work: impl Fn(&mut Core) -> bool) -> usize {
 }
 
 fn a_transaction(core: &mut Core) -> bool {
-    match run(core, &Plan::of(BODY.as_bytes()).expect("a plan"), Length::Long, None) {
+    match run(core, &Plan::of(BODY.as_bytes()).expect("a plan"), Pace::Turns, None) {
         Ok(End::Committed(done)) => {
             assert_eq!((done.results.len(), done.written), (5, 2));
             true

@@ -12,7 +12,7 @@
 //!    snapshot isn't collected meanwhile.
 
 use super::holds::Wanted;
-use super::pages::MOST_BYTES;
+use super::pages::{MOST_BYTES, PART};
 use super::plan::{Bounds, MOST_ROWS, ROWS};
 use super::run::{Row, Stop};
 use super::transact::tell_rows;
@@ -33,8 +33,6 @@ use std::time::{Duration, Instant};
 
 /// For how long a page holds its snapshot where more follow and nothing is said.
 const HOLD: Duration = Duration::from_secs(30);
-/// Rows of a page that are read in one turn, and bytes of them.
-const PART: Room = Room { rows: 1000, bytes: 1 << 18 };
 
 /// A page as it is told.
 struct Shown {

@@ -9,33 +9,50 @@
 //!
 //! A scan of ten rows reads ten rows, whatever the span holds. It conflicts with what it has read, and no further.
 //!
-//! 1. All its calls are made under one lock, at a timestamp above all that began. So no write of it comes too late, and
-//!    no two plans block each other. A session's undecided write may block a read of it: then nothing was changed.
-//! 2. When `run` returns, the transaction is decided. Where there was no memory to abort it, --max-age does it.
-//! 3. It reads at most `MOST_ROWS` rows, passes over at most `cuts::MOST` parts of spans, and tells at most --max-reply
-//!    bytes. So others wait for some 30 milliseconds.
-//! 4. A short one is stopped where it has read and written what takes some 2 milliseconds: `Stop::Long`.
+//! A short plan is run under one lock, at a timestamp above all that began. So no write of it comes too late, and no two
+//! plans block each other. A session's undecided write may block a read of it: then nothing was changed. A long plan gives
+//! the lock back between two turns, until its first write:
+//!
+//! ```text
+//! begin TS  scan  scan  | scan  scan  | scan  put  put  commit TS
+//!                       others        others
+//! ```
+//!
+//! 1. It is the same transaction, at the same timestamp: it reads nothing of those that begin meanwhile.
+//! 2. It has written nothing while others have the lock, so it blocks none of them. A later one may have read what it
+//!    writes, and an operator or its age may have ended it: `Stop::Overtaken`. Under one lock neither happens.
+//! 3. When `run` returns, or a turn gives an end or an error, the transaction is decided. Where there was no memory to abort
+//!    it, --max-age does it. Whoever lets go of a plan between two turns aborts it.
+//! 4. It reads at most `MOST_ROWS` rows by scans, passes over at most `cuts::MOST` parts of spans, and tells at most
+//!    --max-reply bytes. A turn reads what takes some 2 milliseconds, and one part more; the last turn writes all.
+//! 5. A short one is stopped where it has read and written what takes some 2 milliseconds: `Stop::Long`.
 
+mod scan;
+mod stop;
+
+use self::scan::Scan;
+pub use self::stop::Stop;
 use super::bytes::length_of;
-use super::pages::{Page, Unread, MOST_BYTES};
-use super::plan::{Bounds, Condition, Plan, Step, SCANNED, SHORT, STEP};
+use super::plan::{Condition, Plan, Step, Test, SHORT, STEP};
 use super::remembered::Keep;
 use crate::core::Core;
-use crate::cuts;
-use crate::door::Length;
 use crate::journal::Form;
 use crate::outcome::Outcome;
-use crate::refusal::Refusal;
 use crate::seats::Owner;
-use ripsawbean::{CallError, Command, CommandError, Refusal as Refused, Room, Span, MOST_ROWS};
+use ripsawbean::{CallError, Command, Refusal as Refused};
 use std::borrow::Cow;
 use std::collections::BTreeSet;
-use tokio::sync::watch;
 
-/// Rows of a part of a span that is compared with a snapshot.
-const PART: usize = 1000;
-/// What a row costs in an answer beside its key and value.
-const ROW_BYTES: usize = 40;
+/// How a plan is run.
+#[derive(Clone, Copy, Debug, PartialEq, Eq)]
+pub enum Pace {
+    /// Under one lock, and no longer than a turn.
+    Short,
+    /// In turns, until its first write.
+    Turns,
+    /// Under one lock, however long it is.
+    Whole,
+}
 
 /// How a plan has ended.
 #[derive(Debug, PartialEq)]
@@ -90,96 +107,15 @@ pub struct Row<'p> {
     pub version: Option<u64>,
 }
 
-/// Why a plan came to nothing.
-#[derive(Debug)]
-pub enum Stop {
-    /// By the undecided transaction of this timestamp. The receiver changes once it is decided.
-    Blocked(u64, watch::Receiver<()>),
-    NotClosed(u64),
-    BelowHorizon(u64),
-    NoMemory,
-    Full,
-    /// Memory is full, and so is what transactions or deletes may take beside it.
-    Overfull,
-    /// Unread answers leave no room for a long one.
-    Crowded,
-    Draining,
-    TooMuch,
-    ReplyTooLong,
-    /// It is longer than it may be: nothing was changed, and it is run anew in the lane.
-    Long,
-    /// The database gave an answer that it can't give.
-    Unexpected,
-    /// The commit was called, and its answer is lost.
-    Lost,
-}
-
-impl Stop {
-    /// The refusal, of which nothing was changed but where it says so.
-    pub fn refusal(self) -> Refusal {
-        match self {
-            Stop::Blocked(by, _) => {
-                let why = "a transaction in the way is undecided: nothing was changed";
-                Refusal::busy("blocked", why).with_number("by", by)
-            }
-            Stop::NotClosed(closed) => {
-                Refusal::new(409, "notclosed", "this timestamp is above closed").with_number("closed", closed)
-            }
-            Stop::BelowHorizon(horizon) => {
-                let why = "versions at this timestamp may be gone";
-                Refusal::new(410, "belowhorizon", why).with_number("horizon", horizon)
-            }
-            Stop::NoMemory => Refusal::busy("nomemory", "there is no memory for it: nothing was changed"),
-            Stop::Full => Refusal::busy("full", "the server's memory is full: keys can be deleted, and not put"),
-            Stop::Overfull => {
-                let why = "the server's memory is full, and so is what transactions and deletes may take beside it";
-                Refusal::busy("full", why)
-            }
-            Stop::Crowded => Refusal::crowded(),
-            Stop::Draining => Refusal::busy("draining", "the server is about to end"),
-            Stop::TooMuch => Refusal::new(
-                422,
-                "toomuch",
-                format!(
-                    "a transaction reads {MOST_ROWS} rows at most, and passes over some {} deleted keys: nothing was \
-                     changed",
-                    cuts::MOST as u64 * cuts::SHARE
-                ),
-            ),
-            Stop::ReplyTooLong => {
-                let why = "the answer would be longer than --max-reply: nothing was changed";
-                Refusal::new(422, "replytoolong", why)
-            }
-            // Who runs it runs one anew that is long.
-            Stop::Long | Stop::Unexpected => {
-                Refusal::new(500, "unexpected", "the server's log says more: nothing was changed")
-            }
-            Stop::Lost => Refusal::new(500, "unwritten", "it may have committed: there is no memory for its answer"),
+/// Runs a plan, and lets nobody in between two turns.
+#[cfg(test)]
+pub fn run<'p>(core: &mut Core, plan: &'p Plan<'_>, pace: Pace, keep: Option<&Keep<'_>>) -> Result<End<'p>, Stop> {
+    let mut running = Running::begin(core, plan, pace)?;
+    loop {
+        if let Some(end) = running.turn(core, keep)? {
+            return Ok(end);
         }
     }
-}
-
-impl From<Unread> for Stop {
-    fn from(unread: Unread) -> Stop {
-        match unread {
-            Unread::BelowHorizon(horizon) => Stop::BelowHorizon(horizon),
-            Unread::NoMemory => Stop::NoMemory,
-        }
-    }
-}
-
-/// Runs a plan once, which may take so long. What it has committed is remembered, where it is said by whom.
-pub fn run<'p>(core: &mut Core, plan: &'p Plan<'_>, length: Length, keep: Option<&Keep<'_>>) -> Result<End<'p>, Stop> {
-    check(core, plan)?;
-    let timestamp = core.ledger.next_timestamp();
-    let mut running =
-        Running { core, timestamp, length, own: BTreeSet::new(), read: 0, passed: 0, weight: 0, bytes: 0 };
-    running.begin()?;
-    let ended = running.steps(plan).and_then(|end| running.commit(end, keep));
-    if !matches!(ended, Ok(End::Committed(_)) | Err(Stop::Lost)) {
-        running.abort();
-    }
-    ended
 }
 
 /// What can be refused before anything is begun.
@@ -204,43 +140,107 @@ fn check(core: &Core, plan: &Plan<'_>) -> Result<(), Stop> {
     Ok(())
 }
 
-/// A transaction that was begun.
-struct Running<'c, 'p> {
-    core: &'c mut Core,
+/// A transaction that was begun, and what it has found so far.
+pub struct Running<'p> {
+    plan: &'p Plan<'p>,
+    pace: Pace,
     timestamp: u64,
-    length: Length,
+    /// Whether others have had the lock since it began.
+    was_cut: bool,
+    /// Conditions that were looked at.
+    looked: Vec<Looked<'p>>,
+    branch: Option<Branch>,
+    /// Steps that were done.
+    results: Vec<Told<'p>>,
+    /// The scan of which some is read, and where the next part of a comparison begins.
+    scan: Option<Scan<'p>>,
+    compared: Option<Vec<u8>>,
     /// Keys that it has written.
     own: BTreeSet<&'p [u8]>,
     /// Rows that scans have read, and cuts that they have passed.
     read: usize,
     passed: usize,
-    /// What its steps weigh so far, as `plan` weighs them.
+    /// What its steps weigh so far, as `plan` weighs them, and what its turn weighs.
     weight: usize,
+    turn: usize,
     /// Bytes that are told.
     bytes: usize,
 }
 
-impl<'p> Running<'_, 'p> {
-    fn begin(&mut self) -> Result<(), Stop> {
+/// What a condition has found.
+enum Looked<'p> {
+    Key(&'p Test<'p>, Row<'p>),
+    Unchanged(bool),
+}
+
+impl<'p> Running<'p> {
+    pub fn begin(core: &mut Core, plan: &'p Plan<'_>, pace: Pace) -> Result<Running<'p>, Stop> {
+        check(core, plan)?;
+        let running = Running {
+            plan,
+            pace,
+            timestamp: core.ledger.next_timestamp(),
+            was_cut: false,
+            looked: Vec::with_capacity(plan.conditions.len()),
+            branch: None,
+            results: Vec::new(),
+            scan: None,
+            compared: None,
+            own: BTreeSet::new(),
+            read: 0,
+            passed: 0,
+            weight: 0,
+            turn: 0,
+            bytes: 0,
+        };
+        match core.ask(Owner::Server, Command::Begin { ts: running.timestamp }) {
+            Ok(Outcome::Started { .. }) => Ok(running),
+            other => {
+                let stop = running.stop(core, "begin", other);
+                // It may have begun, and its answer is lost.
+                running.abort(core);
+                Err(stop)
+            }
+        }
+    }
+
+    /// One turn of it: how it has ended, where it has.
+    pub fn turn(&mut self, core: &mut Core, keep: Option<&Keep<'_>>) -> Result<Option<End<'p>>, Stop> {
+        self.turn = 0;
+        let ended = self.go_on(core).and_then(|end| end.map(|end| self.commit(core, end, keep)).transpose());
+        if !matches!(ended, Ok(None | Some(End::Committed(_))) | Err(Stop::Lost)) {
+            self.abort(core);
+        }
+        self.was_cut = true;
+        ended
+    }
+
+    /// Aborts it, where it isn't decided.
+    pub fn abort(&self, core: &mut Core) {
         let ts = self.timestamp;
-        match self.core.ask(Owner::Server, Command::Begin { ts }) {
-            Ok(Outcome::Started { .. }) => Ok(()),
-            other => Err(self.stop("begin", other)),
+        if !core.ledger.undecided.contains_key(&ts) {
+            return;
+        }
+        match core.ask(Owner::Server, Command::Abort { ts }) {
+            Ok(Outcome::Aborted { .. } | Outcome::Refused(Refused::NoMemory)) | Err(_) => {}
+            Ok(other) => {
+                self.stop(core, "abort", Ok(other));
+            }
         }
     }
 
     /// What it is told is made before its commit, so that it stands in the journal with it.
-    fn commit(&mut self, end: End<'p>, keep: Option<&Keep<'_>>) -> Result<End<'p>, Stop> {
+    fn commit(&mut self, core: &mut Core, end: End<'p>, keep: Option<&Keep<'_>>) -> Result<End<'p>, Stop> {
         let End::Committed(mut told) = end else { return Ok(end) };
         let answered = keep.and_then(|keep| keep.answered(&told));
         let mut lines = Vec::new();
-        if let Some(answered) = answered.as_ref().filter(|_| self.core.journal.keeps()) {
+        if let Some(answered) = answered.as_ref().filter(|_| core.journal.keeps()) {
             answered.write(&mut lines);
         }
-        match self.core.commit_with(self.timestamp, lines) {
+        match core.commit_with(self.timestamp, lines) {
             Ok(Outcome::Committed { rows, .. }) if rows == told.written => {}
             Err(CallError::Unwritten) => return Err(Stop::Lost),
-            other => return Err(self.stop("commit", other)),
+            other => return Err(self.stop(core, "commit", other)),
         }
         if let Some((keep, answered)) = keep.zip(answered) {
             told.form = Some(answered.form.clone());
@@ -249,92 +249,134 @@ impl<'p> Running<'_, 'p> {
         Ok(End::Committed(told))
     }
 
-    fn abort(&mut self) {
-        let ts = self.timestamp;
-        match self.core.ask(Owner::Server, Command::Abort { ts }) {
-            Ok(Outcome::Aborted { .. } | Outcome::Refused(Refused::NoMemory)) | Err(_) => {}
-            Ok(other) => {
-                self.stop("abort", Ok(other));
+    /// Looks at its conditions and does its steps, until its turn is over.
+    fn go_on(&mut self, core: &mut Core) -> Result<Option<End<'p>>, Stop> {
+        if self.branch.is_none() {
+            if !self.look(core)? {
+                return Ok(None);
+            }
+            if let Some(failed) = self.choose(core)? {
+                return Ok(Some(End::Failed(failed)));
             }
         }
+        let branch = self.branch.unwrap_or(Branch::Then);
+        if !self.do_steps(core, branch)? {
+            return Ok(None);
+        }
+        let mut results = std::mem::take(&mut self.results);
+        self.tell_versions(core, &mut results)?;
+        let (timestamp, written) = (self.timestamp, self.own.len() as u64);
+        Ok(Some(End::Committed(Committed { timestamp, branch, written, results, form: None })))
     }
 
-    fn steps(&mut self, plan: &'p Plan<'_>) -> Result<End<'p>, Stop> {
-        let found = self.failed(&plan.conditions)?;
-        let timestamp = self.timestamp;
-        let (branch, steps) = match (found.is_empty(), &plan.otherwise) {
-            (true, _) => (Branch::Then, &plan.then),
-            (false, Some(otherwise)) => (Branch::Else, otherwise),
-            (false, None) => return Ok(End::Failed(Failed { timestamp, found })),
-        };
+    /// Whether all conditions were looked at. Those behind one that doesn't hold are too, so that all are told.
+    fn look(&mut self, core: &mut Core) -> Result<bool, Stop> {
+        let plan = self.plan;
+        while let Some(condition) = plan.conditions.get(self.looked.len()) {
+            if self.is_over() {
+                return Ok(false);
+            }
+            let looked = match condition {
+                Condition::Key { key, test } => Some(Looked::Key(test, self.get(core, key)?)),
+                Condition::Unchanged { span, since } => self.compare(core, span, *since)?.map(Looked::Unchanged),
+            };
+            self.looked.extend(looked);
+        }
+        Ok(true)
+    }
+
+    /// Chooses the branch that is to be done. Where there is none, it has failed.
+    fn choose(&mut self, core: &mut Core) -> Result<Option<Failed<'p>>, Stop> {
+        let found = self.failed(core)?;
         // Only its own branch is told.
         self.bytes = 0;
-        let mut results = Vec::with_capacity(steps.len());
-        for step in steps {
-            results.push(self.step(step)?);
-        }
-        self.tell_versions(&mut results)?;
-        let written = self.own.len() as u64;
-        Ok(End::Committed(Committed { timestamp, branch, written, results, form: None }))
+        self.branch = match (found.is_empty(), &self.plan.otherwise) {
+            (true, _) => Some(Branch::Then),
+            (false, Some(_)) => Some(Branch::Else),
+            (false, None) => return Ok(Some(Failed { timestamp: self.timestamp, found })),
+        };
+        Ok(None)
     }
 
-    /// The conditions that don't hold. All of them are looked at, so that all are told.
-    fn failed(&mut self, conditions: &'p [Condition<'_>]) -> Result<Vec<(usize, Option<Row<'p>>)>, Stop> {
-        let mut rows = Vec::new();
-        let mut found = Vec::new();
-        for (at, condition) in conditions.iter().enumerate() {
-            match condition {
-                Condition::Key { key, test } => rows.push((at, test, self.get(key)?)),
-                Condition::Unchanged { span, since } if self.is_unchanged(span, *since)? => {}
-                Condition::Unchanged { .. } => found.push((at, None)),
-            }
-        }
-        let with_value = |row: &&mut Row<'p>| row.value.is_some();
-        let mut all: Vec<&mut Row<'p>> = rows.iter_mut().map(|(_, _, row)| row).filter(with_value).collect();
-        self.set_versions(&mut all)?;
-        for (at, test, row) in rows {
-            if !test.holds(row.value.as_deref(), row.version) {
-                found.push((at, Some(row)));
-            }
-        }
-        found.sort_by_key(|(at, _)| *at);
-        Ok(found)
+    /// The conditions that don't hold.
+    fn failed(&mut self, core: &mut Core) -> Result<Vec<(usize, Option<Row<'p>>)>, Stop> {
+        let mut looked = std::mem::take(&mut self.looked);
+        let with_value = |looked| match looked {
+            &mut Looked::Key(_, ref mut row) if row.value.is_some() => Some(row),
+            _ => None,
+        };
+        let mut rows: Vec<&mut Row<'p>> = looked.iter_mut().filter_map(with_value).collect();
+        self.set_versions(core, &mut rows)?;
+        let holds = |looked: &Looked<'_>| match looked {
+            Looked::Key(test, row) => test.holds(row.value.as_deref(), row.version),
+            Looked::Unchanged(is_unchanged) => *is_unchanged,
+        };
+        let failed = looked.into_iter().enumerate().filter(|(_, looked)| !holds(looked));
+        let row = |looked| match looked {
+            Looked::Key(_, row) => Some(row),
+            Looked::Unchanged(_) => None,
+        };
+        Ok(failed.map(|(at, looked)| (at, row(looked))).collect())
     }
 
-    fn step(&mut self, step: &'p Step<'_>) -> Result<Told<'p>, Stop> {
+    /// Whether all steps of its branch were done.
+    fn do_steps(&mut self, core: &mut Core, branch: Branch) -> Result<bool, Stop> {
+        let plan = self.plan;
+        let steps = match branch {
+            Branch::Then => &plan.then[..],
+            Branch::Else => plan.otherwise.as_deref().unwrap_or_default(),
+        };
+        self.results.reserve(steps.len() - self.results.len());
+        while let Some(step) = steps.get(self.results.len()) {
+            if self.is_over() {
+                return Ok(false);
+            }
+            let told = self.step(core, step)?;
+            self.results.extend(told);
+        }
+        Ok(true)
+    }
+
+    /// Whether others get a turn. What it has written would block them, so then it goes on to its end.
+    fn is_over(&self) -> bool {
+        self.pace == Pace::Turns && self.own.is_empty() && self.turn >= SHORT
+    }
+
+    /// What a step tells. Nothing is told of a scan that isn't whole.
+    fn step(&mut self, core: &mut Core, step: &'p Step<'_>) -> Result<Option<Told<'p>>, Stop> {
         let ts = self.timestamp;
         if step.writes() {
             self.weigh(step.weight())?;
         }
         match step {
-            Step::Put { .. } if self.core.is_full() => Err(Stop::Full),
-            Step::Del { .. } if !self.core.may_delete() => Err(Stop::Overfull),
-            Step::Put { key, value } => self.write("put", key, Command::Put { ts, key, value }),
-            Step::Del { key } => self.write("del", key, Command::Del { ts, key }),
-            Step::Get { key } => Ok(Told::Row(self.get(key)?)),
-            Step::Scan { span, limit } => self.scan(span, *limit),
+            Step::Put { .. } if core.is_full() => Err(Stop::Full),
+            Step::Del { .. } if !core.may_delete() => Err(Stop::Overfull),
+            Step::Put { key, value } => self.write(core, "put", key, Command::Put { ts, key, value }).map(Some),
+            Step::Del { key } => self.write(core, "del", key, Command::Del { ts, key }).map(Some),
+            Step::Get { key } => self.get(core, key).map(|row| Some(Told::Row(row))),
+            Step::Scan { span, limit } => self.scan(core, span, *limit),
         }
     }
 
-    fn write(&mut self, name: &str, key: &'p [u8], command: Command<'_>) -> Result<Told<'p>, Stop> {
-        match self.core.ask(Owner::Server, command) {
+    fn write(&mut self, core: &mut Core, name: &str, key: &'p [u8], command: Command<'_>) -> Result<Told<'p>, Stop> {
+        match core.ask(Owner::Server, command) {
             Ok(Outcome::Written { .. }) => {
                 self.own.insert(key);
                 Ok(Told::Nothing)
             }
-            other => Err(self.stop(name, other)),
+            other => Err(self.stop(core, name, other)),
         }
     }
 
-    fn get(&mut self, key: &'p [u8]) -> Result<Row<'p>, Stop> {
+    fn get(&mut self, core: &mut Core, key: &'p [u8]) -> Result<Row<'p>, Stop> {
         let mut value = None;
         let command = Command::Get { ts: self.timestamp, key };
-        match self.core.show(Owner::Server, command, &mut |event| value = event.value()) {
+        match core.show(Owner::Server, command, &mut |event| value = event.value()) {
             Ok(Outcome::Read { .. }) => {}
-            other => return Err(self.stop("get", other)),
+            other => return Err(self.stop(core, "get", other)),
         }
         self.weigh(STEP + key.len() + value.as_ref().map_or(0, Vec::len))?;
-        self.count(length_of(key) + value.as_deref().map_or(0, length_of))?;
+        self.count(core, length_of(key) + value.as_deref().map_or(0, length_of))?;
         Ok(self.row(Cow::Borrowed(key), value))
     }
 
@@ -344,82 +386,24 @@ impl<'p> Running<'_, 'p> {
         Row { version: is_own.then_some(self.timestamp), key, value }
     }
 
-    fn scan(&mut self, span: &Bounds<'_>, limit: usize) -> Result<Told<'p>, Stop> {
-        let Page { rows, next } = self.read(span.span(), limit)?;
-        self.weigh(STEP + rows.iter().map(|(key, value)| SCANNED + key.len() + value.len()).sum::<usize>())?;
-        self.count(rows.iter().map(|(key, value)| length_of(key) + length_of(value) + ROW_BYTES).sum())?;
-        let rows = rows.into_iter().map(|(key, value)| self.row(Cow::Owned(key), Some(value))).collect();
-        Ok(Told::Rows { rows, more: next.is_some() })
-    }
-
-    /// Whether the rows of a span are those of a snapshot: the values, and not only the keys.
-    fn is_unchanged(&mut self, span: &Bounds<'_>, since: u64) -> Result<bool, Stop> {
-        let mut lo = span.lo.to_vec();
-        loop {
-            let then = self.core.page(Span { lo: &lo, hi: span.hi.as_deref() }, since, PART)?;
-            let hi = then.next.as_deref().or(span.hi.as_deref());
-            // One row more would be a change.
-            let now = self.read(Span { lo: &lo, hi }, then.rows.len() + 1)?;
-            if now.rows != then.rows || now.next.is_some() {
-                return Ok(false);
-            }
-            match then.next {
-                Some(next) => lo = next,
-                None => return Ok(true),
-            }
-        }
-    }
-
-    /// The first rows of a span as the transaction sees them.
-    fn read(&mut self, span: Span<'_>, most: usize) -> Result<Page, Stop> {
-        let (cuts, bytes) = match self.length {
-            Length::Short => (cuts::FEW, SHORT.saturating_sub(self.weight) as u64),
-            Length::Long => (cuts::MOST, MOST_BYTES),
+    /// Tells the versions of rows that others have written. Those of scans are known by their parts.
+    fn tell_versions(&self, core: &mut Core, results: &mut [Told<'p>]) -> Result<(), Stop> {
+        let row = |told| match told {
+            &mut Told::Row(ref mut row) if row.value.is_some() && row.version.is_none() => Some(row),
+            _ => None,
         };
-        let far = self.core.cuts.passed(span.lo, span.hi, self.timestamp).nth(cuts - self.passed);
-        let far = far.map(<[u8]>::to_vec);
-        let near = Span { lo: span.lo, hi: far.as_deref().or(span.hi) };
-        let command = Command::Scan { ts: self.timestamp, span: near };
-        let room = Room { rows: most as u64, bytes };
-        let mut page = self.core.scan(command, room).map_err(|error| match error {
-            CommandError::Refused(refusal) => self.stop("scan", Ok(Outcome::Refused(refusal))),
-            CommandError::Call(error) => self.stop("scan", Err(error)),
-        })?;
-        let end = page.next.as_deref().or(near.hi);
-        self.passed += self.core.cuts.passed(span.lo, end, self.timestamp).count();
-        self.read += page.rows.len();
-        let is_whole = page.rows.len() == most || page.next.is_none() && far.is_none();
-        // Behind the cut it would pass over more.
-        let has_passed_all = page.next.is_none();
-        page.next = page.next.or(far);
-        match self.length {
-            Length::Short if !is_whole => Err(Stop::Long),
-            Length::Long if self.read > MOST_ROWS || !is_whole && has_passed_all => Err(Stop::TooMuch),
-            _ => Ok(page),
-        }
-    }
-
-    fn tell_versions(&mut self, results: &mut [Told<'p>]) -> Result<(), Stop> {
-        let mut rows = Vec::new();
-        for result in results {
-            match result {
-                Told::Nothing => {}
-                Told::Row(row) => rows.push(row),
-                Told::Rows { rows: found, .. } => rows.extend(found),
-            }
-        }
-        rows.retain(|row| row.value.is_some() && row.version.is_none());
-        self.set_versions(&mut rows)
+        let mut rows: Vec<&mut Row<'p>> = results.iter_mut().filter_map(row).collect();
+        self.set_versions(core, &mut rows)
     }
 
     /// Sets the versions of rows that others have written. The newest committed version below the timestamp is the one
-    /// that was read, because an undecided one would have blocked.
-    fn set_versions(&mut self, rows: &mut [&mut Row<'p>]) -> Result<(), Stop> {
+    /// that was read, because an undecided one would have blocked, and what comes later is too late.
+    fn set_versions(&self, core: &mut Core, rows: &mut [&mut Row<'p>]) -> Result<(), Stop> {
         if rows.is_empty() {
             return Ok(());
         }
         let keys: Vec<&[u8]> = rows.iter().map(|row| &*row.key).collect();
-        let versions = self.core.versions_at(self.timestamp, &keys).map_err(|_| Stop::NoMemory)?;
+        let versions = core.versions_at(self.timestamp, &keys).map_err(|_| Stop::NoMemory)?;
         rows.iter_mut().zip(versions).for_each(|(row, version)| row.version = version);
         Ok(())
     }
@@ -427,32 +411,37 @@ impl<'p> Running<'_, 'p> {
     /// Counts what a step weighs.
     fn weigh(&mut self, weight: usize) -> Result<(), Stop> {
         self.weight += weight;
-        match self.length {
-            Length::Short if self.weight > SHORT => Err(Stop::Long),
+        self.turn += weight;
+        match self.pace {
+            Pace::Short if self.weight > SHORT => Err(Stop::Long),
             _ => Ok(()),
         }
     }
 
     /// Counts what is told.
-    fn count(&mut self, bytes: usize) -> Result<(), Stop> {
+    fn count(&mut self, core: &Core, bytes: usize) -> Result<(), Stop> {
         self.bytes += bytes;
-        match self.bytes > self.core.limits.max_reply {
+        match self.bytes > core.limits.max_reply {
             true => Err(Stop::ReplyTooLong),
             false => Ok(()),
         }
     }
 
     /// Why a call didn't do what it should.
-    fn stop(&mut self, name: &str, outcome: Result<Outcome, CallError>) -> Stop {
+    fn stop(&self, core: &mut Core, name: &str, outcome: Result<Outcome, CallError>) -> Stop {
+        let alone = if self.was_cut { "" } else { ", in a transaction that runs alone" };
         match outcome {
-            Ok(Outcome::Refused(Refused::Blocked(by))) => Stop::Blocked(by, self.core.ledger.decision_of(by)),
+            Ok(Outcome::Refused(Refused::Blocked(by))) => Stop::Blocked(by, core.ledger.decision_of(by)),
             Ok(Outcome::Refused(Refused::NoMemory)) | Err(CallError::NoMemory | CallError::Unwritten) => Stop::NoMemory,
+            Ok(Outcome::TooLate { .. } | Outcome::Refused(Refused::Ended | Refused::NoTxn)) if self.was_cut => {
+                Stop::Overtaken
+            }
             Ok(outcome) => {
-                self.core.shout(&format!("{name} => {outcome}, in a transaction that runs alone"));
+                core.shout(&format!("{name} => {outcome}{alone}"));
                 Stop::Unexpected
             }
             Err(error) => {
-                self.core.shout(&format!("{name}: {error}, in a transaction that runs alone"));
+                core.shout(&format!("{name}: {error}{alone}"));
                 Stop::Unexpected
             }
         }

@@ -6,18 +6,21 @@
 //! 409 {"error":"condition",..,"timestamp":"9","found":[{"if":0,"key":"n","value":"3","version":"8"}]}
 //! ```
 //!
-//! `plan` reads it, and `run` runs it: in the lane, where it may be long. While a session's undecided write blocks it, it
+//! `plan` reads it, and `run` runs it: in turns, where it may be long. While a session's undecided write blocks it, it
 //! waits for that one's decision, and is run anew.
 //!
 //! 1. It takes no seat.
 //! 2. Its answer is remembered under the lock of its commit, so no answer of a commit is forgotten.
+//! 3. A plan in turns keeps the lane from its first turn to its last one. So one is undecided between two turns at most.
+//! 4. Who goes away meanwhile leaves nothing undecided.
 
 use super::bytes::{tell, told, Spelling};
 use super::plan::Plan;
 use super::remembered::{Asked, Begun, Keep};
-use super::run::{run, Branch, Committed, End, Failed, Row, Stop, Told};
+use super::run::{Branch, Committed, End, Failed, Pace, Row, Running, Stop, Told};
 use super::{body_of, spelling_in, wait_in, Answer};
 use crate::budget::Held;
+use crate::core::Core;
 use crate::door::Length;
 use crate::http::{Request, Response};
 use crate::journal::Form;
@@ -77,21 +80,72 @@ pub async fn run_until<'p>(
     keep: Option<&Keep<'_>>,
     unread: Option<&Held>,
 ) -> Result<End<'p>, Refusal> {
-    let mut length = plan.length();
+    let mut pace = match plan.length() {
+        Length::Short => Pace::Short,
+        Length::Long => Pace::Turns,
+    };
     loop {
-        let ran = server.door.turn_of(length, |core, _| match unread.is_none_or(Held::has_room) {
-            true => run(core, plan, length, keep),
-            false => Err(Stop::Crowded),
-        });
-        match ran.await.0 {
+        match run_once(server, plan, pace, keep, unread).await {
             Ok(end) => return Ok(end),
-            Err(Stop::Long) => length = Length::Long,
+            Err(Stop::Long) => pace = Pace::Turns,
+            Err(Stop::Overtaken) => pace = Pace::Whole,
             Err(Stop::Blocked(by, mut decision)) => {
                 if tokio::time::timeout_at(until.into(), decision.changed()).await.is_err() {
                     return Err(Stop::Blocked(by, decision).refusal());
                 }
             }
             Err(stop) => return Err(stop.refusal()),
+        }
+    }
+}
+
+/// Runs a plan once, in the lane where it isn't short.
+async fn run_once<'p>(
+    server: &Server,
+    plan: &'p Plan<'_>,
+    pace: Pace,
+    keep: Option<&Keep<'_>>,
+    unread: Option<&Held>,
+) -> Result<End<'p>, Stop> {
+    let mut turns = Turns { server, running: None };
+    let turn = |core: &mut Core, _| turns.turn(core, plan, pace, keep, unread).transpose();
+    match pace {
+        Pace::Short => server.door.turn(turn).unwrap_or(Err(Stop::Long)),
+        Pace::Turns | Pace::Whole => server.door.turns_in_lane(turn).await,
+    }
+}
+
+/// A plan between two of its turns. Whoever lets go of it aborts it.
+struct Turns<'s, 'p> {
+    server: &'s Server,
+    running: Option<Running<'p>>,
+}
+
+impl<'p> Turns<'_, 'p> {
+    /// How it has ended, where it has. It begins where unread answers leave room.
+    fn turn(
+        &mut self,
+        core: &mut Core,
+        plan: &'p Plan<'_>,
+        pace: Pace,
+        keep: Option<&Keep<'_>>,
+        unread: Option<&Held>,
+    ) -> Result<Option<End<'p>>, Stop> {
+        let mut running = match self.running.take() {
+            Some(running) => running,
+            None if unread.is_none_or(Held::has_room) => Running::begin(core, plan, pace)?,
+            None => return Err(Stop::Crowded),
+        };
+        let end = running.turn(core, keep)?;
+        self.running = Some(running).filter(|_| end.is_none());
+        Ok(end)
+    }
+}
+
+impl Drop for Turns<'_, '_> {
+    fn drop(&mut self) {
+        if let Some(running) = self.running.take() {
+            self.server.door.run(|core| running.abort(core));
         }
     }
 }
@@ -175,8 +229,50 @@ fn refusal_of(failed: &Failed<'_>, spelling: Spelling) -> Refusal {
 #[cfg(test)]
 mod tests {
     use super::*;
-    use crate::testing::server;
+    use crate::testing::{answers, say, server, session, waits};
     use std::time::Duration;
+
+    /// Reads more than a turn does, and then writes.
+    const LONG: &str = r#"{"then":[{"scan":["k",null],"limit":10000},{"put":"z","value":"1"}]}"#;
+
+    fn with_rows() -> Arc<Server> {
+        let server = server(&["--keep", "10"]);
+        server.door.run(|core| {
+            let puts: String = (0..5000).map(|row| format!("put . k{row:05} {row}\n")).collect();
+            let mut one = session(core);
+            say(core, &mut one, &format!("begin\n{puts}commit .\n"));
+        });
+        server
+    }
+
+    fn undecided(server: &Server) -> usize {
+        server.door.run(|core| core.ledger.undecided.len())
+    }
+
+    #[tokio::test]
+    async fn who_goes_away_between_two_turns_leaves_nothing() {
+        let (server, plan) = (with_rows(), Plan::of(LONG.as_bytes()).expect("a plan"));
+        let mut run = Box::pin(run_until(&server, &plan, Instant::now(), None, None));
+        assert!(waits(run.as_mut()).await && undecided(&server) == 1);
+        drop(run);
+        assert_eq!((undecided(&server), server.door.run(|core| core.shouts)), (0, 0));
+        // The lane is free.
+        assert!(run_until(&server, &plan, Instant::now(), None, None).await.is_ok());
+    }
+
+    #[tokio::test]
+    async fn a_plan_that_was_overtaken_commits_all_the_same() {
+        let (server, plan) = (with_rows(), Plan::of(LONG.as_bytes()).expect("a plan"));
+        let mut run = Box::pin(run_until(&server, &plan, Instant::now(), None, None));
+        assert!(waits(run.as_mut()).await);
+        let later = server.door.run(|core| {
+            let mut one = session(core);
+            answers(core, &mut one, "begin\nget . z\ncommit .\n");
+            one.last
+        });
+        let Ok(End::Committed(done)) = run.await else { panic!("it commits") };
+        assert_eq!((later, done.timestamp, done.written, undecided(&server)), (Some(3), 4, 1, 0));
+    }
 
     #[tokio::test(start_paused = true)]
     async fn a_long_plan_waits_for_the_lane_and_who_goes_away_lets_go_of_its_key() {

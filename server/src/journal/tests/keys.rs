@@ -3,8 +3,7 @@
 use super::*;
 use crate::api::plan::Plan;
 use crate::api::remembered::{Asked, Begun, Keep};
-use crate::api::run::{run, Committed, End};
-use crate::door::Length;
+use crate::api::run::{run, Committed, End, Pace};
 use std::collections::VecDeque;
 
 const HOUR: Duration = Duration::from_secs(3600);
@@ -31,7 +30,7 @@ async fn ask(core: &mut Core, remembered: &Remembered, key: &str, body: &str) ->
         Begun::Told(answer) => return (false, answer.form().clone()),
         Begun::Runs(running) => running,
     };
-    let end = run(core, &plan, Length::Long, Some(&Keep { running: &running, form_of: &form_of }));
+    let end = run(core, &plan, Pace::Whole, Some(&Keep { running: &running, form_of: &form_of }));
     core.settle(Instant::now());
     match end.expect("it is done") {
         End::Committed(committed) => (true, committed.form.expect("it has a key")),

@@ -4,8 +4,7 @@ use super::super::keys::form_of;
 use super::*;
 use crate::api::plan::Plan;
 use crate::api::remembered::{Asked, Begun, Keep};
-use crate::api::run::{run, End};
-use crate::door::Length;
+use crate::api::run::{run, End, Pace};
 use crate::testing::tidy;
 
 const NAMES: [&str; 2] = ["x", "y"];
@@ -49,7 +48,7 @@ impl Model {
             Begun::Runs(running) => {
                 let plan = Plan::of(body.as_bytes()).expect("a plan");
                 let ended =
-                    run(&mut life.core, &plan, Length::Long, Some(&Keep { running: &running, form_of: &form_of }));
+                    run(&mut life.core, &plan, Pace::Whole, Some(&Keep { running: &running, form_of: &form_of }));
                 drop(running);
                 if let Ok(End::Committed(committed)) = ended {
                     if let Some(last) = done.last() {
