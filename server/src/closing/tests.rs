@@ -434,3 +434,23 @@ fn the_transcript_is_all_that_the_database_did() {
         rest = &rest[again.len()..];
     }
 }
+
+#[test]
+fn a_transaction_of_many_rows_is_aborted_in_the_lane() {
+    for (abort, options) in
+        [(Core::abort_idle as Step, &["--keep", "10"][..]), (Core::abort_old, &["--max-age", "0.01"])]
+    {
+        for (rows, turn, left) in [(5000, Turn::Done, 0), (5001, Turn::Long, 1)] {
+            let mut core = core(options);
+            let mut one = session(&mut core);
+            answers(&mut core, &mut one, &format!("begin\n{}", "put . a 1\n".repeat(rows)));
+            core.seats.taken_mut(one.seat).expect("it has a seat").idle = Some(Duration::ZERO);
+            std::thread::sleep(Duration::from_millis(20));
+            let far = Instant::now() + Duration::from_secs(60);
+            core.closing.length = Length::Short;
+            assert_eq!((abort(&mut core, far), core.ledger.undecided.len()), (turn, left));
+            core.closing.length = Length::Long;
+            assert_eq!((abort(&mut core, far), core.ledger.undecided.len(), core.shouts), (Turn::Done, 0, 0));
+        }
+    }
+}
