@@ -132,26 +132,27 @@ impl Door {
 
     /// One turn of work, which looks at the time that it gets.
     pub fn turn<R>(&self, work: impl FnOnce(&mut Core, Instant) -> R) -> R {
-        self.measured(work).0
+        self.measured(TURN, work).0
     }
 
     /// The same of work that may be so long: in the lane, where it may be long. And how long it was.
     pub async fn turn_of<R>(&self, length: Length, work: impl FnOnce(&mut Core, Instant) -> R) -> (R, Length) {
         match length {
-            Length::Short => self.measured(work),
+            Length::Short => self.measured(TURN, work),
             Length::Long => {
                 let _lane = self.lane().await;
-                aside(|| self.measured(work))
+                aside(|| self.measured(TURN, work))
             }
         }
     }
 
     /// Work in turns, which keeps the lane from its first turn to its last one: that gives something. So other long work
-    /// waits for all of it, and short work for one turn.
+    /// waits for all of it, and short work for one turn. The lane rests behind each of them, because together they are
+    /// long.
     pub async fn turns_in_lane<R>(&self, mut work: impl FnMut(&mut Core, Instant) -> Option<R>) -> R {
         let _lane = self.lane().await;
         loop {
-            if let (Some(result), _) = aside(|| self.measured(&mut work)) {
+            if let (Some(result), _) = aside(|| self.measured(Duration::ZERO, &mut work)) {
                 return result;
             }
             tokio::task::yield_now().await;
@@ -180,12 +181,13 @@ impl Door {
         }
     }
 
-    fn measured<R>(&self, work: impl FnOnce(&mut Core, Instant) -> R) -> (R, Length) {
+    /// Work that is given the time of a turn, and for how much of it the lane needn't rest.
+    fn measured<R>(&self, free: Duration, work: impl FnOnce(&mut Core, Instant) -> R) -> (R, Length) {
         self.run(|core| {
-            let until = Instant::now() + TURN;
-            let result = work(core, until);
+            let begun = Instant::now();
+            let result = work(core, begun + TURN);
             let now = Instant::now();
-            let over = now.saturating_duration_since(until);
+            let over = now.saturating_duration_since(begun + free);
             let is_alone = self.waiting.load(Relaxed) == 0;
             if !is_alone && over * REST >= SHORTEST_REST {
                 let mut rests = self.rests.lock();
@@ -320,6 +322,27 @@ mod tests {
                 assert!(was == Length::Long && next() >= end + (LONG - TURN) * REST);
             });
         }
+    }
+
+    #[test]
+    fn the_lane_rests_between_turns_that_keep_it_however_short_they_are() {
+        let server = server(&[]);
+        let door = &server.door;
+        let mut ends = Vec::new();
+        thread::scope(|scope| {
+            run(door.turns_in_lane(|_, _| {
+                let begun = Instant::now();
+                if let Some(&end) = ends.last() {
+                    assert!(begun >= end + TURN / 2 * REST);
+                    return Some(());
+                }
+                scope.spawn(|| door.run(|_| {}));
+                wait_until(|| door.waiting.load(Relaxed) > 0);
+                sleep((TURN / 2).saturating_sub(begun.elapsed()));
+                ends.push(Instant::now());
+                None
+            }));
+        });
     }
 
     #[test]
