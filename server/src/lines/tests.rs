@@ -431,19 +431,6 @@ fn a_session_ends_in_turns() {
 }
 
 #[test]
-fn a_session_with_a_transaction_of_many_rows_ends_in_the_lane() {
-    let mut core = core(&["--keep", "10"]);
-    let [mut few, mut many] = [(); 2].map(|()| session(&mut core));
-    let far = Instant::now() + Duration::from_secs(60);
-    for (one, count, turn, left) in [(&mut few, 5000, Turn::Done, 0), (&mut many, 5001, Turn::Long, 1)] {
-        answers(&mut core, one, &format!("begin\n{}", "put . a 1\n".repeat(count)));
-        assert_eq!((core.end(one.seat, far, Length::Short), core.ledger.undecided.len()), (turn, left));
-        assert_eq!((core.end(one.seat, far, Length::Long), core.ledger.undecided.len()), (Turn::Done, 0));
-    }
-    assert_eq!((core.shouts, core.seats.count()), (0, 0));
-}
-
-#[test]
 fn no_line_is_of_a_transaction_that_a_request_runs() {
     let mut core = core(&[]);
     // One of them has the seat of the server's own calls.

@@ -66,3 +66,16 @@ fn what_is_refused_as_too_long_is_refused_where_it_may_be_long() {
     lines.length = Length::Short;
     assert_eq!((lines.turn(&mut core, &mut one, far), lines.told.has_fault), (Ok(Turn::Done), true));
 }
+
+#[test]
+fn a_session_with_a_transaction_of_many_rows_ends_in_the_lane() {
+    let mut core = core(&["--keep", "10"]);
+    let [mut few, mut many] = [(); 2].map(|()| session(&mut core));
+    let far = Instant::now() + Duration::from_secs(60);
+    for (one, count, turn, left) in [(&mut few, 5000, Turn::Done, 0), (&mut many, 5001, Turn::Long, 1)] {
+        answers(&mut core, one, &format!("begin\n{}", "put . a 1\n".repeat(count)));
+        assert_eq!((core.end(one.seat, far, Length::Short), core.ledger.undecided.len()), (turn, left));
+        assert_eq!((core.end(one.seat, far, Length::Long), core.ledger.undecided.len()), (Turn::Done, 0));
+    }
+    assert_eq!((core.shouts, core.seats.count()), (0, 0));
+}
