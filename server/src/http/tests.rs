@@ -1,7 +1,7 @@
 //! Requests as bytes: what is well-formed is answered whatever pieces it comes in, and what isn't is refused.
 
 use super::*;
-use crate::testing::{server, Dice};
+use crate::testing::{say, server, session, Dice, IDENTITY};
 use tokio::io::{duplex, AsyncReadExt, AsyncWriteExt};
 
 const MOST: usize = 2000;
@@ -207,19 +207,27 @@ fn half_an_escape_is_refused_wherever_it_stands() {
 #[test]
 fn a_feed_is_polled_first_once_its_stream_has_the_lane() {
     let server = server(&[]);
+    server.door.run(|core| {
+        let mut one = session(core);
+        say(core, &mut one, "begin 1\nput 1 a 1\ncommit 1\nclose 1\n");
+    });
     let told = run(async {
         let connection = server.connections.come(([127, 0, 0, 1], 1).into()).expect("a place");
         let (ours, mut client) = duplex(1 << 16);
         tokio::spawn(serve(connection.watch(ours), server.clone(), connection));
         let lane = server.door.keep_lane().await;
-        client.write_all(format!("GET /feed HTTP/1.1\r\n{OWN}\r\n").as_bytes()).await.expect("there is room");
+        client
+            .write_all(format!("GET /feed?from=0&identity={IDENTITY} HTTP/1.1\r\n{OWN}\r\n").as_bytes())
+            .await
+            .expect("there is room");
         tokio::time::sleep(Duration::from_secs(3)).await;
         let waiting = server.streams.told().0;
         drop(lane);
         tokio::time::sleep(Duration::from_secs(3)).await;
         (waiting, server.streams.told().0)
     });
-    assert_eq!(told, (0, 1));
+    // The row, and how far closed is.
+    assert_eq!(told, (0, 2));
 }
 
 // ---- drawn bodies
