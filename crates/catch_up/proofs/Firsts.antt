@@ -1,6 +1,6 @@
 -- The values of a span at a timestamp, gathered key by key.
 use Rattle.std.proofs.lemmas.Grind.{common_steps}
-use Rattle.std.proofs.Common.{append_assoc, Bool, Bor, List, None, Option, Some, [], ap, arith, false, length, refl, subst, sym, true, ◌&&◌, ℕ, ◌+◌, ◌<◌, ◌≤◌, ◌≡◌, ◌++◌, ◌∷◌, ◌∙◌}
+use Rattle.std.proofs.Common.{append_assoc, Bool, Bor, List, None, Option, Some, [], ap, arith, false, length, refl, subst, sym, true, ◌&&◌, ℕ, ◌<◌, ◌≤◌, ◌≡◌, ◌++◌, ◌∷◌, ◌∙◌}
 use Rattle.std.specs.Prelude.{MatchOption, IfSome, filter, is_some}
 use Rattle.std.specs.Option.{option_copied}
 use Rattle.std.specs.Map.{keys_of}

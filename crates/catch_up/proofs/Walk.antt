@@ -2,7 +2,7 @@
 use Rattle.std.proofs.lemmas.Grind.{common_steps}
 use Rattle.std.proofs.Common.{append_assoc, Bor, List, None, Option, Some, [], ap, arith, false, inl, inr, length, refl, subst, sym, take, true, ℕ, ◌+◌, ◌<◌, ◌≤◌, ◌⊎◌, ◌≡◌, ◌++◌, ◌∷◌, ◌∙◌}
 use Rattle.std.proofs.lemmas.Bool.{both_ways}
-use Rattle.std.specs.Prelude.{MatchOption, is_some}
+use Rattle.std.specs.Prelude.{is_some}
 use Rattle.std.specs.Map.Iter.{TakesFirst, deref_pair}
 use Rattle.std.proofs.Math.Seq.{take-append-add}
 use Rattle.std.proofs.lemmas.List.{take_all as first_all, length_push}
@@ -17,7 +17,7 @@ use Rattle.version_chain.specs.declared.chain.Version.{Version}
 use Rattle.version_chain.specs.Chains.{Entry, found_in}
 use Rattle.version_chain.specs.Following.{IsStep, IsToCome, Walk, is_after_place, is_before}
 use Rattle.version_chain.specs.Stores.{IsNewestIn, Stored, after_of, is_committed, is_committed_in, version_in}
-use Rattle.catch_up.specs.Left.{AreLeftIn, AreNextIn, IsLeftIn, IsPast, IsRowAt, IsToldOf}
+use Rattle.catch_up.specs.Left.{AreLeftIn, AreNextIn, IsAdded, IsLeftIn, IsPast, IsRowAt, IsTold, IsToldOf}
 use Rattle.version_chain.proofs.Order.{after_trans, before_itself, before_neither}
 use Rattle.catch_up.proofs.Gathered.{are_left}
 
@@ -113,10 +113,6 @@ walk_takes s span ts key through n t x missing missing' rows rows' r walked next
 next_is : (s : Stored) (span : Span) (t : ℕ) (x : Option (List ℕ)) (through : ℕ) (y : List ℕ) (i : ℕ) (a : After) → IsStepTo s t x through y i → IsToldOf s span i y (record { ts = i; key = y; after = a }) → IsNext s span t x through (record { ts = i; key = y; after = a })
 next_is s span t x through y i a step told = grind (arith, common_steps)
 
--- the row, where there is one, was added
-abbrev pub IsAdded : Option Row → (missing missing' : ℕ) (rows rows' : List Row) → Type 0
-IsAdded row missing missing' rows rows' = MatchOption row ((missing' ≡ missing) × (rows' ≡ rows)) (λ r. (missing ≡ missing' + 1) × (rows' ≡ rows ++ r ∷ []))
-
 walk_steps : (s : Stored) (span : Span) (ts : ℕ) (key : Option (List ℕ)) (through n t : ℕ) (x : Option (List ℕ)) (missing missing' : ℕ) (rows rows' : List Row) (y : List ℕ) (i : ℕ) (row : Option Row) → IsWalked s span ts key through n t x missing rows
     → IsStepTo s t x through y i → IsRowAt s span i y row → IsAdded row missing missing' rows rows' → IsWalked s span ts key through n i (Some y) missing' rows'
 walk_steps s span ts key through n t x missing missing' rows rows' y i None walked step none same = grind (arith, common_steps, walk_passes)
@@ -186,12 +182,12 @@ begins_walking s span ts key through n = record { store = refl; far = refl; walk
 pub begins_at : (s : Stored) (span : Span) (w : Walk) (through n : ℕ) → w.store ≡ s → w.through ≡ through → IsWalking s span w.ts w.key through n w n []
 begins_at s span w through n store far = record { store = store; far = far; walked = walk_begins s span w.ts w.key through n }
 
-pub goes_on_walking : (s : Stored) (span : Span) (ts : ℕ) (key : Option (List ℕ)) (through n : ℕ) (w w' : Walk) (missing missing' : ℕ) (rows rows' : List Row) (y : List ℕ) (i : ℕ) (row : Option Row) → IsWalking s span ts key through n w missing rows
-    → IsStep w i y → w' ≡ record w { ts = i; key = Some y } → IsRowAt s span i y row → IsAdded row missing missing' rows rows' → IsWalking s span ts key through n w' missing' rows'
-goes_on_walking s span ts key through n w w' missing missing' rows rows' y i row walking step moved at added = record {
+pub goes_on_walking : (s : Stored) (span : Span) (ts : ℕ) (key : Option (List ℕ)) (through n : ℕ) (w w' : Walk) (missing missing' : ℕ) (rows rows' : List Row) (y : List ℕ) (i : ℕ) → IsWalking s span ts key through n w missing rows
+    → IsStep w i y → w' ≡ record w { ts = i; key = Some y } → IsTold s span i y missing missing' rows rows' → IsWalking s span ts key through n w' missing' rows'
+goes_on_walking s span ts key through n w w' missing missing' rows rows' y i walking step moved told = record {
   store = ap (λ (u : Walk). u.store) moved ∙ walking.store;
   far = ap (λ (u : Walk). u.through) moved ∙ walking.far;
-  walked = subst (λ (u : Walk). IsWalked s span ts key through n u.ts u.key missing' rows') (sym moved) (walk_steps s span ts key through n w.ts w.key missing missing' rows rows' y i row walking.walked here at added);
+  walked = subst (λ (u : Walk). IsWalked s span ts key through n u.ts u.key missing' rows') (sym moved) (walk_steps s span ts key through n w.ts w.key missing missing' rows rows' y i told.0 walking.walked here told.1 told.2);
 }
   where
     here : IsStepTo s w.ts w.key through y i

@@ -20,14 +20,14 @@
 //!   first row.
 //!
 //! [`next_rows`] walks the index, and searches the chain of a key that the span has, and of no other. From its 16th step on
-//! it counts a key of the span with each, and turns to the chains once there is none left. Where nothing can come after the
-//! place it searches nothing.
+//! it counts a key of the span for every eight, and turns to the chains once there is none left. Where nothing can come
+//! after the place it searches nothing.
 //!
 //! Costs, in searches of the store, each O(log n) for n keys and timestamps:
 //!
 //! - `next_rows`: none where the place is at or above the timestamp. Else three, and one of a chain for each row told, plus
-//!   the smaller of: a look at each version of other spans in between; 16 of these, and two searches for each key of the
-//!   span
+//!   the smaller of: a look at each version of other spans in between; 16 of these, and for each key of the span eight more
+//!   and two searches
 //! - `next_snapshot`: one for the first key, and one of a chain for each key from there to the last that is told, or to
 //!   the span's end where fewer are found than are wanted
 //! - a version of the span that isn't committed: one more, where it is passed

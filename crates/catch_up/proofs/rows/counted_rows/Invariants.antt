@@ -1,10 +1,10 @@
-use Rattle.std.proofs.Common.{length}
+use Rattle.std.proofs.Common.{length, ◌+◌, ◌*◌, ◌<◌}
 use Rattle.catch_up.proofs.Walk.{IsWalking}
 use Rattle.catch_up.proofs.rows.counted_rows.Given as goal
 
 abbrev pub invariant-loop-missing : goal.invariant-loop-missing
-invariant-loop-missing l = IsWalking l.store l.span l.fn.versions.ts l.fn.versions.key l.through l.n l.versions l.missing l.rows.items
+invariant-loop-missing l = (0 < l.steps) × IsWalking l.store l.span l.fn.versions.ts l.fn.versions.key l.through l.n l.versions l.missing l.rows.items
 
--- each step passes a key
+-- so many steps pass a key
 abbrev pub decreases-loop-missing : goal.decreases-loop-missing
-decreases-loop-missing l = length l.keys
+decreases-loop-missing l = 8 * length l.keys + l.steps

@@ -1,9 +1,7 @@
-use Rattle.std.proofs.Common.{Global, Vec, ap, arith, subst, sym, ◌∙◌}
+use Rattle.std.proofs.Common.{arith, subst, sym}
 use Rattle.std.specs.Option.{option_copied}
-use Rattle.timestamps.specs.declared.row.Row.{Row}
-use Rattle.catch_up.proofs.Walk.{IsAdded, IsWalking, begins_walking, ends_walking, goes_on_walking, none_past, walk_full, walk_joins}
+use Rattle.catch_up.proofs.Walk.{IsWalking, begins_walking, ends_walking, goes_on_walking, none_past, walk_full, walk_joins}
 use Rattle.catch_up.proofs.rows.next_rows.Goals as goal
-use Rattle.catch_up.proofs.rows.next_rows.Goals.{in-Some-2+in_ok-push, in_default-2}
 
 pub returns-then-is_past : goal.returns-then-is_past
 returns-then-is_past c = none_past c.args.store.now c.args.span.now c.args.ts (option_copied c.args.key) c.args.through c.args.n c.new-rows.result.items (c.is_past.ensures c.if-is_past.true) c.new-rows.ensures.items
@@ -24,17 +22,13 @@ pub returns-in_default : goal.returns-in_default
 returns-in_default c =
     ends_walking c.args.store.now c.args.span.now c.args.ts (option_copied c.args.key) c.args.through c.args.n c.loop.versions c.loop.missing c.loop.rows.items c.loop.invariant c.in_default.ensures.found
 
+pub tell-requires : goal.tell-requires
+tell-requires c = omega (arith, c.if-missing-eq0.false)
+
 pub loop-preserved : goal.loop-preserved
 loop-preserved c =
-    goes_on_walking c.args.store.now c.args.span.now c.args.ts (option_copied c.args.key) c.args.through c.args.n c.loop.versions c.next.new.self c.loop.missing c.match-branch-2.missing c.loop.rows.items c.match-branch-2.rows.items
-    c.in-Some.found.now c.in-Some.at c.in_ok-row.field-0 c.loop.invariant c.in-Some.ensures.found c.in-Some.ensures.walked c.in_ok-row.ensures
-    (elim c.match-branch-2.branch [
-      | in-Some-2+in_ok-push w ↦ subst (λ o. IsAdded o c.loop.missing c.match-branch-2.missing c.loop.rows.items c.match-branch-2.rows.items) (sym w.in-Some-2.is) (
-        omega (arith, w.missing-is, c.if-missing-eq0.false),
-        ap (λ (v : Vec Row Global). v.items) w.rows-is ∙ w.in_ok-push.ensures.items,
-      )
-      | in_default-2 w ↦ subst (λ o. IsAdded o c.loop.missing c.match-branch-2.missing c.loop.rows.items c.match-branch-2.rows.items) (sym w.in_default-2.is) (w.missing-is, ap (λ (v : Vec Row Global). v.items) w.rows-is)
-    ])
+    goes_on_walking c.args.store.now c.args.span.now c.args.ts (option_copied c.args.key) c.args.through c.args.n c.loop.versions c.next.new.self c.loop.missing c.tell.new.missing c.loop.rows.items c.tell.new.rows.items
+    c.in-Some.found.now c.in-Some.at c.loop.invariant c.in-Some.ensures.found c.in-Some.ensures.walked c.in_ok-tell.ensures
 
 pub counted_rows-requires-clause-store : goal.counted_rows-requires-clause-store
 counted_rows-requires-clause-store c = c.loop.invariant.store
