@@ -131,8 +131,6 @@ def test_another_address_pushes_nobody_out(room: Room, scale: Scale) -> str:
     for _ in range(400):
         many.append(socket.create_connection(("127.0.0.1", server.port), source_address=("127.0.0.2", 0)))
         many[-1].sendall(head(server, "POST", "/call", "Content-Length: 1000\r\n\r\n") + b"begin\n")
-    # While each of the other address's is busy, whoever comes makes room by his own. Silent they are once they are read.
-    time.sleep(1)
     took = honest(server)
     for one in resting:
         one.ask("GET", "/consumer/nobody")
