@@ -1,25 +1,8 @@
 -- The values of a span at a timestamp, gathered key by key.
-use Rattle.std.proofs.lemmas.Grind.{common_steps}
+use Rattle.catch_up.proofs.Common.{After, Entry, IsIn, IsNewestOf, IsNoneUpTo, IsRowIn, RisingKeys, RisingRows, Row, Span, Stored, Version, both_ways, by_test, chain_among, chain_nowhere, chain_of, common_steps, has, has_in, has_versions, in_span, keys_of, length-append, newest_only, option_copied, rises_append, rises_filtered, version_in}
 use Rattle.std.proofs.Common.{append_assoc, Bool, Bor, List, None, Option, Some, [], ap, arith, false, length, refl, subst, sym, true, ◌&&◌, ℕ, ◌<◌, ◌≤◌, ◌≡◌, ◌++◌, ◌∷◌, ◌∙◌}
 use Rattle.std.specs.Prelude.{MatchOption, IfSome, filter, is_some}
-use Rattle.std.specs.Option.{option_copied}
-use Rattle.std.specs.Map.{keys_of}
-use Rattle.std.proofs.lemmas.Bool.{both_ways}
-use Rattle.std.proofs.lemmas.List.{length-append}
-use Rattle.timestamps.specs.declared.row.Row.{Row}
-use Rattle.spans.specs.Effects.{After}
-use Rattle.spans.specs.Keys.{in_span}
 use Rattle.spans.specs.Newest.{newest}
-use Rattle.spans.specs.declared.span.Span.{Span}
-use Rattle.spans.proofs.Keyed.{IsIn, RisingKeys}
-use Rattle.spans.proofs.Steps.{by_test, newest_only}
-use Rattle.spans.proofs.StreamOrder.{IsRowIn, RisingRows, rises_append}
-use Rattle.spans.proofs.WriteSets.{has, has_in}
-use Rattle.version_chain.specs.declared.chain.Version.{Version}
-use Rattle.version_chain.specs.Chains.{Entry, chain_of, has_versions}
-use Rattle.version_chain.specs.Stores.{Stored, version_in}
-use Rattle.version_chain.specs.Versions.{IsNewestOf, IsNoneUpTo}
-use Rattle.version_chain.proofs.InSpans.{chain_among, chain_nowhere, rises_filtered}
 use Rattle.catch_up.specs.Firsts.{AreFirstsIn, IsFirstIn, is_past, one_at, one_in, value_in}
 
 -- what the store has of a key

@@ -1,22 +1,9 @@
 -- The rows that are left, gathered from all versions.
-use Rattle.std.proofs.lemmas.Grind.{common_steps}
+use Rattle.catch_up.proofs.Common.{After, Entry, IsRowIn, RisingRows, Row, Span, Stored, Version, after_of, and_from, and_parts, by_test, chain_in, common_steps, found_in, in_span, is_after_place, is_committed, is_committed_in, is_eq-slice_cmp, le-leb, leb-true, same_key, version_in, version_of}
 use Rattle.std.proofs.Common.{arith}
 use Rattle.std.proofs.Common.{rules}
 use Rattle.std.proofs.Common.{Bool, List, None, Option, Some, [], ap, false, inl, inr, refl, subst, sym, true, ℕ, ◌&&◌, ◌⊎◌, ◌≡◌, ◌++◌, ◌∷◌, ◌∙◌}
 use Rattle.std.specs.Prelude.{if◌then◌else◌, nat_le}
-use Rattle.std.proofs.lemmas.Bool.{and_from, and_parts, le-leb, leb-true}
-use Rattle.std.proofs.lemmas.Map.Text.{is_eq-slice_cmp}
-use Rattle.timestamps.specs.declared.row.Row.{Row}
-use Rattle.spans.specs.Effects.{After}
-use Rattle.spans.specs.Keys.{in_span}
-use Rattle.spans.specs.declared.span.Span.{Span}
-use Rattle.spans.proofs.Steps.{by_test, same_key}
-use Rattle.spans.proofs.StreamOrder.{IsRowIn, RisingRows}
-use Rattle.version_chain.specs.declared.chain.Version.{Version}
-use Rattle.version_chain.specs.Chains.{Entry, chain_in, found_in}
-use Rattle.version_chain.specs.Following.{is_after_place}
-use Rattle.version_chain.specs.Stores.{Stored, after_of, is_committed, is_committed_in, version_in}
-use Rattle.version_chain.specs.Versions.{version_of}
 use Rattle.catch_up.specs.Left.{AreLeftIn}
 use Rattle.catch_up.proofs.Order.{put_in, put_only, put_rises, put_row, put_stays}
 

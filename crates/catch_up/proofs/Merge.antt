@@ -1,36 +1,20 @@
 -- The heads of a span's keys: one is added, and the first is taken.
-use Rattle.std.proofs.lemmas.Grind.{common_steps}
+use Rattle.catch_up.proofs.Common.{Entry, IsIn, IsLeft, RisingKeys, Row, Span, Stored, Version, before_itself, before_trans, both_ways, by_test, chain_nowhere, chain_of, common_steps, false_from_ne_true, has, has_in, has_versions, in_span, is_before, is_committed, is_eq-slice_cmp, keys_of, lt-ltb, ltb-true, same_key, version_of}
 use Rattle.std.proofs.Common.{Bool, List, None, Option, Some, [], add-one, ap, arith, false, inl, inr, length, length-append, refl, subst, suc, sym, true, zero, ◌&&◌, ℕ, ◌+◌, ◌-◌, ◌<◌, ◌≤◌, ◌⊎◌, ◌≡◌, ◌++◌, ◌∷◌, ◌∙◌}
 use Rattle.std.specs.Prelude.{IfSome, is_some, nat_lt, ◌&&◌, ◌==◌, ◌||◌}
 use Rattle.std.specs.BTreeMap.{BTreeMap, IsOrdered, insert_entry}
 use Rattle.std.specs.List.{AllByRecursion, filter}
 use Rattle.std.specs.List.Sorted.{IsStrictlySortedBy}
-use Rattle.std.specs.Map.{keys_of}
 use Rattle.std.specs.Ordering.{is_eq, nat_cmp, ordering_then}
 use Rattle.std.specs.declared.cmp.Ordering.{Ordering}
 use Rattle.std.specs.declared.cmp.Ordering.TheVariants.{Less, Equal, Greater}
-use Rattle.std.proofs.lemmas.Bool.{both_ways, false_from_ne_true, lt-ltb, ltb-true}
 use Rattle.std.proofs.lemmas.Bool.Decides.{nat_tests}
 use Rattle.std.proofs.lemmas.Map.Keys.{sorted_head, sorted_tail}
-use Rattle.std.proofs.lemmas.Map.Text.{is_eq-slice_cmp}
 use Rattle.timestamps.specs.Bytes.{key_cmp}
-use Rattle.timestamps.specs.declared.row.Row.{Row}
 use Rattle.spans.specs.KeyOrder.{key_lt}
-use Rattle.spans.specs.Keys.{in_span}
-use Rattle.spans.specs.declared.span.Span.{Span}
-use Rattle.spans.proofs.Keyed.{IsIn, RisingKeys}
-use Rattle.spans.proofs.Steps.{by_test, same_key}
-use Rattle.spans.proofs.WriteSets.{has, has_in}
-use Rattle.version_chain.specs.declared.chain.Version.{Version}
-use Rattle.version_chain.specs.Chains.{Entry, chain_of, has_versions}
-use Rattle.version_chain.specs.Following.{IsLeft, is_before}
-use Rattle.version_chain.specs.Stores.{Stored, is_committed}
-use Rattle.version_chain.specs.Versions.{version_of}
-use Rattle.version_chain.proofs.InSpans.{chain_nowhere}
 use Rattle.catch_up.specs.Heads.{AllHeads, AreBefore, AreHeads, Found, HasHead, IsDue, IsFirstDue, IsHead, IsNoneDue, Spot, spot_cmp}
 use Rattle.catch_up.specs.Left.{AreNextIn, IsLeftIn}
 use Rattle.catch_up.proofs.Firsts.{AreChained, chained, passed_in}
-use Rattle.version_chain.proofs.Order.{before_itself, before_trans}
 use Rattle.catch_up.proofs.Walk.{IsNext, IsWalked, row_of, walk_begins, walk_ends, walk_full, walk_takes}
 
 -- ---- which timestamps of a key come after a place

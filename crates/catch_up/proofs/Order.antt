@@ -1,13 +1,8 @@
 -- Rows that are put into their order.
-use Rattle.std.proofs.lemmas.Grind.{common_steps}
+use Rattle.catch_up.proofs.Common.{IsRowIn, RisingRows, Row, before_neither, before_trans, by_test, common_steps, row_lt}
 use Rattle.std.proofs.Common.{arith}
 use Rattle.std.proofs.Common.{List, [], inl, inr, refl, ◌⊎◌, ◌≡◌, ◌∷◌}
 use Rattle.std.specs.Prelude.{if◌then◌else◌}
-use Rattle.timestamps.specs.declared.row.Row.{Row}
-use Rattle.spans.specs.Streams.{row_lt}
-use Rattle.spans.proofs.Steps.{by_test}
-use Rattle.spans.proofs.StreamOrder.{IsRowIn, RisingRows}
-use Rattle.version_chain.proofs.Order.{before_neither, before_trans}
 
 -- ---- rows in order
 

@@ -1,24 +1,11 @@
 -- A walk from version to version, which gathers rows.
-use Rattle.std.proofs.lemmas.Grind.{common_steps}
+use Rattle.catch_up.proofs.Common.{After, Entry, IsNewestIn, IsRowIn, IsStep, IsToCome, RisingRows, Row, Span, Stored, Version, Walk, after_of, after_trans, before_itself, before_neither, both_ways, by_test, common_steps, found_in, in_append, in_span, is_after_place, is_before, is_committed, is_committed_in, length_push, rises_append, rises_parts, row_lt, version_in}
 use Rattle.std.proofs.Common.{append_assoc, Bor, List, None, Option, Some, [], ap, arith, false, inl, inr, length, refl, subst, sym, take, true, ℕ, ◌+◌, ◌<◌, ◌≤◌, ◌⊎◌, ◌≡◌, ◌++◌, ◌∷◌, ◌∙◌}
-use Rattle.std.proofs.lemmas.Bool.{both_ways}
 use Rattle.std.specs.Prelude.{is_some}
 use Rattle.std.specs.Map.Iter.{TakesFirst, deref_pair}
 use Rattle.std.proofs.Math.Seq.{take-append-add}
-use Rattle.std.proofs.lemmas.List.{take_all as first_all, length_push}
-use Rattle.timestamps.specs.declared.row.Row.{Row}
-use Rattle.spans.specs.Effects.{After}
-use Rattle.spans.specs.Keys.{in_span}
-use Rattle.spans.specs.Streams.{row_lt}
-use Rattle.spans.specs.declared.span.Span.{Span}
-use Rattle.spans.proofs.Steps.{by_test}
-use Rattle.spans.proofs.StreamOrder.{IsRowIn, RisingRows, in_append, rises_append, rises_parts}
-use Rattle.version_chain.specs.declared.chain.Version.{Version}
-use Rattle.version_chain.specs.Chains.{Entry, found_in}
-use Rattle.version_chain.specs.Following.{IsStep, IsToCome, Walk, is_after_place, is_before}
-use Rattle.version_chain.specs.Stores.{IsNewestIn, Stored, after_of, is_committed, is_committed_in, version_in}
+use Rattle.std.proofs.lemmas.List.{take_all as first_all}
 use Rattle.catch_up.specs.Left.{AreLeftIn, AreNextIn, IsAdded, IsLeftIn, IsPast, IsRowAt, IsTold, IsToldOf}
-use Rattle.version_chain.proofs.Order.{after_trans, before_itself, before_neither}
 use Rattle.catch_up.proofs.Gathered.{are_left}
 
 -- rows are those before a place, and some are missing

@@ -1,21 +1,10 @@
 -- The least protected timestamp is that of the first by timestamp.
-use Rattle.std.proofs.lemmas.Grind.{common_steps}
+use Rattle.closing.proofs.Common.{AllByRecursion, IsStrictlySortedBy, Less, Protection, by_test, common_steps, eq-eqb, eqb-true, is_at, is_eq, is_gt, keys_of, lookup, map-append, nat_cmp, nat_tests}
 use Rattle.std.proofs.Common.{Bool, List, None, Option, Some, ap, arith, false, inl, inr, min, refl, subst, sym, true, ℕ, ◌≤◌, ◌==◌, ◌⊎◌, ◌≡◌, ◌++◌, ◌∷◌, ◌∙◌, []}
 use Rattle.std.specs.Prelude.{map}
-use Rattle.std.specs.List.Sorted.{IsStrictlySortedBy}
-use Rattle.std.specs.List.{AllByRecursion}
-use Rattle.std.specs.Map.{keys_of, lookup}
-use Rattle.std.specs.Ordering.{is_eq, is_gt, nat_cmp}
-use Rattle.std.specs.BTreeMap.{is_at}
-use Rattle.std.specs.declared.cmp.Ordering.TheVariants.{Less}
-use Rattle.std.proofs.lemmas.Bool.{eq-eqb, eqb-true}
-use Rattle.std.proofs.lemmas.Bool.Decides.{nat_tests}
 use Rattle.std.proofs.lemmas.Cmp.{nat_cmp_total, tied_itself}
-use Rattle.std.proofs.lemmas.List.{map-append}
-use Rattle.spans.specs.Collection.{Protection}
 use Rattle.spans.specs.Transactions.{least_of}
 use Rattle.spans.proofs.Open.{IsAmong}
-use Rattle.spans.proofs.Steps.{by_test}
 use Rattle.spans.proofs.Horizon.{least_low}
 use Rattle.closing.specs.Standing.{newest_first, protection}
 use Rattle.closing.specs.Ties.{is_just, pair_cmp}

@@ -1,19 +1,9 @@
 -- Protections by rising numbers, and the same with the newest first.
-use Rattle.std.proofs.lemmas.Grind.{common_steps}
+use Rattle.closing.proofs.Common.{AllByRecursion, Greater, IsStrictlySortedBy, Less, Protection, append-nil, by_test, common_steps, insert_entry, is_at, keys_of, list_any, lookup, nat_cmp, nat_tests, remove_entry}
 use Rattle.std.proofs.Common.{Bool, List, None, ap, arith, false, refl, subst, sym, true, ℕ, ◌+◌, ◌<◌, ◌==◌, ◌≡◌, ◌++◌, ◌∷◌, ◌∙◌, []}
 use Rattle.std.specs.Prelude.{filter, is_some, not}
 use Rattle.std.specs.Cmp.{nat_cmp_is}
-use Rattle.std.specs.List.{AllByRecursion, list_any}
-use Rattle.std.specs.List.Sorted.{IsStrictlySortedBy}
-use Rattle.std.specs.Map.{keys_of, lookup, remove_entry}
-use Rattle.std.specs.Ordering.{nat_cmp}
-use Rattle.std.specs.BTreeMap.{insert_entry, is_at}
-use Rattle.std.specs.declared.cmp.Ordering.TheVariants.{Greater, Less}
-use Rattle.std.proofs.lemmas.Bool.Decides.{nat_tests}
-use Rattle.std.proofs.lemmas.List.{append-nil}
 use Rattle.std.proofs.lemmas.List.Elements.{filter-append}
-use Rattle.spans.specs.Collection.{Protection}
-use Rattle.spans.proofs.Steps.{by_test}
 use Rattle.closing.specs.Standing.{newest_first, protection}
 use Rattle.closing.specs.Ties.{AreNumbered}
 

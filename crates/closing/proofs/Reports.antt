@@ -1,7 +1,6 @@
 -- The protections of rising numbers are the protections that stand, with the oldest first.
 use Rattle.std.proofs.Common.{List, [], ap, map, refl, reverse, sym, ℕ, ◌∙◌, ◌∷◌, ◌≡◌}
-use Rattle.std.proofs.lemmas.List.{reverse-append}
-use Rattle.spans.specs.Report.{protection_report}
+use Rattle.closing.proofs.Common.{protection_report, reverse-append}
 use Rattle.closing.specs.Standing.{entry_report, newest_first, protection}
 
 pub oldest_first : (es : List (ℕ × ℕ)) → map entry_report es ≡ map protection_report (reverse (newest_first es))

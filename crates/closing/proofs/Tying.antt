@@ -1,11 +1,6 @@
 -- The two orders of the protections stay tied to each other.
-use Rattle.std.proofs.lemmas.Grind.{common_steps}
+use Rattle.closing.proofs.Common.{and_parts, by_test, common_steps, eqb-true, is_at, nat_cmp, nat_tests}
 use Rattle.std.proofs.Common.{Bool, None, Option, Some, ap, arith, cond, false, sym, true, ℕ, ◌&&◌, ◌==◌, ◌≡◌, ◌∙◌}
-use Rattle.std.specs.Ordering.{nat_cmp}
-use Rattle.std.specs.BTreeMap.{is_at}
-use Rattle.std.proofs.lemmas.Bool.{eqb-true, and_parts}
-use Rattle.std.proofs.lemmas.Bool.Decides.{nat_tests}
-use Rattle.spans.proofs.Steps.{by_test}
 use Rattle.closing.specs.Ties.{is_just, pair_cmp}
 
 -- the set has just the timestamps that the map has, each with its number

@@ -1,20 +1,17 @@
 -- What the program does: which job runs on which devices, and which status it leaves (this project).
 use Rattle.std.specs.Prelude.{ℕ, List, ◌≡◌, ◌⊎◌, unwrap_or}
-use Rattle.sessions.specs.Devices.{Reads, Writes}
-use Rattle.jobs.specs.declared.ending.End.{End}
+use Rattle.command_line.specs.Prelude.{End, FollowEnd, IsSeedOf, IsUnseeded, Reads, Writes}
 use Rattle.jobs.specs.Answers.{IsAnswered, IsSilentAt}
 use Rattle.jobs.specs.Dumps.{IsDumped}
 use Rattle.jobs.specs.Ends.{IsRun}
 use Rattle.jobs.specs.Races.{IsRace}
 use Rattle.jobs.specs.States.{IsState}
 use Rattle.jobs.specs.Verdicts.{IsVerdict}
-use Rattle.follow.specs.declared.ending.FollowEnd.{FollowEnd}
 use Rattle.follow.specs.declared.options.FollowOptions.{FollowOptions}
 use Rattle.follow.specs.declared.options.Start.TheVariants as starts
 use Rattle.follow.specs.declared.seed.Seed.{Seed}
 use Rattle.follow.specs.declared.seed.SeedError.{SeedError}
 use Rattle.follow.specs.Ends.{CouldBegin, IsFollowed}
-use Rattle.follow.specs.Seeds.{IsSeedOf, IsUnseeded}
 use Rattle.command_line.specs.declared.arguments.Job.{Job}
 use Rattle.command_line.specs.declared.arguments.Job.TheVariants as jobs
 use Rattle.command_line.specs.declared.following.Seeded.{Seeded}

@@ -1,3 +1,4 @@
+pub mod Prelude
 pub mod Statuses
 pub mod Sentences
 pub mod Doing

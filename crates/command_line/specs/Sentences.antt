@@ -4,9 +4,8 @@ use Rattle.spelled_words.specs.declared.fault.LineFault.{LineFault}
 use Rattle.spelled_words.specs.declared.fault.LineFault.TheVariants as faults
 use Rattle.shared_db.specs.declared.config.OpenError.{OpenError}
 use Rattle.shared_db.specs.declared.config.OpenError.TheVariants as reasons
-use Rattle.jobs.specs.declared.ending.End.{End}
+use Rattle.command_line.specs.Prelude.{End, FollowEnd}
 use Rattle.jobs.specs.declared.ending.End.TheVariants as ends
-use Rattle.follow.specs.declared.ending.FollowEnd.{FollowEnd}
 use Rattle.follow.specs.declared.ending.FollowEnd.TheVariants as follow_ends
 use Rattle.follow.specs.declared.fault.FollowFault.{FollowFault}
 use Rattle.follow.specs.declared.fault.FollowFault.TheVariants as follow_faults

@@ -2,9 +2,8 @@
 use Rattle.std.specs.Prelude.{ℕ, ◌≡◌, ◌≢◌, ◌⊎◌, ◌==◌, if◌then◌else◌, Option, Some}
 use Rattle.clap.specs.declared.error.kind.ErrorKind.{ErrorKind}
 use Rattle.clap.specs.declared.error.kind.ErrorKind.TheVariants as kinds
-use Rattle.jobs.specs.declared.ending.End.{End}
+use Rattle.command_line.specs.Prelude.{End, FollowEnd}
 use Rattle.jobs.specs.declared.ending.End.TheVariants as ends
-use Rattle.follow.specs.declared.ending.FollowEnd.{FollowEnd}
 use Rattle.follow.specs.declared.ending.FollowEnd.TheVariants as follow_ends
 
 -- 0 where all was done, 2 for a faulty line, 3 for what is not right, and 1 where the program failed

@@ -1,4 +1,4 @@
-//! The command line: which words the program takes, and what they ask for.
+//! The command line: which words the program takes, and the job that they ask for, with its numbers, files and options.
 //!
 //! The builder's calls stand in small functions that promise nothing, since a proof over many of its calls in one function
 //! takes minutes.

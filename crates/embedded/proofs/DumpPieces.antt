@@ -1,10 +1,7 @@
 -- A piece of a dump, by its texts.
 use Rattle.std.proofs.Common.{◌≡◌, ℕ, ◌≤◌, true, false, List, ◌++◌, Option, Some, refl, sym, ◌∙◌, ap, subst, arith, Bool}
-use Rattle.std.proofs.lemmas.Bool.{le-ltb}
-use Rattle.std.proofs.lemmas.Bool.Decides.{nat_tests}
+use Rattle.embedded.proofs.Common.{Effect, le-ltb, mark_of, nat_tests}
 use Rattle.std.specs.Prelude.{min, nat_lt}
-use Rattle.spans.specs.Effects.{Effect}
-use Rattle.restarts.specs.Dump.{mark_of}
 use Rattle.embedded.specs.declared.dumping.DumpEnd.{DumpEnd}
 use Rattle.embedded.specs.declared.dumping.DumpPlace.{DumpPlace}
 use Rattle.embedded.specs.declared.dumping.DumpPiece.{DumpPiece}

@@ -1,28 +1,15 @@
 -- The rows that are left behind a place, and what is left of a dump there.
 use Rattle.std.proofs.Common.{◌≡◌, ℕ, zero, suc, ◌<◌, ◌≤◌, Bool, true, false, cond, List, [], ◌∷◌, ◌++◌, length, take, drop, Option, Some, None, refl, sym, ◌∙◌, ap, subst, inl, inr, arith, append_assoc}
-use Rattle.std.proofs.lemmas.Bool.{false_from_ne_true, le-ltb, leb-true, lt-ltb, ltb-true}
-use Rattle.std.proofs.lemmas.Bool.Decides.{nat_tests}
-use Rattle.std.proofs.lemmas.List.{append-nil, take-append-drop, take_all}
-use Rattle.std.proofs.lemmas.List.Concat.{flat_map-append}
+use Rattle.embedded.proofs.Common.{Begin, Close, Cmd, Collect, Effect, Row, append-nil, by_test, close_text, command_line, concat, end_text, false_from_ne_true, first_row, flat_map-append, horizon_of, le-ltb, leb-true, lines_of, lt-ltb, ltb-true, nat_tests, next_left, row_command, row_text, take-append-drop, take_all}
 use Rattle.std.proofs.lemmas.List.Elements.{filter-append}
-use Rattle.std.specs.List.{concat}
 use Rattle.std.specs.Prelude.{filter, nat_le, nat_lt, option_map}
-use Rattle.timestamps.specs.declared.row.Row.{Row}
-use Rattle.spans.specs.Collection.{horizon_of}
-use Rattle.spans.specs.Effects.{Effect}
 use Rattle.spans.specs.Streams.{stream_of}
-use Rattle.spans.specs.declared.calls.commands.Cmd.{Cmd}
-use Rattle.spans.specs.declared.calls.commands.Cmd.TheVariants.{Begin, Close, Collect}
-use Rattle.spans.proofs.Steps.{by_test}
 use Rattle.spans.proofs.StreamOrder.{IsRowIn, RisingRows, in_stream, rows_clash, stream_rises}
 use Rattle.spans.proofs.Streaming.{RowsAbove, stream_above}
 use Rattle.version_chain.specs.Following.{is_after_place}
 use Rattle.version_chain.proofs.Order.{after_trans, from_less}
-use Rattle.word_lines.specs.Commands.{command_line}
 use Rattle.restarts.specs.Rows.{all_keys, ended, is_left, is_open, left_rows, row_commands, started}
 use Rattle.restarts.proofs.ByRows.{by_row}
-use Rattle.dump_lines.specs.Lines.{close_text, end_text, lines_of, row_command, row_text}
-use Rattle.engine.specs.Dumping.{first_row, next_left}
 use Rattle.embedded.specs.declared.dumping.DumpPlace.{DumpPlace}
 use Rattle.embedded.specs.Dumping.{IsWholeLeft, first_texts, last_text, open_after, open_at, place_at_end, place_behind, place_of, row_texts, rows_behind, start, text_left, texts_through}
 

@@ -1,20 +1,11 @@
 -- The texts of a piece of a dump, one after another.
 use Rattle.std.proofs.Common.{◌≡◌, ℕ, suc, ◌+◌, ◌-◌, ◌≤◌, Bool, true, false, cond, List, [], ◌∷◌, ◌++◌, length, length-append, take, Option, Some, sym, ◌∙◌, ap, subst, inl, inr, arith, append_assoc}
-use Rattle.std.proofs.lemmas.Bool.{le-ltb}
-use Rattle.std.proofs.lemmas.Bool.Decides.{nat_tests}
-use Rattle.std.proofs.lemmas.List.{append-nil}
-use Rattle.std.specs.List.{concat}
+use Rattle.embedded.proofs.Common.{Effect, IsReached, Row, append-nil, by_test, concat, le-ltb, mark_of, nat_tests, row_text}
 use Rattle.std.specs.Prelude.{max, nat_le, nat_lt}
-use Rattle.timestamps.specs.declared.row.Row.{Row}
-use Rattle.spans.specs.Effects.{Effect}
 use Rattle.spans.specs.Transactions.{begun_of, closed_of}
 use Rattle.spans.proofs.Members.{among_has, has_begun}
 use Rattle.spans.proofs.Open.{begun_among}
-use Rattle.spans.proofs.Steps.{by_test}
-use Rattle.restarts.specs.Dump.{mark_of}
 use Rattle.restarts.proofs.InRange.{at_most, each_low, first_low}
-use Rattle.dump_lines.specs.Lines.{row_text}
-use Rattle.engine.specs.Looking.{IsReached}
 use Rattle.embedded.specs.declared.dumping.DumpEnd.{DumpEnd}
 use Rattle.embedded.specs.declared.dumping.DumpPlace.{DumpPlace}
 use Rattle.embedded.specs.DumpTexts.{AreTexts, IsNextText, filled}

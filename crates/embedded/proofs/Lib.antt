@@ -1,3 +1,4 @@
+pub mod Common
 pub mod ReadReplies
 pub mod Stepping
 pub mod FirstLines

@@ -1,19 +1,10 @@
 -- A read is answered with no messages.
 use Rattle.std.proofs.Common.{◌≡◌, ℕ, Bool, true, false, List, [], ◌∷◌, ◌++◌, refl, sym, ap, ◌∙◌, inl, inr}
-use Rattle.std.proofs.lemmas.Bool.{both_ways}
-use Rattle.spans.specs.declared.calls.commands.Cmd.{Cmd}
-use Rattle.spans.specs.declared.calls.commands.Cmd.TheVariants.{Get, ReadAt}
-use Rattle.spans.specs.declared.calls.events.Event.{Event}
-use Rattle.spans.specs.declared.calls.messages.Message.{Message}
+use Rattle.embedded.proofs.Common.{Cmd, Effect, Event, Found, Get, IsRightEvent, Message, Messages, ReadAt, Refused, Reply, both_ways, by_test}
 use Rattle.spans.specs.declared.calls.replies.Refusal.{Refusal}
 use Rattle.spans.specs.declared.calls.replies.Refusal.TheVariants.{Blocked, NoMemory}
-use Rattle.spans.specs.declared.calls.replies.Reply.{Reply}
-use Rattle.spans.specs.declared.calls.replies.Reply.TheVariants.{Found, Messages, Refused}
 use Rattle.spans.specs.Answer.{answer_of, first_refusal_or, snapshot_tests, transaction_tests}
-use Rattle.spans.specs.Effects.{Effect}
-use Rattle.spans.specs.Legal.{IsRightEvent}
 use Rattle.spans.specs.Versions.{committed_value, is_blocked, visible}
-use Rattle.spans.proofs.Steps.{by_test}
 use Rattle.embedded.specs.Typed.{is_read}
 
 abbrev has_messages : Reply → Bool

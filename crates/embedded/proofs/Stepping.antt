@@ -1,24 +1,12 @@
 -- What a database holds after a step of its engine.
 use Rattle.std.proofs.Common.{◌≡◌, ℕ, false, true, List, [], ◌∷◌, reverse, length, Some, Ok, inl, inr, refl, sym, ap, ◌∙◌, subst, arith}
-use Rattle.std.proofs.lemmas.List.{reverse-append, length-reverse}
+use Rattle.embedded.proofs.Common.{Cmd, Event, IsGapless, Message, Messages, Reply, Scan, ScanAt, Two, command_at, command_line, effects_of, event, length-reverse, reverse-append, table}
 use Rattle.std.proofs.Math.Logic.{∥∥₁_elim}
 use Rattle.std.proofs.Props.{props}
 use Rattle.std.specs.Prelude.{is_some}
-use Rattle.spans.specs.declared.calls.commands.Cmd.{Cmd}
-use Rattle.spans.specs.declared.calls.commands.Cmd.TheVariants.{Scan, ScanAt}
-use Rattle.spans.specs.declared.calls.events.Event.{Event}
-use Rattle.spans.specs.declared.calls.messages.Message.{Message}
-use Rattle.spans.specs.declared.calls.replies.Reply.{Reply}
-use Rattle.spans.specs.declared.calls.replies.Reply.TheVariants.{Messages}
-use Rattle.spans.specs.Effects.{effects_of, event}
-use Rattle.spans.specs.Legal.{IsGapless}
 use Rattle.spans.proofs.Histories.{gapless_more}
 use Rattle.engine.specs.declared.Engine.{Engine}
 use Rattle.engine.specs.Engine as engines
-use Rattle.text_format.specs.declared.Format.TheVariants.{Two}
-use Rattle.word_lines.specs.Commands.{command_line}
-use Rattle.word_lines.specs.Reading.{command_at}
-use Rattle.word_lines.specs.Table.{table}
 use Rattle.embedded.specs.declared.database.Database.{Database}
 use Rattle.embedded.specs.Embedded.{StandsFor, HasStepped, Made, IsUnwritten, last_of}
 use Rattle.embedded.specs.Typed.{IsBulk, is_read, scan_of}

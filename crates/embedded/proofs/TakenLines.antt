@@ -1,15 +1,10 @@
 -- A line whose call ended, as a step.
 use Rattle.std.proofs.Common.{◌≡◌, ℕ, true, false, ◌≤◌, List, [], ◌∷◌, length, Ok, Err, inl, inr, arith, refl, sym, ap, ◌∙◌, subst}
 use Rattle.std.specs.Prelude.{Result}
-use Rattle.spans.specs.declared.calls.events.Event.{Event}
+use Rattle.embedded.proofs.Common.{Cmd, Event, Two, command_at, effects_of, table}
 use Rattle.spelled_words.specs.declared.fault.LineFault.{LineFault}
 use Rattle.spelled_words.specs.declared.fault.LineFault.TheVariants as fault
 use Rattle.word_lines.specs.Faults.{code_of}
-use Rattle.spans.specs.Effects.{effects_of}
-use Rattle.spans.specs.declared.calls.commands.Cmd.{Cmd}
-use Rattle.text_format.specs.declared.Format.TheVariants.{Two}
-use Rattle.word_lines.specs.Reading.{command_at}
-use Rattle.word_lines.specs.Table.{table}
 use Rattle.embedded.specs.Embedded.{StandsFor, Called, kept_text, last_of, text_of}
 use Rattle.embedded.specs.Several.{IsNoted, IsShown, IsStep, IsTaken, IsTakenBy, Step, is_too_long}
 use Rattle.embedded.specs.declared.database.Database.{Database}

@@ -1,11 +1,8 @@
 -- What was taken of several lines so far, and how it goes on by one.
 use Rattle.std.proofs.Common.{◌≡◌, ◌⊎◌, ℕ, ◌+◌, ◌-◌, ◌<◌, ◌≤◌, List, [], ◌∷◌, ◌++◌, length, take, drop, set, map, get_or, Ok, Err, inl, inr, arith, refl, sym, ap, ◌∙◌, subst, append_assoc, length-append, length-drop, drop-drop}
-use Rattle.std.specs.List.{flat_map}
+use Rattle.embedded.proofs.Common.{Event, append-nil, drop_all, drop_at, drop_more, flat_map, flat_map-append, length-map, length-take-le, length_push, map_push, set_at, take-append-drop, take_at}
 use Rattle.std.specs.Prelude.{Result}
-use Rattle.std.proofs.lemmas.List.{append-nil, length-map, length-take-le, length_push, map_push, drop_all, drop_more, set_at, take_at, drop_at, take-append-drop}
-use Rattle.std.proofs.lemmas.List.Concat.{flat_map-append}
 use borrow.Rule.Slice.PartMut.{put_mid}
-use Rattle.spans.specs.declared.calls.events.Event.{Event}
 use Rattle.embedded.specs.Embedded.{StandsFor}
 use Rattle.embedded.specs.Several.{AreSteps, EndsBy, HaveBeenCalled, IsStep, IsTaken, IsUncalled, Step, first_line}
 use Rattle.embedded.specs.declared.database.Database.{Database}

@@ -1,11 +1,7 @@
 -- The versions of several keys, key by key.
 use Rattle.std.proofs.Common.{◌≡◌, ℕ, ◌+◌, ◌<◌, ◌≤◌, List, [], ◌∷◌, ◌++◌, length, drop, set, map, get_or, arith, sym, ap, ◌∙◌, append_assoc, length-append, length-drop, drop-drop}
 use Rattle.std.specs.Int.{w16, to_le_bytes}
-use Rattle.std.specs.List.{AllByRecursion, flat_map}
-use Rattle.std.proofs.lemmas.List.{append-nil, length-map, length_push, map_push, drop_more, set_at}
-use Rattle.std.proofs.lemmas.List.Concat.{flat_map-append}
-use Rattle.spans.specs.Effects.{Effect}
-use Rattle.engine.specs.Looking.{value_version}
+use Rattle.embedded.proofs.Common.{AllByRecursion, Effect, append-nil, drop_more, flat_map, flat_map-append, length-map, length_push, map_push, set_at, value_version}
 use Rattle.embedded.specs.Versions.{IsKey, Leads, version_number, with_length}
 
 -- the versions of keys, as they are told

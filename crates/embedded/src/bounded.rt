@@ -10,8 +10,7 @@
 
 ghost use Rattle.std.specs.Prelude.{◌≡◌, ◌<◌, List, IfOk, OnErr};
 ghost use Rattle.std.specs.Option.{option_copied};
-ghost use Rattle.spans.specs.declared.calls.events.Event.{Event};
-ghost use Rattle.engine.specs.Room.{poll_count, up_to};
+ghost use Rattle.embedded.specs.Prelude.{Event, poll_count, up_to};
 ghost use Rattle.embedded.specs.Bounded.{MadeWithin, command_within, span_within};
 ghost use Rattle.embedded.specs.Embedded.{StandsFor};
 ghost use Rattle.embedded.specs.declared.bounded.BoundedError.TheVariants.{NoMemory};

@@ -1,15 +1,9 @@
 //! The database, with the last event that was made.
 
 ghost use Rattle.std.specs.Prelude.{◌≡◌, ◌<◌, ◌≤◌, List, [], Ok, Some, IfErr, IfOk, OnOk, OnErr};
-ghost use Rattle.spans.specs.declared.calls.events.Event.{Event};
-ghost use Rattle.text_format.specs.declared.Format.TheVariants.{Two};
-ghost use Rattle.word_lines.specs.Commands.{command_line};
-ghost use Rattle.word_lines.specs.Reading.{command_at};
-ghost use Rattle.word_lines.specs.Memory.{WantsMemory, byte_words_at};
-ghost use Rattle.word_lines.specs.Table.{table};
+ghost use Rattle.embedded.specs.Prelude.{Copied, Event, Two, WantsMemory, byte_words_at, command_at, command_line, table};
 ghost use Rattle.embedded.specs.declared.database.CallError.TheVariants.{NoMemory};
 ghost use Rattle.embedded.specs.Embedded.{StandsFor, HasLast, IsLastLine, IsNoReadError, IsReadError, IsWritten, IsUnwritten, Called, last_of, kept_text};
-ghost use Rattle.json_lines.specs.Writing.{Copied};
 
 use crate::typed::NoPosition;
 use engine::Engine;

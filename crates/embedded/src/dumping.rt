@@ -12,11 +12,7 @@
 
 ghost use Rattle.std.specs.Prelude.{◌≡◌, ◌++◌, ◌<◌, ◌≤◌, List, [], IfOk, IsSome, OnOk, length};
 ghost use Rattle.timestamps.specs.declared.ts.TheConstants.{MAX};
-ghost use Rattle.spans.specs.Collection.{horizon_of};
-ghost use Rattle.spans.specs.Effects.{effects_of};
-ghost use Rattle.spans.specs.declared.calls.events.Event.{Event};
-ghost use Rattle.restarts.specs.Dump.{mark_of};
-ghost use Rattle.dump_lines.specs.Lines.{row_text};
+ghost use Rattle.embedded.specs.Prelude.{Event, effects_of, horizon_of, mark_of, row_text};
 ghost use Rattle.embedded.specs.Dumping.{IsPiece, IsRestLeft, IsWholeLeft, open_at, place_at_end, place_of};
 ghost use Rattle.embedded.specs.DumpTexts.{AreTexts, IsEnd, IsNextText, ending, filled};
 ghost use Rattle.embedded.specs.Embedded.{StandsFor};

@@ -8,9 +8,7 @@
 //! ```
 
 ghost use Rattle.std.specs.Prelude.{List, IfOk, map, filter, ◌==◌, ◌≡◌};
-ghost use Rattle.spans.specs.declared.calls.events.Event.{Event};
-ghost use Rattle.spans.specs.declared.report.FeedReport.{FeedReport};
-ghost use Rattle.spans.specs.declared.report.TransactionReport.{TransactionReport};
+ghost use Rattle.embedded.specs.Prelude.{Event, FeedReport, TransactionReport};
 ghost use Rattle.embedded.specs.Embedded.{StandsFor};
 ghost use Rattle.embedded.specs.Held.{AreHeldBy, held_feed, held_in, held_protection, held_transaction};
 

@@ -1,9 +1,7 @@
 //! How far a database has come, without a call and without memory.
 
 ghost use Rattle.std.specs.Prelude.{List, ◌≡◌};
-ghost use Rattle.spans.specs.Effects.{effects_of};
-ghost use Rattle.spans.specs.declared.calls.events.Event.{Event};
-ghost use Rattle.engine.specs.Looking.{ArePlaces, feed_floor};
+ghost use Rattle.embedded.specs.Prelude.{ArePlaces, Event, effects_of, feed_floor};
 ghost use Rattle.embedded.specs.Embedded.{StandsFor};
 
 use crate::database::Database;

@@ -11,8 +11,7 @@
 
 ghost use Rattle.std.specs.Prelude.{◌≡◌, ◌<◌, ◌++◌, ◌==◌, List, false, is_some, length, true, OnOk, IfOk, OnErr};
 ghost use Rattle.std.specs.List.{flat_map};
-ghost use Rattle.spans.specs.declared.calls.events.Event.{Event};
-ghost use Rattle.json_lines.specs.Writing.{Copied};
+ghost use Rattle.embedded.specs.Prelude.{Copied, Event};
 ghost use Rattle.embedded.specs.Embedded.{StandsFor, HasKept, last_of};
 ghost use Rattle.embedded.specs.Typed.{MadeBy, HasBulk, IsBulk, is_read, numbers, refusal_numbers, reply_numbers, answer_of, end_bytes, pair_bytes, reply_bytes, rows_bytes, bytes_of, scan_of};
 

@@ -11,10 +11,7 @@
 //! ```
 
 ghost use Rattle.std.specs.Prelude.{List, MatchOption, IfOk, OnErr, length, drop, ◌≡◌, ◌+◌, ◌<◌, ◌≤◌};
-ghost use Rattle.spans.specs.Collection.{horizon_of};
-ghost use Rattle.spans.specs.Effects.{effects_of};
-ghost use Rattle.spans.specs.declared.calls.events.Event.{Event};
-ghost use Rattle.engine.specs.Looking.{value_version};
+ghost use Rattle.embedded.specs.Prelude.{Event, effects_of, horizon_of, value_version};
 ghost use Rattle.embedded.specs.Embedded.{StandsFor};
 ghost use Rattle.embedded.specs.Versions.{AreVersionsAt, IsKey, Leads, NoneLeads, version_number};
 

@@ -1,3 +1,4 @@
+pub mod Common
 pub mod Opening
 pub mod Seeding
 pub mod PairLines

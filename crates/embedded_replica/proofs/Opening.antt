@@ -1,8 +1,7 @@
 -- A line by which a replica begins is one that may want memory.
 use Rattle.std.proofs.Common.{◌≡◌, ℕ, List, Option, Some, None, refl, inr}
 use Rattle.std.specs.Prelude.{option_and_then}
-use Rattle.replica.specs.declared.replica.Replica.{Replica}
-use Rattle.replica.specs.Starts.{Start}
+use Rattle.embedded_replica.proofs.Common.{Replica, Start}
 use Rattle.embedded_replica.specs.declared.consumer.Opening.{Opening}
 use Rattle.embedded_replica.specs.declared.consumer.BeginError.TheVariants.{NoMemory}
 use Rattle.embedded_replica.specs.Consumers.{opening_of, start_at, Begins, IsUnopened}

@@ -2,15 +2,14 @@
 use Rattle.std.proofs.Common.{◌≡◌, ℕ, List, [], ◌∷◌, ◌++◌, length, Result, Ok, Err, refl, sym, ap, ◌∙◌, append_assoc}
 use Rattle.std.proofs.lemmas.Bool.{eq-eqb}
 use Rattle.std.proofs.lemmas.List.{append-nil}
-use Rattle.text_format.specs.declared.Format.TheVariants.{Two}
+use Rattle.embedded_replica.proofs.Common.{Fails, Pairs, Two}
 use Rattle.spelled_words.specs.declared.fault.LineFault.{LineFault}
 use Rattle.spelled_words.specs.declared.fault.ReadError.{ReadError}
 use Rattle.spelled_words.specs.declared.fault.ReadError.TheVariants as errors
-use Rattle.word_lines.specs.Reading.{◌>>=◌, Fails}
+use Rattle.word_lines.specs.Reading.{◌>>=◌}
 use Rattle.script.specs.Lines.{lines_of}
 use Rattle.script.specs.EventLines.{row_line_at}
 use Rattle.script.proofs.CutLines.{lines_none}
-use Rattle.replica.specs.Starts.{Pairs}
 use Rattle.embedded_replica.specs.Seeds.{pairs_of_lines, pairs_at}
 
 -- rows that were read, and those that are read behind them

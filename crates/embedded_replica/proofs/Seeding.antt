@@ -1,10 +1,8 @@
 -- A line that begins a consumer with rows, or fails to behind its command, is one that may want memory.
 use Rattle.std.proofs.Common.{◌≡◌, ℕ, List, Ok, inr}
 use Rattle.spans.specs.declared.calls.commands.Cmd.{Cmd}
-use Rattle.text_format.specs.declared.Format.TheVariants.{Two}
-use Rattle.word_lines.specs.Reading.{command_at}
+use Rattle.embedded_replica.proofs.Common.{Replica, Two, command_at}
 use Rattle.word_lines.specs.Table.{table}
-use Rattle.replica.specs.declared.replica.Replica.{Replica}
 use Rattle.embedded_replica.specs.declared.consumer.SeedingError.{SeedingError}
 use Rattle.embedded_replica.specs.declared.consumer.SeedingError.TheVariants as errors
 use Rattle.embedded_replica.specs.Seeds.{BeginsWith, IsUnseeded, IsUnseededBy}

@@ -1,32 +1,21 @@
 -- What a consumer that is called by text holds, and what each call does to it (this project's own).
 use Rattle.std.specs.Prelude.{ℕ, List, [], Bool, true, false, ◌≡◌, ◌≢◌, ◌⊎◌, ◌<◌, ◌≤◌, nat_le, length, flat_map, if◌then◌else◌, Option, Some, None, option_and_then, Ok, Err}
-use Rattle.timestamps.specs.declared.ts.TheConstants.{MAX}
+use Rattle.embedded_replica.specs.Prelude.{Cmd, Fault, Follows, IsFaultAt, MAX, Replica, Span, Start, Takes, Two, WantsMemory, byte_words_at, command_at, initial_start, row_line, seeded_start, table, test_of, view_in}
 use Rattle.timestamps.specs.declared.key.TheConstants.{MAX_KEY_BYTES}
 use Rattle.timestamps.specs.declared.key.KeyError.{KeyError}
 use Rattle.timestamps.specs.declared.key.KeyError.TheVariants.{KeyLength, NoMemory}
-use Rattle.spans.specs.declared.span.Span.{Span}
-use Rattle.spans.specs.declared.calls.commands.Cmd.{Cmd}
 use Rattle.spans.specs.declared.calls.commands.Cmd.TheVariants.{Open, OpenInitial, OpenEvery, OpenInitialEvery}
 use Rattle.spans.specs.declared.calls.messages.Message.{Message}
-use Rattle.text_format.specs.declared.Format.TheVariants.{Two}
 use Rattle.json_lines.specs.declared.fault.MessageFault.{MessageFault}
 use Rattle.json_lines.specs.declared.fault.MessageFault.TheVariants as lines
 use Rattle.json_lines.specs.Memory.{MayWantMemory}
 use Rattle.json_lines.specs.Messages.{IsMessage, message_line}
 use Rattle.json_lines.specs.Tests.{message_at}
 use Rattle.json_lines.specs.Writing.{Copied}
-use Rattle.word_lines.specs.Memory.{WantsMemory, byte_words_at}
-use Rattle.word_lines.specs.Reading.{command_at}
-use Rattle.word_lines.specs.Replies.{row_line}
-use Rattle.word_lines.specs.Table.{table}
-use Rattle.replica.specs.declared.fault.Fault.{Fault}
 use Rattle.replica.specs.declared.fault.Fault.TheVariants as faults
-use Rattle.replica.specs.declared.replica.Replica.{Replica}
 use Rattle.replica.specs.Faults.{AddsValue}
-use Rattle.replica.specs.Replicas.{view_in, Follows, Takes, IsFaultAt, test_of}
 use Rattle.replica.specs.Rows.{AreRowsOf}
 use Rattle.replica.specs.Tests.{ready_in}
-use Rattle.replica.specs.Starts.{Start, seeded_start, initial_start}
 use Rattle.embedded_replica.specs.declared.consumer.Consumer.{Consumer}
 use Rattle.embedded_replica.specs.declared.consumer.Opening.{Opening}
 use Rattle.embedded_replica.specs.declared.consumer.BeginError.{BeginError}

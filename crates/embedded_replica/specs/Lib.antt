@@ -1,2 +1,3 @@
+pub mod Prelude
 pub mod Consumers
 pub mod Seeds

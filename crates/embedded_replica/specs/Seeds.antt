@@ -1,20 +1,11 @@
 -- With which rows a consumer that is called by text begins (this project's own).
 use Rattle.std.specs.Prelude.{ℕ, List, [], ◌∷◌, ◌≡◌, ◌⊎◌, ◌||◌, nat_lt, if◌then◌else◌, Option, Some, None, option_and_then, Result, Ok, Err}
-use Rattle.timestamps.specs.declared.ts.TheConstants.{MAX}
-use Rattle.spans.specs.declared.span.Span.{Span}
-use Rattle.spans.specs.declared.calls.commands.Cmd.{Cmd}
-use Rattle.text_format.specs.declared.Format.TheVariants.{Two}
+use Rattle.embedded_replica.specs.Prelude.{Cmd, Fault, Follows, IsSeedFault, MAX, MayBegin, Pairs, Replica, Span, Two, WantsMemory, byte_words_at, command_at, seeded_start, table}
 use Rattle.spelled_words.specs.declared.fault.LineFault.{LineFault}
-use Rattle.word_lines.specs.Memory.{WantsMemory, byte_words_at}
-use Rattle.word_lines.specs.Reading.{◌>>=◌, command_at}
-use Rattle.word_lines.specs.Table.{table}
+use Rattle.word_lines.specs.Reading.{◌>>=◌}
 use Rattle.script.specs.Lines.{lines_of}
 use Rattle.script.specs.EventLines.{row_line_at}
-use Rattle.replica.specs.declared.fault.Fault.{Fault}
 use Rattle.replica.specs.declared.fault.Fault.TheVariants as faults
-use Rattle.replica.specs.declared.replica.Replica.{Replica}
-use Rattle.replica.specs.Replicas.{Follows}
-use Rattle.replica.specs.Starts.{Pairs, seeded_start, MayBegin, IsSeedFault}
 use Rattle.embedded_replica.specs.declared.consumer.Opening.{Opening}
 use Rattle.embedded_replica.specs.declared.consumer.SeedingError.{SeedingError}
 use Rattle.embedded_replica.specs.declared.consumer.SeedingError.TheVariants as errors

@@ -1,7 +1,6 @@
 //! The consumer of one feed.
 ghost use Rattle.std.specs.Prelude.{◌≡◌, [], IfOk, IfErr, OnErr};
-ghost use Rattle.replica.specs.Replicas.{through_in, complete_in, Follows};
-ghost use Rattle.replica.specs.Starts.{seeded_start};
+ghost use Rattle.embedded_replica.specs.Prelude.{Follows, complete_in, seeded_start, through_in};
 ghost use Rattle.embedded_replica.specs.Consumers.{replica_of, opening_of, OpensFeed, Begins, BeginsBy, IsUnopened, HasTaken, IsRefused, IsReady, IsNoMessage, IsNoKey, Shows, ShowsRows};
 ghost use Rattle.embedded_replica.specs.Seeds.{seeded_of, BeginsWith, SeededBy, IsUnseeded, IsUnseededBy};
 

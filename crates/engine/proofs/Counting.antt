@@ -1,20 +1,8 @@
 -- How many messages find room, by what is kept.
 use Rattle.std.proofs.Common.{Bool, List, None, Option, Some, ap, cond, false, refl, sym, subst, take, true, ℕ, ◌∙◌, ◌≡◌}
 use Rattle.std.specs.Prelude.{option_map}
-use Rattle.spans.specs.Effects.{Effect, effects_of}
-use Rattle.spans.specs.Feeds.{Feed, feed_of, is_cancelled, next_messages}
-use Rattle.spans.specs.Kept.{Place, place_with}
-use Rattle.spans.specs.declared.calls.events.Event.{Event}
-use Rattle.spans.proofs.Legal.{legal_allowed}
-use Rattle.closing.specs.Standing.{closed_in}
-use Rattle.feed.specs.Room.{IsFeedCount, count_or}
-use Rattle.feed.specs.Standing.{place_in}
-use Rattle.kept.proofs.Floors.{placed_by}
+use Rattle.engine.proofs.Common.{AreLeft, Effect, Event, Feed, IsFeedCount, Place, closed_in, closing_of, count_or, effects_of, feed_of, is_cancelled, is_committed_in, legal_allowed, messages_left, next_messages, place_in, place_with, placed_by, version_in, versions_of}
 use Rattle.kept.proofs.Polling.{poll_is}
-use Rattle.kept.specs.Places.{AreLeft}
-use Rattle.kept.specs.Replies.{messages_left}
-use Rattle.mvto_rules.specs.Holding.{closing_of, versions_of}
-use Rattle.version_chain.specs.Stores.{is_committed_in, version_in}
 use Rattle.engine.specs.Layers.{StandsFor, kept_of}
 use Rattle.engine.specs.Room.{count_of, poll_count}
 use Rattle.engine.specs.declared.layers.Layers.{Layers}

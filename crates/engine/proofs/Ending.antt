@@ -1,20 +1,9 @@
 -- Where a scan of the kept keys ends, one of all written keys ends.
 use Rattle.std.proofs.Common.{Bool, List, None, Option, Some, [], ap, arith, cond, false, inl, inr, refl, sym, true, zero, suc, ℕ, ◌&&◌, ◌-◌, ◌<◌, ◌==◌, ◌∙◌, ◌∷◌, ◌≡◌, ◌≤◌, ◌⊎◌}
 use Rattle.std.specs.Prelude.{filter, is_some, nat_lt, not, ◌||◌}
-use Rattle.std.proofs.lemmas.Bool.{ltb-false}
-use Rattle.spans.specs.Collection.{horizon_of}
-use Rattle.spans.specs.Effects.{After, Effect, effects_of}
-use Rattle.spans.specs.Kept.{IsKeptOf, Kept}
+use Rattle.engine.proofs.Common.{After, AllAllowed, AreKeysOf, Effect, Event, IsKeptOf, Kept, Span, StandsFor, blocked_in, by_test, effects_of, horizon_of, is_blocked, is_seen_blocked, keys_rise, legal_allowed, ltb-false, newest_is, seen, visible, visible_in, written_keys}
 use Rattle.spans.specs.Keys.{in_span}
-use Rattle.spans.specs.Versions.{is_blocked, visible, written_keys}
-use Rattle.spans.specs.declared.calls.events.Event.{Event}
-use Rattle.spans.specs.declared.span.Span.{Span}
-use Rattle.spans.proofs.Copies.{AllAllowed}
 use Rattle.spans.proofs.Keyed.{IsIn, filter_in, filter_rises, filtered_same}
-use Rattle.spans.proofs.Legal.{blocked_in, keys_rise, legal_allowed, visible_in}
-use Rattle.spans.proofs.Steps.{by_test, newest_is}
-use Rattle.kept.specs.Finding.{AreKeysOf, is_seen_blocked, seen}
-use Rattle.kept.specs.StandsFor.{StandsFor}
 use Rattle.kept.proofs.Reading.{blocked_is, seen_value}
 use Rattle.mvto_rules.specs.Room.{IsEnd, end_seen, end_within, is_over, row_weight}
 use Rattle.engine.specs.Room.{scan_end}

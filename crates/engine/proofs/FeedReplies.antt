@@ -1,17 +1,7 @@
 -- The replies to a poll.
 use Rattle.std.proofs.Common.{List, Some, ap, cond, refl, subst, sym, take, ℕ, ◌≡◌, ◌∙◌}
 use Rattle.std.specs.Prelude.{not}
-use Rattle.std.proofs.lemmas.Bool.{eq-eqb}
-use Rattle.timestamps.specs.declared.row.Row.{Row}
-use Rattle.spans.specs.Kept.{Kept, Place}
-use Rattle.spans.specs.declared.calls.commands.Cmd.TheVariants.{Poll}
-use Rattle.spans.specs.declared.calls.messages.Message.{Message}
-use Rattle.spans.specs.declared.calls.replies.Refusal.TheVariants.{NotOwner}
-use Rattle.spans.specs.declared.calls.replies.Reply.TheVariants.{Messages, Refused}
-use Rattle.kept.specs.Answered.{IsAnswered, IsReplyOf}
-use Rattle.kept.specs.Changes.{IsMovedBy}
-use Rattle.kept.specs.Places.{AreLeft, AreNext}
-use Rattle.kept.specs.Replies.{messages_left, poll_place, poll_reply}
+use Rattle.engine.proofs.Common.{AreLeft, AreNext, IsAnswered, IsMovedBy, IsReplyOf, Kept, Message, Messages, NotOwner, Place, Poll, Refused, Row, eq-eqb, messages_left, poll_place, poll_reply}
 
 -- the feed lives and is the seat's
 owned : (k : Kept) (seat f max : ℕ) (place : Place) (rows : List Row) → k.feed f ≡ Some place → place.seat ≡ seat → poll_reply k seat f max rows ≡ Messages (take max (messages_left k.closed place rows))

@@ -2,15 +2,9 @@
 use Rattle.std.proofs.Common.{List, arith, ℕ, ◌+◌, ◌<◌, ◌∷◌}
 use Rattle.std.proofs.Math.Logic.{∥∥₁_elim, ∥∥₁_map}
 use Rattle.std.proofs.Props.{props}
-use Rattle.spans.specs.Effects.{effects_of, event}
-use Rattle.feed.specs.Standing.{opened_in}
-use Rattle.spans.specs.declared.calls.events.Event.{Event}
-use Rattle.spans.proofs.Histories.{made_at_most, effect_count, opened_at_most}
+use Rattle.engine.proofs.Common.{Cmd, Event, IsStep, Reply, effect_count, effects_of, event, made_at_most, opened_at_most, opened_in}
 use Rattle.engine.specs.Layers.{HasHistory, StandsFor, kept_of}
-use Rattle.kept.specs.Answered.{IsStep}
 use Rattle.kept.proofs.Answering.{step_stands}
-use Rattle.spans.specs.declared.calls.commands.Cmd.{Cmd}
-use Rattle.spans.specs.declared.calls.replies.Reply.{Reply}
 use Rattle.engine.specs.declared.layers.Layers.{Layers}
 
 pub has_room : (e : Layers) (steps : ℕ) → ∥ HasHistory e steps ∥₁ → steps < 18446744073709551615 → (kept_of e).protections_made < 18446744073709551615

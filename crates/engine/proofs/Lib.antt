@@ -1,3 +1,4 @@
+pub mod Common
 pub mod FeedReplies
 pub mod Histories
 pub mod OpeningReplies

@@ -1,20 +1,11 @@
 -- The replies to the commands that open a feed, by its kind.
 use Rattle.std.proofs.Common.{Bool, List, None, Option, Some, ap, cond, false, refl, sym, true, ℕ, ◌≤◌, ◌∷◌, ◌≡◌, ◌∙◌, []}
 use Rattle.std.specs.Prelude.{suc}
-use Rattle.std.proofs.lemmas.Bool.{ltb-false}
+use Rattle.engine.proofs.Common.{IsAlike, IsAnswered, IsOpenedAt, IsWanting, Kept, Opened, Refused, Span, by_test, first_refusal, kept_opening_tests, kind_of, ltb-false, open_cmd, open_reply}
 use Rattle.timestamps.specs.declared.ts.TheConstants.{MAX}
-use Rattle.spans.specs.Answer.{first_refusal}
-use Rattle.spans.specs.Effects.{kind_of, open_cmd}
-use Rattle.spans.specs.Kept.{Kept}
 use Rattle.spans.specs.declared.calls.replies.Refusal.{Refusal}
-use Rattle.spans.specs.declared.calls.replies.Reply.TheVariants.{Opened, Refused}
 use Rattle.spans.specs.declared.kind.Kind.{Kind}
-use Rattle.spans.specs.declared.span.Span.{Span}
-use Rattle.spans.proofs.Steps.{by_test}
 use Rattle.spans.proofs.Refusals.{none_met, first_met}
-use Rattle.kept.specs.Answered.{IsAnswered, IsWanting}
-use Rattle.kept.specs.Changes.{IsAlike, IsOpenedAt}
-use Rattle.kept.specs.Replies.{kept_opening_tests, open_reply}
 
 abbrev AreOff : List (Bool × Refusal) → Type 0
 AreOff [] = Unit {0}

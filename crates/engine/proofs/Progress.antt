@@ -1,30 +1,13 @@
 -- How far the layers have come is how far the history has.
 use Rattle.std.proofs.Common.{Bool, List, None, Option, Some, ap, arith, cond, false, inl, inr, map, refl, reverse, sym, true, ℕ, ◌<◌, ◌++◌, ◌∙◌, ◌∷◌, ◌≡◌, ◌≤◌, []}
 use Rattle.std.specs.Prelude.{is_some, min, nat_le, nat_lt, option_map}
-use Rattle.std.proofs.lemmas.Bool.{ltb-false, ltb-true}
-use Rattle.std.proofs.lemmas.Bool.Decides.{nat_tests}
-use Rattle.std.proofs.lemmas.List.{map-append, reverse-append}
-use Rattle.spans.specs.Collection.{Protection, floor_of, live_feeds, protections_of}
-use Rattle.spans.specs.Effects.{Effect, effects_of}
-use Rattle.spans.specs.Feeds.{Feed, feed_of, is_cancelled}
-use Rattle.spans.specs.Kept.{IsKeptOf, Kept, place_of, place_with, transaction_with}
-use Rattle.spans.specs.Report.{feed_limit, first_least, limit, limit_of, protection_limit}
-use Rattle.spans.specs.Transactions.{closed_of, least_of, owner_of}
-use Rattle.spans.specs.declared.calls.events.Event.{Event}
+use Rattle.engine.proofs.Common.{AllAllowed, Effect, Event, Feed, IsKeptOf, IsLeastFloor, IsReachedIn, Kept, Protection, by_test, closed_of, closing_of, effects_of, feed_limit, feed_of, first_least, floor_of, is_cancelled, least_floor_is, least_of, legal_allowed, limit, limit_of, live_feeds, ltb-false, ltb-true, map-append, nat_tests, or_min, owner_of, place_floor, place_floor_is, place_of, place_with, protection_limit, protections_of, reverse-append, transaction_with, used_is}
 use Rattle.spans.specs.declared.report.Holder.TheVariants as holders
 use Rattle.spans.specs.declared.report.Limit.{Limit}
-use Rattle.spans.proofs.Copies.{AllAllowed}
 use Rattle.spans.proofs.Horizon.{least_join}
-use Rattle.spans.proofs.Legal.{legal_allowed}
-use Rattle.spans.proofs.Steps.{by_test}
-use Rattle.kept.specs.Places.{IsLeastFloor, or_min, place_floor}
 use Rattle.kept.specs.StandsFor as keeping
 use Rattle.kept.specs.Table as table
 use Rattle.kept.proofs.AfterCloses.{open_is}
-use Rattle.kept.proofs.Floors.{least_floor_is, place_floor_is}
-use Rattle.kept.proofs.Refusals.{used_is}
-use Rattle.mvto_rules.specs.Holding.{closing_of}
-use Rattle.mvto_rules.specs.Looking.{IsReachedIn}
 use Rattle.mvto_rules.specs.Reaching.{IsLimit}
 use Rattle.engine.specs.Layers.{kept_of}
 use Rattle.engine.specs.Looking.{ArePlaces, IsOldest, IsReached, feed_floor}

@@ -1,9 +1,6 @@
 -- The replies of commands that the rules answer.
 use Rattle.std.proofs.Common.{subst, sym, ℕ, ◌≡◌}
-use Rattle.spans.specs.declared.calls.commands.Cmd.{Cmd}
-use Rattle.spans.specs.declared.calls.replies.Reply.{Reply}
-use Rattle.kept.specs.Answered.{IsStep}
-use Rattle.mvto_rules.specs.Holding.{Steps, holding}
+use Rattle.engine.proofs.Common.{Cmd, IsStep, Reply, Steps, holding}
 use Rattle.mvto_rules.specs.declared.rules.Rules.{Rules}
 use Rattle.engine.specs.Layers.{feeds_of, kept_of}
 use Rattle.engine.specs.declared.layers.Layers.{Layers}

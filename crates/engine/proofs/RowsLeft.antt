@@ -1,29 +1,14 @@
 -- The first row that a dump has still to write is that of the store's next committed version.
 use Rattle.std.proofs.Common.{Bool, List, None, Option, Some, [], ap, cond, false, inl, inr, length, not, refl, subst, sym, true, ℕ, ◌&&◌, ◌++◌, ◌<◌, ◌==◌, ◌∙◌, ◌∷◌, ◌≡◌, ◌≤◌}
-use Rattle.std.specs.Option.{option_to_list}
+use Rattle.engine.proofs.Common.{After, AllAllowed, Begins, Effect, Event, Row, Stored, and_from, and_parts, both_ways, by_test, committed_is, committed_version_of, effects_of, eqb-true, false_from_ne_true, is_committed, is_committed_in, is_dead, kept_committed, left_version_of, legal_allowed, option_to_list, owner_of, version_in, version_name, versions_of, write_of}
 use Rattle.std.specs.Prelude.{filter, is_some, take, ◌↔◌}
-use Rattle.std.proofs.lemmas.Bool.{and_from, and_parts, both_ways, eqb-true, false_from_ne_true}
-use Rattle.timestamps.specs.declared.row.Row.{Row}
-use Rattle.spans.specs.Collection.{is_dead, version_name}
-use Rattle.spans.specs.Effects.{After, Begins, Effect, effects_of}
-use Rattle.spans.specs.Promises.{left_version_of}
 use Rattle.spans.specs.Streams.{row_lt, stream_of}
-use Rattle.spans.specs.Transactions.{is_committed, owner_of}
-use Rattle.spans.specs.Versions.{committed_version_of, write_of}
-use Rattle.spans.specs.declared.calls.events.Event.{Event}
-use Rattle.spans.proofs.Copies.{AllAllowed}
-use Rattle.spans.proofs.Dead.{committed_is}
-use Rattle.spans.proofs.Legal.{legal_allowed}
-use Rattle.spans.proofs.Steps.{by_test}
 use Rattle.spans.proofs.StreamOrder.{IsRowIn, RisingRows, rows_clash, in_stream, stream_rises}
-use Rattle.kept.specs.Finding.{kept_committed}
 use Rattle.kept.specs.StandsFor as keeping
 use Rattle.restarts.specs.Rows.{all_keys, is_left}
 use Rattle.restarts.proofs.Alike.{committed_begun}
 use Rattle.version_chain.specs.Following.{is_after_place}
-use Rattle.version_chain.specs.Stores.{Stored, is_committed_in, version_in}
 use Rattle.catch_up.specs.Left.{AreLeftIn, AreNextIn}
-use Rattle.mvto_rules.specs.Holding.{versions_of}
 use Rattle.engine.specs.Dumping.{IsLeftBehind, IsNextRow, first_row, next_left}
 use Rattle.engine.specs.Layers.{kept_of}
 use Rattle.engine.specs.declared.layers.Layers.{Layers}

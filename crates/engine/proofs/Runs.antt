@@ -1,7 +1,6 @@
 -- A run's list of events grows at its end.
 use Rattle.std.proofs.Common.{◌≡◌, ℕ, List, [], ◌∷◌, ◌++◌, map, refl, ap}
-use Rattle.spans.specs.declared.calls.commands.Cmd.{Cmd}
-use Rattle.spans.specs.declared.calls.events.Event.{Event}
+use Rattle.engine.proofs.Common.{Cmd, Event}
 use Rattle.engine.specs.Runs.{call_of}
 
 -- the call of one more event was the next of those to come

@@ -1,13 +1,8 @@
 -- What the rules tell of a command's first tests is the history's.
 use Rattle.std.proofs.Common.{Bool, Bor, List, None, Option, Some, [], ap, not, refl, true, ℕ, ◌∙◌, ◌∷◌, ◌≡◌}
-use Rattle.std.specs.Option.{is_some, option_copied}
+use Rattle.engine.proofs.Common.{BelowHorizon, Effect, IsKeptOf, Kept, NotClosed, is_some, option_copied, refusal_is, snapshot_tests, transaction_tests}
 use Rattle.std.specs.Prelude.{nat_lt, ◌&&◌}
-use Rattle.spans.specs.Answer.{snapshot_tests, transaction_tests}
-use Rattle.spans.specs.Effects.{Effect}
-use Rattle.spans.specs.Kept.{IsKeptOf, Kept}
-use Rattle.spans.specs.declared.calls.replies.Refusal.TheVariants.{BelowHorizon, NotClosed}
 use Rattle.kept.specs.Table.{refusal}
-use Rattle.kept.proofs.Refusals.{refusal_is}
 use Rattle.mvto_rules.specs.Snapshots.{snapshot_refusal}
 use Rattle.engine.specs.Room.{passes}
 

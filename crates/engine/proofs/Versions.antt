@@ -1,21 +1,9 @@
 -- From the horizon on, the version that what is kept tells of a key is that of the history.
 use Rattle.std.proofs.Common.{Bool, List, None, Option, Some, ap, arith, cond, false, inl, inr, refl, sym, true, ℕ, ◌<◌, ◌∙◌, ◌≡◌, ◌≤◌, ◌⊎◌}
 use Rattle.std.specs.Prelude.{is_some, nat_le, nat_lt}
-use Rattle.std.proofs.lemmas.Bool.{both_ways}
-use Rattle.std.proofs.lemmas.Bool.Decides.{nat_tests}
-use Rattle.spans.specs.Collection.{horizon_of, is_dead, version_name}
-use Rattle.spans.specs.Effects.{After, Effect}
-use Rattle.spans.specs.Kept.{IsKeptOf, Kept, kept_version}
+use Rattle.engine.proofs.Common.{After, AllAllowed, Effect, IsKeptOf, Kept, both_ways, by_test, committed_is, committed_version_of, horizon_of, is_committed, is_dead, kept_committed, kept_value_version, kept_version, left_newest, left_version_of, nat_tests, newest_fewer, newest_is, newest_reaches, newest_same, older_dead, value_at, version_name, version_wrote, write_of}
 use Rattle.spans.specs.Newest.{Version, newest}
-use Rattle.spans.specs.Promises.{left_version_of}
-use Rattle.spans.specs.Transactions.{is_committed}
-use Rattle.spans.specs.Versions.{committed_version_of, write_of}
-use Rattle.spans.proofs.Copies.{AllAllowed}
-use Rattle.spans.proofs.Dead.{committed_is, left_newest, older_dead}
-use Rattle.spans.proofs.Steps.{by_test, newest_fewer, newest_is, newest_reaches, newest_same, version_wrote}
-use Rattle.kept.specs.Finding.{kept_committed}
 use Rattle.kept.proofs.Dead.{committed_stands, high_live, kept_is}
-use Rattle.mvto_rules.specs.Looking.{kept_value_version, value_at}
 use Rattle.engine.specs.Looking.{known_version, value_version}
 
 -- ---- what is kept

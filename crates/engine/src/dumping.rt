@@ -11,8 +11,7 @@
 //! ```
 ghost use Rattle.std.specs.Prelude.{◌≡◌, IfOk, List};
 ghost use Rattle.std.specs.Option.{option_copied};
-ghost use Rattle.spans.specs.declared.calls.events.Event.{Event};
-ghost use Rattle.spans.specs.Effects.{effects_of};
+ghost use Rattle.engine.specs.Prelude.{Event, effects_of};
 ghost use Rattle.engine.specs.Dumping.{IsNextRow, next_left};
 
 use crate::Engine;

@@ -2,9 +2,7 @@
 ghost use Rattle.std.specs.Prelude.{◌≡◌, ◌<◌};
 ghost use Rattle.kept.specs.StandsFor.{nothing_kept};
 ghost use Rattle.kept.specs.Changes.{IsAlike};
-ghost use Rattle.closing.specs.Standing.{closed_in};
-ghost use Rattle.mvto_rules.specs.Holding.{closing_of};
-ghost use Rattle.kept.specs.Answered.{IsStep};
+ghost use Rattle.engine.specs.Prelude.{IsStep, closed_in, closing_of};
 
 use feed::Feeds;
 use mvto_rules::Rules;

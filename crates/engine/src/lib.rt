@@ -52,10 +52,7 @@
 #![tactic(auto)]
 
 ghost use Rattle.std.specs.Prelude.{◌≡◌, ℕ, List, ◌∷◌, [], ◌+◌, ◌<◌, IfOk, false, length};
-ghost use Rattle.spans.specs.declared.calls.events.Event.{Event};
-ghost use Rattle.spans.specs.Effects.{event, effects_of};
-ghost use Rattle.spans.specs.Report.{IsReport};
-ghost use Rattle.spans.specs.Transactions.{closed_of};
+ghost use Rattle.engine.specs.Prelude.{Event, IsReport, closed_of, effects_of, event};
 ghost use Rattle.engine.specs.Layers.{HasHistory};
 
 mod dumping;

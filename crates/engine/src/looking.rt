@@ -10,9 +10,7 @@
 //! protect 45, collect 50             50       45        45      50        none: it is below the horizon
 //! ```
 ghost use Rattle.std.specs.Prelude.{◌≡◌, List};
-ghost use Rattle.spans.specs.declared.calls.events.Event.{Event};
-ghost use Rattle.spans.specs.Collection.{horizon_of};
-ghost use Rattle.spans.specs.Effects.{effects_of};
+ghost use Rattle.engine.specs.Prelude.{Event, effects_of, horizon_of};
 ghost use Rattle.engine.specs.Looking.{ArePlaces, feed_floor, known_version};
 ghost use Rattle.engine.specs.Progress.{HavePlaces};
 

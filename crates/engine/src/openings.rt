@@ -1,10 +1,6 @@
 //! Opening feeds, of each kind.
 ghost use Rattle.std.specs.Prelude.{◌<◌, ◌≡◌};
-ghost use Rattle.spans.specs.Answer.{first_refusal, is_gap};
-ghost use Rattle.spans.specs.Effects.{open_cmd};
-ghost use Rattle.feed.specs.Standing.{opened_in};
-ghost use Rattle.kept.specs.Answered.{IsStep};
-ghost use Rattle.kept.specs.Replies.{kept_opening_tests};
+ghost use Rattle.engine.specs.Prelude.{IsStep, first_refusal, is_gap, kept_opening_tests, open_cmd, opened_in};
 
 use crate::layers::Layers;
 use spans::calls::{Refusal, Reply};

@@ -1,8 +1,6 @@
 //! Polling feeds, and cancelling them.
 ghost use Rattle.std.specs.Prelude.{◌≡◌};
-ghost use Rattle.spans.specs.declared.calls.commands.Cmd.TheVariants.{Cancel, Poll};
-ghost use Rattle.kept.specs.Answered.{IsStep};
-ghost use Rattle.kept.specs.Replies.{feed_refusal};
+ghost use Rattle.engine.specs.Prelude.{Cancel, IsStep, Poll, feed_refusal};
 
 use crate::layers::Layers;
 use feed::PollError;

@@ -1,6 +1,5 @@
 //! How much the layers hold.
-ghost use Rattle.spans.specs.declared.calls.commands.Cmd.TheVariants.{Stats};
-ghost use Rattle.kept.specs.Answered.{IsStep};
+ghost use Rattle.engine.specs.Prelude.{IsStep, Stats};
 
 use crate::layers::Layers;
 use spans::calls::Reply;

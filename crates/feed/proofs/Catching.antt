@@ -1,23 +1,12 @@
 -- A feed that is served from the store.
 use Rattle.std.proofs.Common.{List, None, Option, Some, [], ap, arith, false, length, max, min, refl, subst, sym, take, true, zero, suc, ℕ, ◌+◌, ◌-◌, ◌<◌, ◌&&◌, ◌==◌, ◌≡◌, ◌++◌, ◌∷◌, ◌∙◌}
 use Rattle.std.specs.Prelude.{nat_lt}
-use Rattle.std.proofs.lemmas.Bool.{and_from, and_parts, lt-ltb, ltb-true, or_left}
-use Rattle.std.proofs.lemmas.Bool.Decides.{nat_tests}
-use Rattle.timestamps.specs.declared.row.Row.{Row}
+use Rattle.feed.proofs.Common.{AreNextFirsts, AreNextIn, Kept, Place, Row, Stored, VersionName, and_from, and_parts, by_test, is_after_name, is_committed_in, is_past, length-take, lt-ltb, ltb-true, name_lt, nat_tests, or_left, take_both, version_in}
 use Rattle.spans.specs.KeyOrder.{key_lt}
-use Rattle.spans.specs.Kept.{Kept, Place}
-use Rattle.spans.proofs.Steps.{by_test}
-use Rattle.spans.proofs.Lists.{take_both}
 use Rattle.kept.proofs.LeftRows.{parts_left}
 use Rattle.version_chain.specs.Following.{is_after_place}
-use Rattle.version_chain.specs.Stores.{Stored, is_committed_in, version_in}
-use Rattle.catch_up.specs.Firsts.{AreNextFirsts, is_past}
-use Rattle.catch_up.specs.Left.{AreNextIn}
 use Rattle.feed.specs.Firsts.{AreNextFirstsAt, AreNextStoredAt, IsLeftAt, IsNoneLeft, is_row_above, key_at}
-use Rattle.spans.specs.Collection.{VersionName}
-use Rattle.spans.specs.Consumer.{is_after_name, name_lt}
 use Rattle.feed.specs.Standing.{AreNextAt}
-use Rattle.std.proofs.lemmas.List.{length-take}
 
 -- the stored rows after a place's last row, from the cursor on, are those that are left for the feed
 pub stored_next : (s : Stored) (place : Place) (through n ts : ℕ) (key : Option (List ℕ)) (rows : List Row) → ((r : Row) → (nat_lt (max place.after place.cursor) r.ts && is_after_name place.row r) ≡ is_after_place ts key r.key r.ts)

@@ -1,12 +1,8 @@
 -- How many feeds live.
 use Rattle.std.proofs.Common.{List, [], false, inl, inr, length, refl, sym, true, ℕ, ◌≡◌, ◌∷◌, ◌∙◌}
 use Rattle.std.specs.Prelude.{is_some, nat_eq, ◌↔◌}
-use Rattle.std.specs.List.{AllByRecursion, IsDistinct}
-use Rattle.std.specs.Map.{keys_of, lookup}
-use Rattle.std.proofs.lemmas.Bool.{both_ways, eq-eqb, eqb-true}
+use Rattle.feed.proofs.Common.{AllByRecursion, AreDistinct, Has, IsDistinct, both_ways, by_test, eq-eqb, eqb-true, keys_of, lookup}
 use Rattle.std.proofs.lemmas.Map.Entries.{length-keys_of}
-use Rattle.spans.proofs.Members.{AreDistinct, Has}
-use Rattle.spans.proofs.Steps.{by_test}
 use Rattle.feed.specs.Standing.{IsCountOf, Lives}
 
 apart : (f : ℕ) (fs : List ℕ) → AllByRecursion (λ g. nat_eq f g ≡ false) fs → Has f fs → ⊥

@@ -1,12 +1,8 @@
 -- How many messages find room, by the first of them.
 use Rattle.std.proofs.Common.{List, [], ap, arith, false, length, refl, suc, sym, take, true, zero, ℕ, ◌-◌, ◌<◌, ◌∙◌, ◌∷◌, ◌≡◌, ◌≤◌}
 use Rattle.std.specs.Prelude.{nat_le, nat_lt}
-use Rattle.std.proofs.lemmas.Bool.Decides.{nat_tests}
-use Rattle.spans.specs.Kept.{Place}
-use Rattle.spans.specs.declared.calls.messages.Message.{Message}
-use Rattle.spans.proofs.Steps.{by_test}
+use Rattle.feed.proofs.Common.{Message, Place, Stored, by_test, nat_tests}
 use Rattle.kept.specs.Replies.{messages_left}
-use Rattle.version_chain.specs.Stores.{Stored}
 use Rattle.feed.specs.Room.{IsCountLeft, count_or, count_within, message_weight}
 use Rattle.feed.specs.Telling.{IsTold}
 use Rattle.feed.specs.declared.live.telling.Told.{Told}

@@ -1,10 +1,6 @@
 -- The least floor is that of the first by floor.
 use Rattle.std.proofs.Common.{Bool, None, Option, Some, ap, arith, false, refl, sym, true, ℕ, ◌≡◌, ◌≤◌, ◌∙◌}
-use Rattle.std.specs.Ordering.{is_gt}
-use Rattle.std.proofs.lemmas.Bool.{eq-eqb, eqb-true}
-use Rattle.std.proofs.lemmas.Bool.Decides.{nat_tests}
-use Rattle.spans.specs.Kept.{Place}
-use Rattle.kept.specs.Places.{IsLeastFloor, place_floor}
+use Rattle.feed.proofs.Common.{IsLeastFloor, Place, eq-eqb, eqb-true, is_gt, nat_tests, place_floor}
 use Rattle.feed.specs.Standing.{Standing, place_in}
 use Rattle.feed.specs.Ties.{is_floor, pair_cmp}
 use Rattle.feed.proofs.Tying.{AreAlike}

@@ -1,3 +1,4 @@
+pub mod Common
 pub mod Tying
 pub mod Telling
 pub mod Least

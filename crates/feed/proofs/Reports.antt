@@ -1,20 +1,12 @@
 -- What is told of the feeds that live.
 use Rattle.std.proofs.Common.{List, None, Option, Some, [], ap, arith, inl, inr, length, map, refl, subst, sym, take, true, get_or, ℕ, ◌+◌, ◌++◌, ◌<◌, ◌∙◌, ◌∷◌, ◌≡◌}
 use Rattle.std.specs.Prelude.{Contains, filter_map, is_some, nat_eq, option_map, ◌↔◌}
-use Rattle.std.specs.List.{AllByRecursion, IsDistinct, cons_option}
-use Rattle.std.specs.List.Sorted.{IsPermutation, IsSorted, IsStrictlyIncreasing}
-use Rattle.std.specs.Map.{keys_of}
-use Rattle.std.specs.Ordering.{nat_cmp}
-use Rattle.std.proofs.lemmas.Bool.Decides.{nat_tests}
-use Rattle.std.proofs.lemmas.List.{append-nil, take_more}
+use Rattle.feed.proofs.Common.{AllByRecursion, AreLive, Has, IsDistinct, IsPermutation, IsSorted, IsStrictlyIncreasing, Place, append-nil, cons_option, feed_report, keys_of, nat_cmp, nat_tests, take_more}
 use Rattle.std.proofs.lemmas.List.Elements.{All-from_recursion, filter_map-append}
 use Rattle.std.proofs.lemmas.List.Sorted.{Contains-permutation, IsNonDecreasingBy-from_sort, IsPermutation-sym}
 use Rattle.std.proofs.lemmas.Map.Keys.{IsDistinct-IsPermutation, IsStrictlyIncreasing-from_distinct}
-use Rattle.spans.specs.Kept.{Place}
 use Rattle.spans.specs.declared.report.FeedReport.{FeedReport}
-use Rattle.spans.proofs.Members.{Has}
 use Rattle.kept.specs.Lists.{AreThose}
-use Rattle.kept.specs.Reports.{AreLive, feed_report}
 use Rattle.kept.proofs.Contained.{contains_has}
 use Rattle.feed.specs.Reports.{place_at}
 use Rattle.feed.specs.Standing.{Lives}

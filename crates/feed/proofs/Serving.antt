@@ -1,15 +1,10 @@
 -- What the calls change is what the crate `kept` wants of an open and a poll.
 use Rattle.std.proofs.Common.{List, Some, ap, arith, refl, suc, sym, ℕ, ◌==◌, ◌≡◌, ◌≤◌, ◌∙◌}
 use Rattle.std.specs.Prelude.{if◌then◌else◌}
-use Rattle.std.proofs.lemmas.Bool.{eqb-true}
+use Rattle.feed.proofs.Common.{Kept, Message, Place, Span, by_test, eqb-true, moved}
 use Rattle.timestamps.specs.declared.ts.TheConstants.{MAX}
-use Rattle.spans.specs.Kept.{Kept, Place}
-use Rattle.spans.specs.declared.calls.messages.Message.{Message}
 use Rattle.spans.specs.declared.kind.Kind.{Kind}
-use Rattle.spans.specs.declared.span.Span.{Span}
-use Rattle.spans.proofs.Steps.{by_test}
 use Rattle.kept.specs.Changes.{IsMovedBy, IsOpenedAt}
-use Rattle.kept.specs.Places.{moved}
 use Rattle.feed.specs.Live.{cut_at_max, opened_at}
 use Rattle.feed.specs.Standing.{IsPut, Standing, place_in}
 

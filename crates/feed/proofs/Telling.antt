@@ -1,17 +1,8 @@
 -- What a feed is told, and where its place is then.
 use Rattle.std.proofs.Common.{List, None, Option, Some, [], ap, get_or, length, map, refl, subst, sym, take, ℕ, ◌+◌, ◌<◌, ◌≡◌, ◌≤◌, ◌++◌, ◌∷◌, ◌∙◌}
-use Rattle.std.proofs.lemmas.List.{take-map, take_more}
-use Rattle.timestamps.specs.declared.row.Row.{Row}
-use Rattle.spans.specs.Collection.{VersionName}
-use Rattle.spans.specs.Consumer.{name_of}
-use Rattle.spans.specs.Kept.{Place, last_name}
-use Rattle.spans.specs.Feeds.{last_resolved}
-use Rattle.spans.specs.declared.calls.messages.Message.{Message}
+use Rattle.feed.proofs.Common.{Message, Place, Row, Stored, VersionName, last_name, last_resolved, moved, name_of, take-map, take_again, take_few, take_more}
 use Rattle.spans.specs.declared.calls.messages.Message.TheVariants as messages
-use Rattle.spans.proofs.Lists.{take_again, take_few}
 use Rattle.spans.proofs.Feeding.{last_join, resolved_join}
-use Rattle.kept.specs.Places.{moved}
-use Rattle.version_chain.specs.Stores.{Stored}
 use Rattle.feed.specs.Live.{arrived_at, due_at, due_in, row_or}
 use Rattle.feed.specs.Standing.{AreNextAt, IsPolledBy, IsPut, Standing, place_in}
 use Rattle.feed.specs.Telling.{IsTold}

@@ -1,15 +1,8 @@
 -- The order of the floors stays tied to the feeds.
 use Rattle.std.proofs.Common.{Bool, List, None, Option, Some, ap, arith, cond, false, refl, sym, true, ℕ, ◌&&◌, ◌+◌, ◌==◌, ◌≡◌, ◌≤◌, ◌∙◌}
 use Rattle.std.specs.Prelude.{nat_eq}
-use Rattle.std.specs.BTreeMap.{is_at}
-use Rattle.std.specs.BTreeSet.{BTreeSet, contains}
-use Rattle.std.specs.Map.{lookup}
-use Rattle.std.proofs.lemmas.Bool.{and_parts, eqb-true}
-use Rattle.std.proofs.lemmas.Bool.Decides.{nat_tests}
+use Rattle.feed.proofs.Common.{BTreeSet, Place, and_parts, by_test, contains, eqb-true, is_at, lookup, nat_tests, place_floor}
 use Rattle.std.proofs.Math.Bool.{and-false}
-use Rattle.spans.proofs.Steps.{by_test}
-use Rattle.spans.specs.Kept.{Place}
-use Rattle.kept.specs.Places.{place_floor}
 use Rattle.feed.specs.Ties.{AreTied, IsFloorMoved, is_floor, pair_cmp}
 
 -- the set has just the floors of the feeds, each with its number

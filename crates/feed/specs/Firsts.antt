@@ -1,12 +1,7 @@
 -- What is left for a feed in the store, in two parts: the rest of an initial feed's snapshot, and the stored rows above its
 -- cursor.
 use Rattle.std.specs.Prelude.{Bool, List, None, Option, Some, true, false, if◌then◌else◌, nat_lt, take, ℕ, ◌==◌, ◌≡◌, ◌<◌}
-use Rattle.timestamps.specs.declared.row.Row.{Row}
-use Rattle.spans.specs.Collection.{VersionName}
-use Rattle.spans.specs.Effects.{After}
-use Rattle.spans.specs.Kept.{Place}
-use Rattle.kept.specs.Places.{AreFirsts, AreStored, IsFirst}
-use Rattle.version_chain.specs.Stores.{Stored, is_committed_in, version_in}
+use Rattle.feed.specs.Prelude.{After, AreFirsts, AreStored, IsFirst, Place, Row, Stored, VersionName, is_committed_in, version_in}
 
 -- there is a last row, and it is above t
 abbrev pub is_row_above : Option VersionName → ℕ → Bool

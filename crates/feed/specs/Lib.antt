@@ -1,3 +1,4 @@
+pub mod Prelude
 pub mod Live
 pub mod Firsts
 pub mod Standing

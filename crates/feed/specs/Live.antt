@@ -1,10 +1,6 @@
 -- A live feed is seen as its place.
 use Rattle.std.specs.Prelude.{List, None, Option, Some, [], if◌then◌else◌, min, ℕ, ◌∷◌}
-use Rattle.timestamps.specs.declared.ts.TheConstants.{MAX}
-use Rattle.spans.specs.Collection.{VersionName}
-use Rattle.spans.specs.Feeds.{is_due, start_at}
-use Rattle.spans.specs.Kept.{Place}
-use Rattle.spans.specs.declared.calls.messages.Message.{Message}
+use Rattle.feed.specs.Prelude.{MAX, Message, Place, VersionName, is_due, start_at}
 use Rattle.spans.specs.declared.kind.Kind.{Kind}
 use Rattle.spans.specs.declared.span.Span.{Span}
 use Rattle.spans.specs.declared.calls.messages.Message.TheVariants as messages

@@ -1,9 +1,7 @@
 -- What a report tells of the feeds.
 use Rattle.std.specs.Prelude.{Option, nat_eq, option_map, ℕ}
-use Rattle.std.specs.Map.{lookup}
-use Rattle.spans.specs.Kept.{Place}
+use Rattle.feed.specs.Prelude.{Place, feed_report, lookup}
 use Rattle.spans.specs.declared.report.FeedReport.{FeedReport}
-use Rattle.kept.specs.Reports.{feed_report}
 use Rattle.feed.specs.Standing.{Lives}
 
 -- the place of a feed that lives

@@ -1,14 +1,8 @@
 -- How many messages of a feed find room. A row has the bytes of its key and its value, and 17 more, as a message in bytes
 -- has (this project's own).
 use Rattle.std.specs.Prelude.{List, None, Option, Some, [], if◌then◌else◌, length, nat_le, nat_lt, suc, take, ℕ, ◌+◌, ◌-◌, ◌∷◌, ◌≡◌}
-use Rattle.timestamps.specs.declared.row.Row.{Row}
-use Rattle.spans.specs.Effects.{After}
-use Rattle.spans.specs.Kept.{Place}
-use Rattle.spans.specs.declared.calls.messages.Message.{Message}
+use Rattle.feed.specs.Prelude.{After, AreLeft, Message, Place, Row, Stored, is_committed_in, messages_left, version_in}
 use Rattle.spans.specs.declared.calls.messages.Message.TheVariants as messages
-use Rattle.kept.specs.Places.{AreLeft}
-use Rattle.kept.specs.Replies.{messages_left}
-use Rattle.version_chain.specs.Stores.{Stored, is_committed_in, version_in}
 
 -- the bytes of a value, none of a delete
 abbrev pub value_weight : After → ℕ

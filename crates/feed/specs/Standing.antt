@@ -1,13 +1,6 @@
 -- The feeds that live, and how many were opened.
 use Rattle.std.specs.Prelude.{List, None, Option, false, if◌then◌else◌, is_some, length, nat_eq, option_map, take, ℕ, ◌==◌, ◌≡◌, Some}
-use Rattle.std.specs.Map.{lookup}
-use Rattle.timestamps.specs.declared.row.Row.{Row}
-use Rattle.spans.specs.Kept.{Place}
-use Rattle.spans.specs.declared.calls.messages.Message.{Message}
-use Rattle.kept.specs.Lists.{AreThose}
-use Rattle.version_chain.specs.Stores.{Stored, is_committed_in, version_in}
-use Rattle.kept.specs.Places.{AreLeft, moved}
-use Rattle.kept.specs.Replies.{messages_left}
+use Rattle.feed.specs.Prelude.{AreLeft, AreThose, Message, Place, Row, Stored, is_committed_in, lookup, messages_left, moved, version_in}
 use Rattle.feed.specs.declared.poll_error.PollError.{PollError}
 use Rattle.feed.specs.declared.poll_error.PollError.TheVariants.{NoFeed, NoMemory, NotOwner}
 

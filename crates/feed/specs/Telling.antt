@@ -1,11 +1,6 @@
 -- What a live feed tells next, and where its place is then.
 use Rattle.std.specs.Prelude.{List, None, take, ℕ, ◌≡◌}
-use Rattle.timestamps.specs.declared.row.Row.{Row}
-use Rattle.spans.specs.Feeds.{last_resolved}
-use Rattle.spans.specs.Kept.{Place, last_name}
-use Rattle.kept.specs.Places.{AreLeft}
-use Rattle.kept.specs.Replies.{messages_left}
-use Rattle.version_chain.specs.Stores.{Stored, is_committed_in, version_in}
+use Rattle.feed.specs.Prelude.{AreLeft, Place, Row, Stored, is_committed_in, last_name, last_resolved, messages_left, version_in}
 use Rattle.feed.specs.declared.live.telling.Told.{Told}
 
 -- the first of the rows that are left for a feed, with the resolved message, and the place behind these

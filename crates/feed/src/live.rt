@@ -1,11 +1,8 @@
 //! One feed that lives: its place, and its next rows, which it reads in the store.
 ghost use Rattle.std.specs.Prelude.{◌≡◌, ◌≤◌, IfOk, MatchOption, max};
-ghost use Rattle.timestamps.specs.declared.ts.TheConstants.{MAX};
-ghost use Rattle.kept.specs.Places.{place_floor, row_floor};
+ghost use Rattle.feed.specs.Prelude.{MAX, Row, is_after_name, place_floor, row_floor};
 ghost use Rattle.std.specs.Prelude.{◌&&◌, nat_lt};
 ghost use Rattle.std.specs.Option.{option_copied};
-ghost use Rattle.timestamps.specs.declared.row.Row.{Row};
-ghost use Rattle.spans.specs.Consumer.{is_after_name};
 ghost use Rattle.version_chain.specs.Following.{is_after_place};
 ghost use Rattle.feed.specs.Standing.{AreNextAt};
 ghost use Rattle.feed.specs.Firsts.{AreNextFirstsAt, AreNextStoredAt, IsLeftAt, IsNoneLeft, is_row_above, key_at};

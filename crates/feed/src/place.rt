@@ -1,9 +1,7 @@
 //! How far messages move the place of a feed.
 ghost use Rattle.std.specs.Prelude.{◌≡◌, None, IfOk, option_map};
 ghost use Rattle.std.specs.Option.{option_copied};
-ghost use Rattle.spans.specs.Consumer.{name_of};
-ghost use Rattle.spans.specs.Feeds.{last_resolved};
-ghost use Rattle.spans.specs.Kept.{last_name};
+ghost use Rattle.feed.specs.Prelude.{last_name, last_resolved, name_of};
 
 use spans::calls::Message;
 use std::alloc::AllocError;

@@ -3,8 +3,7 @@ ghost use Rattle.std.specs.Prelude.{◌≡◌, IfOk, filter_map, is_some, nat_eq
 ghost use Rattle.std.specs.List.{IsDistinct};
 ghost use Rattle.std.specs.List.Sorted.{IsStrictlyIncreasing};
 ghost use Rattle.std.specs.Map.{keys_of};
-ghost use Rattle.kept.specs.Lists.{AreThose};
-ghost use Rattle.kept.specs.Reports.{AreLive};
+ghost use Rattle.feed.specs.Prelude.{AreLive, AreThose};
 ghost use Rattle.feed.specs.Reports.{place_at, report_at};
 
 use crate::live::LiveFeed;

@@ -1,7 +1,6 @@
 -- A follower that stopped, once what is kept was written.
 use Rattle.std.proofs.Common.{◌≡◌, ◌≢◌, ℕ, ◌+◌, Bool, List, [], ◌++◌, refl, sym, ap, ◌∙◌, subst, arith, append-nil, append_assoc, inl, inr}
-use Rattle.spans.specs.declared.calls.messages.Message.{Message}
-use Rattle.sessions.specs.Devices.{Reads, Writes}
+use Rattle.follow.proofs.Common.{Message, Reads, Writes}
 use Rattle.follow.specs.declared.ending.FollowEnd.{FollowEnd}
 use Rattle.follow.specs.declared.ending.FollowEnd.TheVariants as ends
 use Rattle.follow.specs.declared.options.FollowOptions.{FollowOptions}

@@ -1,3 +1,4 @@
+pub mod Common
 pub mod Tellings
 pub mod Reports
 pub mod MessagesRead

@@ -1,21 +1,11 @@
 -- What is followed of an input, line by line.
 use Rattle.std.proofs.Common.{◌≡◌, ℕ, ◌+◌, ◌-◌, ◌<◌, ◌≤◌, ◌⊎◌, ⊎_elim, Bool, true, false, cond, List, [], ◌∷◌, ◌++◌, length, take, drop, Option, Some, None, Result, Ok, Err, refl, sym, ap, subst, ◌∙◌, arith, append-nil, append_assoc, length-append, inl, inr}
 use Rattle.std.specs.Prelude.{◌≢◌, is_some, not, position}
-use Rattle.std.proofs.lemmas.List.{length-take-le, take-append-drop}
+use Rattle.follow.proofs.Common.{ApplyFault, Format, IsLine, IsMessage, Lines, Message, MessageFault, apply_fault, has_newline, is_newline, length-take-le, lines_of, message_at, message_line, take-append-drop, text_at, waiting, without_newline}
 use Rattle.std.proofs.Math.Seq.{take-length, take-append_seam, drop-append_seam}
-use Rattle.text_format.specs.declared.Format.{Format}
-use Rattle.spans.specs.declared.calls.messages.Message.{Message}
-use Rattle.spans.specs.Consumer.{ApplyFault, apply_fault}
-use Rattle.json_lines.specs.declared.fault.MessageFault.{MessageFault}
-use Rattle.json_lines.specs.Messages.{IsMessage, message_line}
-use Rattle.json_lines.specs.Tests.{message_at}
 use Rattle.spelled_words.specs.declared.fault.LineFault.{LineFault}
 use Rattle.spelled_words.specs.declared.fault.LineFault.TheVariants as faults
-use Rattle.word_lines.specs.Words.{has_newline, without_newline, text_at}
-use Rattle.script.specs.Lines.{is_newline, lines_of}
 use Rattle.script.proofs.CutLines.{lines_first}
-use Rattle.sessions.specs.declared.lines.Lines.{Lines}
-use Rattle.sessions.specs.Waiting.{waiting, IsLine}
 use Rattle.sessions.proofs.Finding.{newline_stays, newline_comes, newline_lacks, no_last}
 use Rattle.sessions.proofs.FirstLines as first
 use Rattle.follow.specs.declared.options.FollowOptions.{FollowOptions}

@@ -2,7 +2,7 @@
 use Rattle.std.proofs.Common.{◌≡◌, ℕ, zero, suc, ◌+◌, ◌*◌, ◌/◌, ◌%◌, ◌^◌, ◌<◌, Bool, true, cond, List, [], ◌∷◌, ◌++◌, length, get_or, Option, Some, None, Result, Ok, Err, refl, sym, ap, ◌∙◌, subst, append_assoc, arith}
 use Rattle.std.specs.Prelude.{◌&&◌, ◌==◌, not, nat_le, nat_lt, bytes_eq, codes, decimal, option_map, option_and_then}
 use Rattle.std.specs.Str.{IsUtf8}
-use Rattle.std.specs.List.{list_all}
+use Rattle.follow.proofs.Common.{AreBytes, Format, IsAfter, IsMessage, Message, MessageFault, after_at, base64, list_all, meant_by, message_at, message_line, resolved_in, row_in, symbols, texts_in, tree_of}
 use Rattle.std.proofs.lemmas.Bool.{leb-true, le-leb, lt-ltb, eq-eqb, ne_eqb}
 use Rattle.std.proofs.lemmas.Str.{IsUtf8-append}
 use Rattle.std.proofs.lemmas.Slice.Eq.{bytes_eq-Decides}
@@ -16,16 +16,12 @@ use Rattle.json.proofs.Printed.Strings.{content-escape, lex-escape, escape_byte_
 use Rattle.json.proofs.Printed.Utf8.{are_ascii, IsUtf8-are_ascii}
 use Rattle.serde_json.specs.Data.{Data, null, string, object, member, no_members}
 use Rattle.serde_json.specs.Read.{of_json, read}
-use Rattle.text_format.specs.declared.Format.{Format}
 use Rattle.timestamps.specs.declared.row.Row.{Row}
-use Rattle.spans.specs.declared.calls.messages.Message.{Message}
 use Rattle.spans.specs.declared.calls.messages.Message.TheVariants as message
-use Rattle.json_lines.specs.declared.fault.MessageFault.{MessageFault}
 use Rattle.json_lines.specs.declared.fault.MessageFault.TheVariants.{Shape}
-use Rattle.json_lines.specs.Messages.{base64, symbols, AreBytes, IsMessage, IsAfter, message_line}
 use Rattle.json_lines.specs.Meaning.{message_of}
 use Rattle.json_lines.specs.Steps.{◌>>=◌}
-use Rattle.json_lines.specs.Tests.{text_at, after_at, resolved_in, row_in, texts_in, tree_of, meant_by, message_at}
+use Rattle.json_lines.specs.Tests.{text_at}
 use Rattle.json_lines.specs.Texts.{Texts, resolved, row}
 use Rattle.json_lines.proofs.Base64.{base64_none, base64_one, base64_two, base64_three}
 use Rattle.json_lines.proofs.Meanings.{message_again}

@@ -3,13 +3,9 @@ use Rattle.std.proofs.Common.{◌≡◌, ℕ, inl, inr, List, [], ◌∷◌, ◌
 use Rattle.std.specs.Prelude.{◌↔◌}
 use Rattle.std.specs.declared.cmp.Ordering.TheVariants.{Less}
 use Rattle.timestamps.specs.Bytes.{key_cmp}
-use Rattle.spans.specs.declared.calls.messages.Message.{Message}
+use Rattle.follow.proofs.Common.{AreRowsOf, IsPairIn, KeysRise, Map, Message, resolved_at}
 use Rattle.spans.specs.declared.calls.messages.Message.TheVariants as messages
-use Rattle.spans.specs.Keys.{IsPairIn, KeysRise}
-use Rattle.spans.specs.Serial.{Map}
 use Rattle.spans.proofs.Keyed.{key_clash}
-use Rattle.replica.specs.Rows.{AreRowsOf}
-use Rattle.replica.specs.Starts.{resolved_at}
 use Rattle.follow.specs.declared.options.FollowOptions.{FollowOptions}
 use Rattle.follow.specs.declared.options.Shown.{Shown}
 use Rattle.follow.specs.declared.options.Shown.TheVariants as shown

@@ -1,27 +1,15 @@
 -- The steps of a follower.
 use Rattle.std.proofs.Common.{◌≡◌, ℕ, ◌+◌, ◌<◌, ◌≤◌, ◌⊎◌, Bool, true, cond, List, [], ◌∷◌, ◌++◌, length, take, drop, Option, Some, None, Ok, refl, sym, ap, ◌∙◌, subst, arith, append-nil, append_assoc, length-append, inl, inr}
 use Rattle.std.specs.Prelude.{codes, position}
-use Rattle.std.proofs.lemmas.List.{length-take-le, take-append-drop}
-use Rattle.text_format.specs.declared.Format.{Format}
-use Rattle.spans.specs.declared.calls.messages.Message.{Message}
+use Rattle.follow.proofs.Common.{ApplyFault, Follows, Format, HasBegun, HasReadOn, HasTaken, IsFaultAt, IsLine, Lines, Map, Message, Reads, Takes, Writes, apply_fault, has_ended, is_newline, length-take-le, lines_of, resolved_at, take-append-drop, test_of, text_at, view_in, view_of, waiting}
 use Rattle.spans.specs.declared.span.Span.{Span}
 use Rattle.spans.specs.Completeness.{ready_after}
 use Rattle.spans.specs.Consumer as consumer
-use Rattle.spans.specs.Consumer.{ApplyFault, apply_fault, view_of}
-use Rattle.spans.specs.Serial.{Map}
-use Rattle.word_lines.specs.Words.{text_at}
-use Rattle.script.specs.Lines.{is_newline, lines_of}
 use Rattle.replica.specs.declared.fault.Fault.{Fault}
 use Rattle.replica.specs.declared.fault.Fault.TheVariants as replica_faults
 use Rattle.replica.specs.declared.replica.Replica.{Replica}
-use Rattle.replica.specs.Replicas.{Follows, Takes, IsFaultAt, test_of, view_in}
-use Rattle.replica.specs.Starts.{Start as ReplicaStart, resolved_at}
-use Rattle.sessions.specs.declared.lines.Lines.{Lines}
+use Rattle.replica.specs.Starts.{Start as ReplicaStart}
 use Rattle.sessions.specs.Runs.{MayHold}
-use Rattle.sessions.specs.Devices.{Reads, Writes}
-use Rattle.sessions.specs.NextLines.{HasReadOn}
-use Rattle.sessions.specs.Waiting.{waiting, has_ended, IsLine}
-use Rattle.sessions.specs.Writing.{HasBegun, HasTaken}
 use Rattle.sessions.proofs.Goings.{behind}
 use Rattle.follow.specs.declared.ending.FollowEnd.{FollowEnd}
 use Rattle.follow.specs.declared.ending.FollowEnd.TheVariants as ends

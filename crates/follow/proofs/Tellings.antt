@@ -1,9 +1,6 @@
 -- What is told at a timestamp, and the keys that are named.
 use Rattle.std.proofs.Common.{◌≡◌, ◌∙◌, ℕ, List, [], ◌∷◌, ◌++◌, Some, sym, ap, append-nil, append_assoc}
-use Rattle.std.specs.List.{flat_map}
-use Rattle.spans.specs.Serial.{Map}
-use Rattle.word_lines.specs.Replies.{row_line}
-use Rattle.replica.specs.Rows.{AreRowsOf, IsCountOf}
+use Rattle.follow.proofs.Common.{AreRowsOf, IsCountOf, Map, flat_map, row_line}
 use Rattle.follow.specs.declared.options.Shown.{Shown}
 use Rattle.follow.specs.declared.options.Shown.TheVariants as shown
 use Rattle.follow.specs.declared.telling.Telling.{Telling}

@@ -1,8 +1,7 @@
 -- Which lines of an input are messages to take.
 use Rattle.std.specs.Prelude.{ℕ, ◌==◌, Bool, false, if◌then◌else◌, List, [], ◌∷◌, Option, Some, None, Result, Ok, Err, bytes_eq, codes}
 use Rattle.json_lines.specs.Numbers.{number_of}
-use Rattle.word_lines.specs.Words.{words_at}
-use Rattle.spelled_words.specs.declared.fault.LineFault.{LineFault}
+use Rattle.follow.specs.Prelude.{LineFault, words_at}
 
 -- a line that begins with `{` is to be a message's
 abbrev pub begins_message : List ℕ → Bool

@@ -1,11 +1,8 @@
 -- How following a feed ends: what was taken of the input, and what was told of it (this project).
 use Rattle.std.specs.Prelude.{ℕ, zero, ◌+◌, ◌≡◌, ◌≢◌, ◌≤◌, ◌⊎◌, Bool, true, List, [], ◌∷◌, ◌++◌, length, position, Some, None}
-use Rattle.spans.specs.declared.calls.messages.Message.{Message}
+use Rattle.follow.specs.Prelude.{Message, Reads, Writes, has_newline, is_newline, lines_of}
 use Rattle.word_lines.specs.Events.{spent_line}
-use Rattle.word_lines.specs.Words.{has_newline}
-use Rattle.script.specs.Lines.{is_newline, lines_of}
 use Rattle.ticket_lock.specs.Lists.{StartsWith}
-use Rattle.sessions.specs.Devices.{Reads, Writes}
 use Rattle.sessions.specs.Runs.{MayHold}
 use Rattle.follow.specs.declared.ending.FollowEnd.{FollowEnd}
 use Rattle.follow.specs.declared.ending.FollowEnd.TheVariants as ends

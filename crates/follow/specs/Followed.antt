@@ -1,15 +1,12 @@
 -- What a follower takes, and what is told of a feed that is followed.
 use Rattle.std.specs.Prelude.{◌≡◌, ℕ, ◌&&◌, Bool, List, [], ◌∷◌, ◌++◌, codes, decimal}
-use Rattle.spans.specs.declared.span.Span.{Span}
-use Rattle.json_lines.specs.declared.fault.MessageFault.{MessageFault}
+use Rattle.follow.specs.Prelude.{IsSeedFault, LineFault, MayBegin, MessageFault, Span, initial_start, seeded_start, spelling}
 use Rattle.json_lines.specs.declared.fault.MessageFault.TheVariants as message
-use Rattle.spelled_words.specs.declared.fault.LineFault.{LineFault}
 use Rattle.spelled_words.specs.declared.fault.LineFault.TheVariants as line_faults
 use Rattle.word_lines.specs.Commands.{joined}
-use Rattle.word_lines.specs.Spelling.{spelling}
 use Rattle.replica.specs.declared.fault.Fault.{Fault}
 use Rattle.replica.specs.declared.fault.Fault.TheVariants as replica_faults
-use Rattle.replica.specs.Starts.{MayBegin, Start as ReplicaStart, seeded_start, initial_start, IsSeedFault}
+use Rattle.replica.specs.Starts.{Start as ReplicaStart}
 use Rattle.follow.specs.declared.options.Start.{Start}
 use Rattle.follow.specs.declared.options.Start.TheVariants as starts
 use Rattle.follow.specs.Chosen.{begins_message}

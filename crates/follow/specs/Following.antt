@@ -1,14 +1,8 @@
 -- Which messages a follower takes of an input, up to the first line that it can't follow (this project).
 use Rattle.std.specs.Prelude.{ℕ, ◌+◌, Bool, if◌then◌else◌, List, [], ◌∷◌, ◌++◌, Option, Some, None, is_none, Result, Ok, Err}
-use Rattle.text_format.specs.declared.Format.{Format}
-use Rattle.spans.specs.declared.calls.messages.Message.{Message}
+use Rattle.follow.specs.Prelude.{ApplyFault, Format, LineFault, Message, MessageFault, apply_fault, lines_of, text_at}
 use Rattle.spans.specs.Consumer as consumer
-use Rattle.spans.specs.Consumer.{ApplyFault, apply_fault}
-use Rattle.json_lines.specs.declared.fault.MessageFault.{MessageFault}
 use Rattle.json_lines.specs.Tests.{message_at}
-use Rattle.spelled_words.specs.declared.fault.LineFault.{LineFault}
-use Rattle.word_lines.specs.Words.{text_at}
-use Rattle.script.specs.Lines.{lines_of}
 use Rattle.follow.specs.declared.options.FollowOptions.{FollowOptions}
 use Rattle.follow.specs.declared.fault.FollowFault.TheVariants as faults
 use Rattle.follow.specs.declared.fault.FollowError.{FollowError}

@@ -1,3 +1,4 @@
+pub mod Prelude
 pub mod Followed
 pub mod Chosen
 pub mod Following

@@ -1,14 +1,8 @@
 -- What a follower tells of the messages that it took (this project).
 use Rattle.std.specs.Prelude.{ℕ, ◌≡◌, if◌then◌else◌, List, [], ◌∷◌, ◌++◌, length, codes, Option, Some, None, is_some}
 use Rattle.std.specs.List.{flat_map}
-use Rattle.spans.specs.declared.calls.messages.Message.{Message}
+use Rattle.follow.specs.Prelude.{AreRowsOf, Map, Message, insert_key, ready_after, row_line, view_of}
 use Rattle.spans.specs.declared.calls.messages.Message.TheVariants as messages
-use Rattle.spans.specs.Completeness.{ready_after}
-use Rattle.spans.specs.Consumer.{view_of}
-use Rattle.spans.specs.Keys.{insert_key}
-use Rattle.spans.specs.Serial.{Map}
-use Rattle.replica.specs.Rows.{AreRowsOf}
-use Rattle.word_lines.specs.Replies.{row_line}
 use Rattle.follow.specs.declared.options.FollowOptions.{FollowOptions}
 use Rattle.follow.specs.declared.options.Shown.{Shown}
 use Rattle.follow.specs.declared.options.Shown.TheVariants as shown

@@ -1,9 +1,7 @@
 -- The span that two words spell.
 use Rattle.std.specs.Prelude.{ℕ, List, [], ◌∷◌, Option, Result, Ok}
-use Rattle.text_format.specs.declared.Format.{Format}
-use Rattle.spans.specs.declared.span.Span.{Span}
-use Rattle.spelled_words.specs.declared.fault.LineFault.{LineFault}
-use Rattle.word_lines.specs.Reading.{◌>>=◌, bound_at}
+use Rattle.follow.specs.Prelude.{Format, LineFault, Span, bound_at}
+use Rattle.word_lines.specs.Reading.{◌>>=◌}
 
 -- the bound that a word spells in a format, or none where it is `-`
 abbrev pub bound_in : Format → List ℕ → Result (Option (List ℕ)) LineFault

@@ -1,16 +1,8 @@
 -- A follower between two lines, and where it stops.
 use Rattle.std.specs.Prelude.{◌≡◌, ◌≢◌, ◌⊎◌, ℕ, ◌+◌, ◌≤◌, Bool, true, false, if◌then◌else◌, List, [], ◌∷◌, ◌++◌, length, Option, None, is_none, Result, Ok, Err}
-use Rattle.spans.specs.declared.calls.messages.Message.{Message}
-use Rattle.spans.specs.Completeness.{ready_after}
-use Rattle.spans.specs.Consumer.{apply_fault}
-use Rattle.script.specs.Lines.{lines_of}
+use Rattle.follow.specs.Prelude.{Follows, HasBegun, HasTaken, Message, Reads, Start, Writes, apply_fault, has_ended, lines_of, ready_after, waiting}
 use Rattle.sessions.specs.declared.ending.ServeEnd.{ServeEnd}
 use Rattle.sessions.specs.declared.ending.ServeEnd.TheVariants as serve_ends
-use Rattle.sessions.specs.Devices.{Reads, Writes}
-use Rattle.sessions.specs.Waiting.{waiting, has_ended}
-use Rattle.sessions.specs.Writing.{HasTaken, HasBegun}
-use Rattle.replica.specs.Replicas.{Follows}
-use Rattle.replica.specs.Starts.{Start}
 use Rattle.follow.specs.declared.ending.FollowEnd.{FollowEnd}
 use Rattle.follow.specs.declared.ending.FollowEnd.TheVariants as ends
 use Rattle.follow.specs.declared.options.FollowOptions.{FollowOptions}

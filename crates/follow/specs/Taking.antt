@@ -1,8 +1,6 @@
 -- What a follower takes of the bytes that wait.
 use Rattle.std.specs.Prelude.{◌≡◌, ℕ, true, List, take, drop, Option, Ok, Err}
-use Rattle.spans.specs.declared.calls.messages.Message.{Message}
-use Rattle.word_lines.specs.Words.{text_at}
-use Rattle.sessions.specs.Waiting.{waiting, has_ended, format_of}
+use Rattle.follow.specs.Prelude.{Message, format_of, has_ended, text_at, waiting}
 use Rattle.follow.specs.declared.follower.Follower.{Follower}
 use Rattle.follow.specs.declared.fault.FollowError.{FollowError}
 use Rattle.follow.specs.declared.fault.FollowError.TheVariants as errors

@@ -1,8 +1,6 @@
 -- What telling adds to a report, and which keys are named after it.
 use Rattle.std.specs.Prelude.{◌≡◌, ℕ, List, ◌++◌, Option}
-use Rattle.spans.specs.declared.calls.messages.Message.{Message}
-use Rattle.spans.specs.Serial.{Map}
-use Rattle.replica.specs.Rows.{AreRowsOf}
+use Rattle.follow.specs.Prelude.{AreRowsOf, Map, Message}
 use Rattle.follow.specs.declared.options.Shown.TheVariants as shown
 use Rattle.follow.specs.declared.telling.Telling.{Telling}
 use Rattle.follow.specs.Reports.{IsToldAt, shown_lines, named_with, unless_told}

@@ -2,19 +2,15 @@
 use Rattle.std.specs.Prelude.{◌≡◌, ◌↔◌, ℕ, Bool, true, false, cond, List, [], ◌∷◌, Option, Some, None, refl, codes, bytes_eq}
 use Rattle.std.specs.Fmt.{digits}
 use Rattle.std.proofs.Common.{sym, ap, subst, ◌∙◌, inl, inr}
-use Rattle.spans.specs.declared.calls.messages.Message.{Message}
+use Rattle.follow.specs.Prelude.{AreRowsOf, IsPairIn, Message, put, spelling}
 use Rattle.spans.specs.declared.calls.messages.Message.TheVariants as messages
 use Rattle.text_format.specs.declared.Format.TheVariants as formats
-use Rattle.word_lines.specs.Spelling.{spelling}
 use Rattle.follow.specs.declared.options.FollowOptions.{FollowOptions}
 use Rattle.follow.specs.declared.options.Shown.{Shown}
 use Rattle.follow.specs.declared.options.Shown.TheVariants as shown
 use Rattle.follow.specs.declared.options.Start.TheVariants as starts
 use Rattle.follow.specs.Reports.{IsFollowReport}
-use Rattle.spans.specs.Keys.{IsPairIn}
-use Rattle.spans.specs.Serial.{put}
 use Rattle.spans.proofs.Steps.{same_key, key_itself}
-use Rattle.replica.specs.Rows.{AreRowsOf}
 
 -- all keys, from cursor 0 on
 abbrev following : Shown → Bool → FollowOptions

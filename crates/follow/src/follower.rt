@@ -1,8 +1,7 @@
 //! A follower: a replica, with the input that changes it and what is told of it. `IsFollowing` in
 //! `specs/Steps.antt` says what holds between two lines.
 ghost use Rattle.std.specs.Prelude.{◌≡◌, ◌≤◌, [], length, IfOk, IfErr, OnOk, OnErr};
-ghost use Rattle.replica.specs.Replicas.{Follows};
-ghost use Rattle.sessions.specs.Waiting.{format_of};
+ghost use Rattle.follow.specs.Prelude.{Follows, format_of};
 ghost use Rattle.follow.specs.Followed.{start_of, IsUnbegun, MayStart};
 
 use crate::choice::Choice;

@@ -1,4 +1,4 @@
-//! The words of a span.
+//! Two words read as the span that is followed: a lower and an upper bound, `-` for none.
 ghost use Rattle.word_lines.specs.Reading.{Gives};
 ghost use Rattle.follow.specs.SpanWords.{bound_in, span_in};
 

@@ -2,8 +2,7 @@
 ghost use Rattle.std.specs.Prelude.{◌≡◌, ◌++◌, OnOk};
 ghost use Rattle.std.specs.List.{flat_map};
 ghost use Rattle.std.specs.Option.{option_copied};
-ghost use Rattle.word_lines.specs.Replies.{row_line};
-ghost use Rattle.replica.specs.Replicas.{view_in};
+ghost use Rattle.follow.specs.Prelude.{row_line, view_in};
 ghost use Rattle.follow.specs.Followed.{count_line, gone_line, fault_line};
 ghost use Rattle.follow.specs.Reports.{change_line};
 

@@ -4,15 +4,12 @@ use Rattle.std.specs.Prelude.{reverse}
 use Rattle.spans.specs.declared.calls.commands.Cmd.TheVariants.{Close, Collect}
 use Rattle.spans.specs.Effects.{Effect, effects_of}
 use Rattle.restarts.specs.Dump.{mark_of}
-use Rattle.restarts.specs.Rows.{commands_by_row, left_rows, row_commands}
+use Rattle.jobs.proofs.Common.{Checker, Dumps, commands_by_row, left_rows, lines_of, row_commands}
 use Rattle.restarts.proofs.ByRows.{by_row}
 use Rattle.plain_database.specs.declared.dump.Dump.{Dump}
 use Rattle.plain_database.specs.Dumps.{IsDump}
-use Rattle.trace_check.specs.declared.checker.Checker.{Checker}
-use Rattle.trace_check.specs.Checkers.{Dumps}
 use Rattle.jobs.specs.declared.ending.End.{End}
 use Rattle.jobs.specs.declared.ending.End.TheVariants as ends
-use Rattle.dump_lines.specs.Lines.{lines_of}
 use Rattle.jobs.specs.Dumps.{IsDumped, dump_text}
 use Rattle.jobs.specs.Judging.{HasTakenText}
 use Rattle.jobs.specs.Verdicts.{IsVerdict, is_right}

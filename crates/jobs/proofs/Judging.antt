@@ -3,10 +3,8 @@ use Rattle.std.proofs.Common.{◌≡◌, ◌+◌, ◌<◌, ℕ, true, List, [], 
 use Rattle.std.proofs.lemmas.List.{length-append}
 use Rattle.spans.specs.declared.calls.events.Event.{Event}
 use Rattle.script.specs.declared.fault.TranscriptError.TheVariants as errors
-use Rattle.script.specs.Transcripts.{Fault, Transcript, nothing_left}
+use Rattle.jobs.proofs.Common.{Checker, Fault, StandsFor, TakesNext, Transcript, nothing_left}
 use Rattle.script.proofs.TakeLines.{behind, reads_more, reads_end}
-use Rattle.trace_check.specs.declared.checker.Checker.{Checker}
-use Rattle.trace_check.specs.Checkers.{StandsFor, TakesNext}
 use Rattle.jobs.specs.declared.verdicts.Judged.TheVariants.{Right}
 use Rattle.jobs.specs.Judging.{IsAhead, IsJudged}
 

@@ -1,3 +1,4 @@
+pub mod Common
 pub mod Judging
 pub mod States
 pub mod Answering

@@ -1,8 +1,7 @@
 -- How a state is told: by the report of what a checker has taken, or as a check says that there is none.
 use Rattle.std.proofs.Common.{◌≡◌, ℕ, List, false, arith}
 use Rattle.spans.specs.declared.report.Report.{Report}
-use Rattle.trace_check.specs.declared.checker.Checker.{Checker}
-use Rattle.trace_check.specs.Checkers.{Reports}
+use Rattle.jobs.proofs.Common.{Checker, Reports}
 use Rattle.report_lines.specs.Lines.{report_text}
 use Rattle.jobs.specs.declared.ending.End.{End}
 use Rattle.jobs.specs.declared.ending.End.TheVariants as ends

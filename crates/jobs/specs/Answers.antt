@@ -1,7 +1,6 @@
 -- A job that reads everything, answers, and writes its answer.
 use Rattle.std.specs.Prelude.{◌≡◌, ℕ, ◌⊎◌, List, ◌++◌}
-use Rattle.sessions.specs.Devices.{Reads, Writes, EndsOnce}
-use Rattle.sessions.specs.Writing.{HasBegun}
+use Rattle.jobs.specs.Prelude.{EndsOnce, HasBegun, Reads, Writes}
 use Rattle.jobs.specs.declared.ending.End.{End}
 use Rattle.jobs.specs.declared.ending.End.TheVariants as ends
 use Rattle.jobs.specs.Ends.{FailsAt}

@@ -1,15 +1,9 @@
 -- How the dump of a text's database is written.
 use Rattle.std.specs.Prelude.{ℕ, List, [], ◌∷◌, ◌++◌, ◌≡◌, None, Ok, reverse}
-use Rattle.text_format.specs.Limits.{format_of}
+use Rattle.jobs.specs.Prelude.{Event, IsTrace, dump_commands, effects_of, format_of, lines_of, row_commands, transcript_at}
 use Rattle.spans.specs.declared.calls.commands.Cmd.TheVariants.{Close, Collect}
-use Rattle.spans.specs.declared.calls.events.Event.{Event}
-use Rattle.spans.specs.Effects.{effects_of}
-use Rattle.script.specs.Transcripts.{transcript_at}
 use Rattle.restarts.specs.Dump.{mark_of}
-use Rattle.restarts.specs.Rows.{dump_commands, row_commands}
-use Rattle.dump_lines.specs.Lines.{lines_of}
 use Rattle.plain_database.specs.declared.dump.Dump.{Dump}
-use Rattle.trace_check.specs.Traces.{IsTrace}
 use Rattle.jobs.specs.declared.ending.End.{End}
 use Rattle.jobs.specs.declared.ending.End.TheVariants as ends
 use Rattle.jobs.specs.Verdicts.{IsVerdict}

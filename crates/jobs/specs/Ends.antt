@@ -1,9 +1,7 @@
 -- How a job of the program ends, and what is known then of its input and output.
 use Rattle.std.specs.Prelude.{◌≡◌, ◌+◌, ◌≤◌, Result, Ok, Err}
-use Rattle.text_format.specs.declared.Format.{Format}
-use Rattle.shared_db.specs.declared.config.Config.{Config}
+use Rattle.jobs.specs.Prelude.{Config, Format, Reads, Writes}
 use Rattle.sessions.specs.Runs.{IsServed}
-use Rattle.sessions.specs.Devices.{Reads, Writes}
 use Rattle.sessions.specs.declared.ending.ServeEnd.{ServeEnd}
 use Rattle.sessions.specs.declared.ending.ServeEnd.TheVariants as run
 use Rattle.jobs.specs.declared.ending.End.{End}

@@ -1,11 +1,7 @@
 -- What a checker says of a transcript, event by event and at its end.
 use Rattle.std.specs.Prelude.{◌≡◌, ◌<◌, ℕ, Bool, List, ◌∷◌, length, true, false, Result, Ok}
-use Rattle.text_format.specs.Limits.{format_of}
-use Rattle.spans.specs.declared.calls.events.Event.{Event}
-use Rattle.script.specs.Transcripts.{Fault, Transcript, nothing_left, transcript_at}
-use Rattle.trace_check.specs.Traces.{IsFirstWrong}
+use Rattle.jobs.specs.Prelude.{Event, Fault, IsFirstWrong, JudgesNext, StandsFor, TakesNext, Transcript, format_of, nothing_left, transcript_at}
 use Rattle.trace_check.specs.declared.checker.Checker.{Checker}
-use Rattle.trace_check.specs.Checkers.{StandsFor, JudgesNext, TakesNext}
 use Rattle.jobs.specs.declared.verdicts.Judged.{Judged}
 use Rattle.jobs.specs.declared.verdicts.Judged.TheVariants as judged
 use Rattle.jobs.specs.declared.verdicts.Next.{Next}

@@ -1,3 +1,4 @@
+pub mod Prelude
 pub mod Verdicts
 pub mod Judging
 pub mod States

@@ -1,13 +1,8 @@
 -- What a race of a script's sessions answers.
 use Rattle.std.specs.Prelude.{◌≡◌, ℕ, List, [], ◌++◌, Some, None}
-use Rattle.text_format.specs.declared.Format.{Format}
-use Rattle.text_format.specs.Limits.{header}
+use Rattle.jobs.specs.Prelude.{Config, Event, Format, fault_line, header, transcript_text}
 use Rattle.spans.specs.declared.calls.commands.Cmd.{Cmd}
-use Rattle.spans.specs.declared.calls.events.Event.{Event}
-use Rattle.word_lines.specs.Events.{fault_line}
 use Rattle.script.specs.Scripts.{script_at}
-use Rattle.script.specs.Transcripts.{transcript_text}
-use Rattle.shared_db.specs.declared.config.Config.{Config}
 use Rattle.shared_db.specs.Opening.{IsReason}
 use Rattle.races.specs.Calls.{IsRaceOf}
 use Rattle.races.specs.declared.calls.FreshError.{FreshError}

@@ -1,12 +1,8 @@
 -- How the state after a text's events is told.
 use Rattle.std.specs.Prelude.{ℕ, List, ◌≡◌, Bool, true, false, Ok, reverse}
-use Rattle.text_format.specs.Limits.{format_of}
-use Rattle.spans.specs.declared.calls.events.Event.{Event}
+use Rattle.jobs.specs.Prelude.{Event, IsTrace, effects_of, format_of, transcript_at}
 use Rattle.spans.specs.declared.report.Report.{Report}
-use Rattle.spans.specs.Effects.{effects_of}
 use Rattle.spans.specs.Report.{IsReport, limit_in, limit_of}
-use Rattle.script.specs.Transcripts.{transcript_at}
-use Rattle.trace_check.specs.Traces.{IsTrace}
 use Rattle.report_lines.specs.Lines.{report_text}
 use Rattle.jobs.specs.declared.ending.End.{End}
 use Rattle.jobs.specs.declared.ending.End.TheVariants as ends

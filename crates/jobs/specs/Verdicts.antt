@@ -1,10 +1,6 @@
 -- What the check of a text says.
 use Rattle.std.specs.Prelude.{ℕ, List, ◌++◌, ◌≡◌, Bool, true, false, Ok, Err, decimal, codes, length}
-use Rattle.text_format.specs.Limits.{format_of}
-use Rattle.spans.specs.declared.calls.events.Event.{Event}
-use Rattle.word_lines.specs.Events.{fault_line}
-use Rattle.script.specs.Transcripts.{transcript_at}
-use Rattle.trace_check.specs.Traces.{IsTrace, IsFirstWrong}
+use Rattle.jobs.specs.Prelude.{Event, IsFirstWrong, IsTrace, fault_line, format_of, transcript_at}
 use Rattle.jobs.specs.declared.ending.End.{End}
 use Rattle.jobs.specs.declared.ending.End.TheVariants as ends
 

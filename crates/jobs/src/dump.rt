@@ -1,8 +1,7 @@
 //! The dump of a transcript's database: a script that rebuilds it.
 ghost use Rattle.std.specs.Prelude.{◌≡◌, ◌++◌, ◌≤◌, IfOk, OnOk, None, unwrap_or};
 ghost use Rattle.timestamps.specs.declared.ts.TheConstants.{MAX};
-ghost use Rattle.restarts.specs.Rows.{row_commands};
-ghost use Rattle.dump_lines.specs.Lines.{lines_of};
+ghost use Rattle.jobs.specs.Prelude.{lines_of, row_commands};
 ghost use Rattle.jobs.specs.Answers.{IsAnswered, IsSilentAt};
 ghost use Rattle.jobs.specs.Dumps.{IsDumped, dump_text};
 ghost use Rattle.jobs.specs.Ends.{end_of};

@@ -1,7 +1,6 @@
 //! The sessions of a script race.
 ghost use Rattle.std.specs.Prelude.{◌≡◌, ◌++◌, IfOk, IfErr};
-ghost use Rattle.text_format.specs.Limits.{header};
-ghost use Rattle.word_lines.specs.Events.{fault_line};
+ghost use Rattle.jobs.specs.Prelude.{fault_line, header};
 ghost use Rattle.jobs.specs.Answers.{IsAnswered};
 ghost use Rattle.jobs.specs.Ends.{end_of};
 ghost use Rattle.jobs.specs.Races.{IsRace, IsUnraced, end_of_answer, text_of_answer, end_of_refusal};

@@ -1,8 +1,6 @@
 //! What is said of a transcript, apart from where it comes from and where the answer goes.
 ghost use Rattle.std.specs.Prelude.{◌≡◌, ◌<◌, ◌++◌, [], length, true, IfOk, OnOk, MatchResult, None, decimal, codes};
-ghost use Rattle.text_format.specs.Limits.{format_of};
-ghost use Rattle.script.specs.Transcripts.{Fails, IsFaulty, outcome, transcript_at};
-ghost use Rattle.trace_check.specs.Checkers.{StandsFor};
+ghost use Rattle.jobs.specs.Prelude.{Fails, IsFaulty, StandsFor, format_of, outcome, transcript_at};
 ghost use Rattle.jobs.specs.Verdicts.{IsVerdict, is_right};
 ghost use Rattle.jobs.specs.Judging.{IsJudged, IsNext, HasTakenText};
 

@@ -1,14 +1,7 @@
 -- A message's line is ASCII, so it is UTF-8.
 use Rattle.std.proofs.Common.{◌≡◌, ℕ, zero, suc, ◌+◌, ◌/◌, ◌%◌, ◌*◌, ◌^◌, ◌<◌, Bool, true, List, [], ◌∷◌, ◌++◌, get_or, Option, Some, None, refl, arith}
 use Rattle.std.specs.Prelude.{codes, decimal, nat_lt}
-use Rattle.std.specs.List.{list_all}
-use Rattle.std.specs.Str.{IsAscii, IsUtf8}
-use Rattle.std.proofs.lemmas.Bool.{and_parts, ltb-true}
-use Rattle.std.proofs.lemmas.Fmt.{IsAscii-decimal}
-use Rattle.std.proofs.lemmas.Str.{IsAscii-append, IsUtf8-from_ascii}
-use Rattle.base64.specs.Rfc4648.{encode_group}
-use Rattle.text_format.specs.declared.Format.{Format}
-use Rattle.spans.specs.declared.calls.messages.Message.{Message}
+use Rattle.json_lines.proofs.Common.{Format, IsAscii, IsAscii-append, IsAscii-decimal, IsUtf8, IsUtf8-from_ascii, Message, and_parts, encode_group, list_all, ltb-true}
 use Rattle.spans.specs.declared.calls.messages.Message.TheVariants as message
 use Rattle.json_lines.specs.Messages.{base64, symbols, after_text, message_line, IsMessage}
 use Rattle.json_lines.proofs.Base64.{base64_three, base64_two, base64_one, base64_none}

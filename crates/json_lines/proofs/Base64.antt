@@ -1,8 +1,6 @@
 -- Base64 group by group.
-use Rattle.std.proofs.lemmas.Grind.{common_steps}
+use Rattle.json_lines.proofs.Common.{common_steps, encode_group, encode_one, encode_symbols, encode_two, get_or-take, nil_from_length}
 use Rattle.std.proofs.Common.{◌≡◌, ℕ, List, [], ◌∷◌, ◌++◌, ◌+◌, ◌≤◌, length, get_or, take, drop, refl, ap, ◌∙◌, arith}
-use Rattle.base64.specs.Rfc4648.{encode_symbols, encode_group, encode_two, encode_one}
-use Rattle.std.proofs.lemmas.List.{nil_from_length, get_or-take}
 use Rattle.json_lines.specs.Messages.{base64, symbols}
 
 pub base64_three : (a b c : ℕ) (rest : List ℕ) → base64 (a ∷ b ∷ c ∷ rest) ≡ encode_group symbols a b c ++ base64 rest

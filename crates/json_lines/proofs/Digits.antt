@@ -1,9 +1,6 @@
 -- The value of decimal digits, as it grows.
-use Rattle.std.proofs.lemmas.Grind.{common_steps}
+use Rattle.json_lines.proofs.Common.{IsAsciiDigit, at_drop_more, common_steps, digit_value, digits_value_after}
 use Rattle.std.proofs.Common.{◌≡◌, ℕ, ◌+◌, ◌*◌, ◌-◌, ◌<◌, ◌≤◌, List, [], ◌∷◌, length, get_or, drop, arith}
-use Rattle.std.specs.Char.{digit_value, IsAsciiDigit}
-use Rattle.std.specs.Str.Parse.{digits_value_after}
-use Rattle.std.proofs.lemmas.List.{at_drop_more}
 
 pub after_ge : (n : ℕ) (digits : List ℕ) → n ≤ digits_value_after 10 n digits
 after_ge n [] = omega arith

@@ -1,3 +1,4 @@
+pub mod Common
 pub mod Writing
 pub mod Digits
 pub mod NumberWords

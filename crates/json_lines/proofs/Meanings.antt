@@ -1,14 +1,12 @@
 -- What is written of a number or of bytes means them again.
-use Rattle.std.proofs.lemmas.Grind.{common_steps}
+use Rattle.json_lines.proofs.Common.{Format, Message, common_steps, le-leb}
 use Rattle.std.proofs.Common.{◌≡◌, ℕ, zero, suc, ◌<◌, Bool, true, false, cond, List, [], ◌∷◌, length, get_or, Option, Some, None, Result, Ok, Err, refl, ap, arith}
 use Rattle.std.specs.Prelude.{decimal, nat_le, ◌&&◌, ok_or, option_map}
 use Rattle.std.specs.Result.{result_ok}
-use Rattle.std.proofs.lemmas.Bool.{le-leb}
 use Rattle.base64.specs.declared.decode.DecodeError.{DecodeError}
 use Rattle.base64.specs.Engines.{standard}
 use Rattle.base64.specs.GeneralPurpose.{decode_of, decoded_of}
 use Rattle.base64.proofs.EngineFacts.{decode_of-encode_of}
-use Rattle.spans.specs.declared.calls.messages.Message.{Message}
 use Rattle.spans.specs.declared.calls.messages.Message.TheVariants as message
 use Rattle.json_lines.specs.declared.fault.MessageFault.{MessageFault}
 use Rattle.json_lines.specs.declared.fault.MessageFault.TheVariants.{Base64, Length}
@@ -16,7 +14,6 @@ use Rattle.json_lines.specs.Messages.{base64, AreBytes, IsTimestamp, IsKey, IsAf
 use Rattle.json_lines.specs.Texts.{texts_of}
 use Rattle.json_lines.specs.Steps.{◌>>=◌}
 use Rattle.json_lines.specs.Meaning.{timestamp_of, bytes_of, after_of, key_of, value_of, row_of, message_of}
-use Rattle.text_format.specs.declared.Format.{Format}
 use Rattle.text_format.specs.Limits.{key_limit}
 use Rattle.json_lines.proofs.NumberWords.{number_only}
 

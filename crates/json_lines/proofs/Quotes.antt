@@ -1,10 +1,8 @@
 -- Fronts and quotes of a line.
-use Rattle.std.proofs.lemmas.Grind.{common_steps}
+use Rattle.json_lines.proofs.Common.{AllByRecursion, common_steps, ltb-false}
 use Rattle.std.proofs.Common.{◌≡◌, ℕ, zero, suc, ◌+◌, ◌<◌, Bool, true, false, cond, List, [], ◌∷◌, ◌++◌, length, get_or, take, drop, Some, None, Result, Ok, Err, refl, ap, ◌∙◌, add-one, arith}
 use Rattle.std.specs.Prelude.{◌&&◌, ◌==◌, nat_eq, position}
-use Rattle.std.specs.List.{AllByRecursion}
 use Rattle.std.specs.Cmp.Lexicographic.{pointwise}
-use Rattle.std.proofs.lemmas.Bool.{ltb-false}
 use Rattle.std.proofs.lemmas.List.Quantifiers.{position-Some}
 use Rattle.std.proofs.lemmas.List.Sums.{fails_before_first}
 use Rattle.json_lines.specs.declared.fault.MessageFault.{MessageFault}

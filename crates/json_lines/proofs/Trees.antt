@@ -1,15 +1,11 @@
 -- Trees, test by test.
-use Rattle.std.proofs.lemmas.Grind.{common_steps}
+use Rattle.json_lines.proofs.Common.{IsUtf8, IsUtf8-from_is_utf8, common_steps, is_utf8, is_utf8-from_IsUtf8, members_len, ne_eqb}
 use Rattle.std.proofs.Common.{arith}
 use Rattle.std.proofs.Common.{◌≡◌, ◌≢◌, ℕ, Bool, true, false, cond, List, Option, Some, None, Result, Ok, Err, refl, ap, ◌∙◌}
 use Rattle.std.specs.Prelude.{ok_or, ◌==◌}
-use Rattle.std.specs.Str.{IsUtf8, is_utf8}
-use Rattle.std.proofs.lemmas.Str.{IsUtf8-from_is_utf8, is_utf8-from_IsUtf8}
-use Rattle.std.proofs.lemmas.Bool.{ne_eqb}
 use Rattle.serde_json.specs.Data.{Data, Members}
 use Rattle.serde_json.specs.Read.{read}
 use Rattle.serde_json.specs.Find.{as_object}
-use Rattle.serde_json.specs.Events.{members_len}
 use Rattle.json_lines.specs.declared.fault.MessageFault.{MessageFault}
 use Rattle.json_lines.specs.declared.fault.MessageFault.TheVariants.{NotJson, Shape}
 use Rattle.json_lines.specs.Texts.{Texts}

@@ -1,18 +1,12 @@
 -- A written line is taken apart into the texts that it was made of.
-use Rattle.std.proofs.lemmas.Grind.{common_steps}
+use Rattle.json_lines.proofs.Common.{Format, Message, all_ascii_digits, and_parts, common_steps, is_ascii_digit, list_all, ne_eqb, not-true}
 use Rattle.std.proofs.Common.{rules}
 use Rattle.std.proofs.Common.{◌≡◌, ℕ, ◌+◌, ◌/◌, ◌%◌, ◌*◌, ◌⊎◌, inl, inr, zero, suc, true, false, cond, List, [], ◌∷◌, ◌++◌, get_or, Option, Some, None, Result, Ok, Err, refl, ap, subst, ◌∙◌, append_assoc, arith}
 use Rattle.std.specs.Prelude.{codes, decimal, bytes_eq, option_map, not}
-use Rattle.std.specs.List.{list_all}
-use Rattle.std.specs.Str.{all_ascii_digits}
-use Rattle.std.specs.Char.{is_ascii_digit}
-use Rattle.std.proofs.lemmas.Bool.{and_parts, ne_eqb, not-true}
 use Rattle.std.proofs.lemmas.Slice.Eq.{bytes_eq-Decides}
-use Rattle.spans.specs.declared.calls.messages.Message.{Message}
 use Rattle.spans.specs.declared.calls.messages.Message.TheVariants as message
 use Rattle.json_lines.specs.declared.fault.MessageFault.{MessageFault}
 use Rattle.json_lines.specs.declared.fault.MessageFault.TheVariants.{Shape}
-use Rattle.text_format.specs.declared.Format.{Format}
 use Rattle.json_lines.specs.Messages.{base64, symbols, message_line, IsMessage}
 use Rattle.json_lines.specs.Texts.{Texts, resolved, row, texts_of}
 use Rattle.json_lines.specs.Steps.{◌>>=◌}

@@ -1,3 +1,4 @@
+pub mod Prelude
 pub mod Writing
 pub mod Numbers
 pub mod Messages

@@ -1,12 +1,8 @@
 -- The message that texts mean, or what is wrong with them: numbers first, then base64, then lengths.
 use Rattle.json_lines.specs.Steps.{◌>>=◌}
 use Rattle.std.specs.Prelude.{ℕ, nat_le, ◌&&◌, if◌then◌else◌, List, length, Option, Some, None, Result, Ok, Err, ok_or}
-use Rattle.base64.specs.Engines.{standard}
-use Rattle.base64.specs.GeneralPurpose.{decoded_of}
-use Rattle.text_format.specs.declared.Format.{Format}
-use Rattle.text_format.specs.Limits.{key_limit, value_limit}
+use Rattle.json_lines.specs.Prelude.{Format, Message, decoded_of, key_limit, standard, value_limit}
 use Rattle.timestamps.specs.declared.row.Row.{Row}
-use Rattle.spans.specs.declared.calls.messages.Message.{Message}
 use Rattle.spans.specs.declared.calls.messages.Message.TheVariants as message
 use Rattle.json_lines.specs.declared.fault.MessageFault.{MessageFault}
 use Rattle.json_lines.specs.declared.fault.MessageFault.TheVariants.{Number, Base64, Length}

@@ -1,11 +1,7 @@
 -- The JSON line (RFC 8259) of a message of a feed, with bytes as base64 (RFC 4648).
 use Rattle.std.specs.Prelude.{ℕ, ◌<◌, ◌≤◌, List, ◌++◌, length, codes, decimal, Option, Some, None}
 use Rattle.std.specs.List.{AllByRecursion}
-use Rattle.base64.specs.Engines.{standard}
-use Rattle.base64.specs.GeneralPurpose.{encode_of, engine_symbols}
-use Rattle.text_format.specs.declared.Format.{Format}
-use Rattle.text_format.specs.Limits.{key_limit, value_limit}
-use Rattle.spans.specs.declared.calls.messages.Message.{Message}
+use Rattle.json_lines.specs.Prelude.{Format, Message, encode_of, engine_symbols, key_limit, standard, value_limit}
 use Rattle.spans.specs.declared.calls.messages.Message.TheVariants as message
 
 -- the standard alphabet

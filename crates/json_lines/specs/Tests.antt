@@ -1,13 +1,11 @@
 -- The tests of a line in their order, over what `serde_json` reads of it.
 use Rattle.json_lines.specs.Steps.{◌>>=◌}
 use Rattle.std.specs.Prelude.{ℕ, ◌==◌, if◌then◌else◌, is_some, List, codes, bytes_eq, Option, Some, None, option_and_then, Result, Ok, Err, ok_or}
-use Rattle.std.specs.Str.{is_utf8}
+use Rattle.json_lines.specs.Prelude.{Format, Message, is_utf8}
 use Rattle.serde_json.specs.Data.{Data}
 use Rattle.serde_json.specs.Read.{read}
 use Rattle.serde_json.specs.Find.{get, as_null, as_str, as_object}
 use Rattle.serde_json.specs.Events.{members_len}
-use Rattle.text_format.specs.declared.Format.{Format}
-use Rattle.spans.specs.declared.calls.messages.Message.{Message}
 use Rattle.json_lines.specs.declared.fault.MessageFault.{MessageFault}
 use Rattle.json_lines.specs.declared.fault.MessageFault.TheVariants.{NotJson, Shape}
 use Rattle.json_lines.specs.Messages.{message_line}

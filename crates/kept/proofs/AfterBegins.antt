@@ -1,13 +1,7 @@
 -- What is kept at first, and after a transaction began.
-use Rattle.std.proofs.lemmas.Grind.{common_steps}
+use Rattle.kept.proofs.Common.{Aborts, AllAllowed, Allowed, Begins, Commits, Effect, HardCloses, IsKeptOf, Kept, Transaction, by_test, common_steps, eqb-true, is_aborted, is_committed, lt-ltb, owner_of, transaction_with}
 use Rattle.std.proofs.Common.{Bool, List, None, Option, Some, [], arith, cond, false, refl, true, ℕ, ◌&&◌, ◌==◌, ◌||◌, ◌∷◌, ◌≡◌}
-use Rattle.std.proofs.lemmas.Bool.{eqb-true, lt-ltb}
 use Rattle.std.specs.Prelude.{nat_le, nat_lt, option_map}
-use Rattle.spans.specs.Effects.{Aborts, Begins, Commits, Effect, HardCloses}
-use Rattle.spans.specs.Kept.{IsKeptOf, Kept, Transaction, transaction_with}
-use Rattle.spans.specs.Transactions.{is_aborted, is_committed, owner_of}
-use Rattle.spans.proofs.Copies.{AllAllowed, Allowed}
-use Rattle.spans.proofs.Steps.{by_test}
 use Rattle.kept.specs.StandsFor.{nothing_kept}
 use Rattle.kept.specs.Table.{new_transaction}
 

@@ -1,22 +1,8 @@
 -- What is kept after a closing and after a hard closing.
-use Rattle.std.proofs.lemmas.Grind.{common_steps}
+use Rattle.kept.proofs.Common.{After, AllAllowed, Allowed, Closes, Effect, HardCloses, IsKeptOf, Kept, State, Transaction, and_parts, begun_among, begun_of, by_test, closed_grows, closed_of, committed_is, committed_version_of, common_steps, decided_through, false_from_ne_true, is_aborted, is_committed, is_dead, is_undecided, kept_version, least_below, least_low, least_of, lt-ltb, ltb-true, nat_tests, open_above, owner_of, state_of, too_late, transaction_with, version_name, version_of, write_of}
 use Rattle.std.proofs.Common.{Bool, List, not, refl, None, Option, arith, false, ap, true, Some, sym, cond, map, ◌≡◌, ◌<◌, ◌≤◌, ◌-◌, ◌&&◌, ◌||◌, ◌∷◌, ◌∙◌, ℕ, []}
-use Rattle.std.proofs.lemmas.Bool.{false_from_ne_true, and_parts, lt-ltb, ltb-true}
-use Rattle.std.proofs.lemmas.Bool.Decides.{nat_tests}
 use Rattle.std.specs.Prelude.{nat_lt, nat_le, filter, option_map, is_some}
-use Rattle.spans.specs.Collection.{version_name, is_dead}
-use Rattle.spans.specs.Effects.{HardCloses, Closes, After, Effect}
-use Rattle.spans.specs.Kept.{state_of, transaction_with, Transaction, Kept, IsKeptOf, kept_version}
-use Rattle.spans.specs.declared.state.State.{State}
 use Rattle.spans.specs.declared.state.State.TheVariants as states
-use Rattle.spans.specs.Reads.{too_late}
-use Rattle.spans.specs.Transactions.{is_undecided, decided_through, closed_of, is_aborted, is_committed, owner_of, begun_of, least_of}
-use Rattle.spans.specs.Versions.{committed_version_of, version_of, write_of}
-use Rattle.spans.proofs.Copies.{closed_grows, Allowed, AllAllowed}
-use Rattle.spans.proofs.Open.{begun_among, open_above, least_below}
-use Rattle.spans.proofs.Steps.{by_test}
-use Rattle.spans.proofs.Dead.{committed_is}
-use Rattle.spans.proofs.Horizon.{least_low}
 use Rattle.kept.specs.Marks.{IsForgotten}
 use Rattle.kept.specs.Table.{has_ended, is_open, reach, IsOldest}
 use Rattle.kept.proofs.Dead.{committed_stands}

@@ -1,17 +1,7 @@
 -- What is kept after a collection.
 use Rattle.std.proofs.Common.{Bool, List, not, inr, refl, None, Option, arith, false, ap, true, Some, inl, sym, length, cond, ◌≡◌, ◌<◌, ◌≤◌, ◌-◌, ◌+◌, ◌&&◌, ◌∷◌, ◌∙◌, ℕ, []}
-use Rattle.std.proofs.lemmas.Bool.{or_left, and_from, or_right, le-leb, ltb-true, lt-ltb}
-use Rattle.std.proofs.lemmas.Bool.Decides.{nat_tests}
+use Rattle.kept.proofs.Common.{After, AllAllowed, Allowed, Collects, Effect, IsKeptOf, Kept, VersionName, and_from, by_test, committed_version_of, dead_is, dead_of, horizon_of, is_dead, kept_version, le-leb, lt-ltb, ltb-true, nat_tests, newest, newest_is, or_left, or_right, too_late, version_name, version_of, versions_of}
 use Rattle.std.specs.Prelude.{nat_lt, filter}
-use Rattle.spans.specs.Collection.{horizon_of, VersionName, versions_of, version_name, dead_of, is_dead}
-use Rattle.spans.specs.Effects.{Collects, After, Effect}
-use Rattle.spans.specs.Kept.{Kept, IsKeptOf, kept_version}
-use Rattle.spans.specs.Newest.{newest}
-use Rattle.spans.specs.Reads.{too_late}
-use Rattle.spans.specs.Versions.{committed_version_of, version_of}
-use Rattle.spans.proofs.Copies.{Allowed, AllAllowed}
-use Rattle.spans.proofs.Steps.{newest_is, by_test}
-use Rattle.spans.proofs.Dead.{dead_is}
 use Rattle.kept.proofs.Staying.{to_kept, marks_of}
 
 -- a greater horizon leaves the dead dead

@@ -1,18 +1,7 @@
 -- What is kept after the commands on feeds and protections.
-use Rattle.std.proofs.lemmas.Grind.{common_steps}
+use Rattle.kept.proofs.Common.{AllAllowed, Allowed, Cancels, Effect, Feed, IsKeptOf, Kept, Kind, Message, Opens, Place, Polls, Protection, Protects, Releases, Span, by_test, common_steps, eqb-true, feed_of, feeds_opened, is_cancelled, last_join, last_name, last_resolved, resolved_join, start_at, start_of, told_to, uncancelled, unopened}
 use Rattle.std.proofs.Common.{Bool, List, not, refl, None, Option, arith, false, suc, ap, true, Some, sym, cond, ◌≡◌, ◌==◌, ◌∷◌, ◌++◌, ◌∙◌, ℕ}
-use Rattle.std.proofs.lemmas.Bool.{eqb-true}
 use Rattle.std.specs.Prelude.{filter, option_map}
-use Rattle.spans.specs.Collection.{Protection}
-use Rattle.spans.specs.declared.kind.Kind.{Kind}
-use Rattle.spans.specs.Effects.{Releases, Opens, Polls, Cancels, Protects, Effect}
-use Rattle.spans.specs.Feeds.{told_to, Feed, is_cancelled, feeds_opened, last_resolved, feed_of, start_at, start_of}
-use Rattle.spans.specs.Kept.{Place, Kept, IsKeptOf, last_name}
-use Rattle.spans.specs.declared.calls.messages.Message.{Message}
-use Rattle.spans.specs.declared.span.Span.{Span}
-use Rattle.spans.proofs.Copies.{Allowed, AllAllowed}
-use Rattle.spans.proofs.Feeding.{unopened, resolved_join, uncancelled, last_join}
-use Rattle.spans.proofs.Steps.{by_test}
 use Rattle.kept.specs.Places.{moved}
 
 -- after an opening

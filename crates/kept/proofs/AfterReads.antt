@@ -1,18 +1,7 @@
 -- What is kept after a read and after a scan.
-use Rattle.std.proofs.lemmas.Grind.{common_steps}
+use Rattle.kept.proofs.Common.{After, AllAllowed, Allowed, Effect, IsCrossed, IsKeptOf, Kept, Reads, Scans, by_test, closed_of, committed_version_of, common_steps, eqb-true, horizon_low, in_span, is_blocked, nat_tests, newest_is, same_key, too_late, version_of, visible}
 use Rattle.std.proofs.Common.{ℕ, Bool, List, ◌⊎◌, inr, None, Option, arith, false, subst, true, Some, inl, sym, ◌≡◌, ◌<◌, ◌==◌, ◌&&◌, ◌||◌, ◌∷◌, ◌∙◌, ℕ}
-use Rattle.std.proofs.lemmas.Bool.{eqb-true}
-use Rattle.std.proofs.lemmas.Bool.Decides.{nat_tests}
 use Rattle.std.specs.Prelude.{nat_lt, nat_le, bytes_eq, ◌↔◌}
-use Rattle.spans.specs.Effects.{After, Reads, Effect, Scans}
-use Rattle.spans.specs.Kept.{Kept, IsKeptOf, IsCrossed}
-use Rattle.spans.specs.Keys.{in_span}
-use Rattle.spans.specs.Reads.{too_late}
-use Rattle.spans.specs.Transactions.{closed_of}
-use Rattle.spans.specs.Versions.{visible, committed_version_of, version_of, is_blocked}
-use Rattle.spans.proofs.Copies.{Allowed, AllAllowed}
-use Rattle.spans.proofs.Steps.{same_key, newest_is, by_test}
-use Rattle.spans.proofs.Horizon.{horizon_low}
 use Rattle.kept.specs.Finding.{IsNextAbove, seen}
 use Rattle.kept.specs.Marks.{until, IsMarkedBy, IsNoted}
 use Rattle.kept.proofs.Dead.{kept_above}

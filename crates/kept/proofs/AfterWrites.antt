@@ -1,19 +1,8 @@
 -- What is kept after a write, a commit and an abort.
 use Rattle.std.proofs.Common.{Bool, List, refl, None, Option, arith, false, subst, ap, true, Some, sym, cond, ◌≡◌, ◌<◌, ◌==◌, ◌&&◌, ◌||◌, ◌∷◌, ◌∙◌, ℕ}
-use Rattle.std.proofs.lemmas.Bool.{both_ways, and_parts, eqb-true}
-use Rattle.std.proofs.lemmas.Bool.Decides.{nat_tests}
+use Rattle.kept.proofs.Common.{Aborts, After, AllAllowed, Allowed, Commits, Effect, IsCrossed, IsKeptOf, Kept, State, Transaction, Writes, and_parts, both_ways, by_test, closed_of, committed_is, committed_version_of, eqb-true, is_aborted, is_committed, is_dead, kept_version, nat_tests, owner_of, same_key, state_of, too_late, transaction_with, version_name, version_of, write_of}
 use Rattle.std.specs.Prelude.{nat_lt, bytes_eq, option_map, ◌↔◌}
-use Rattle.spans.specs.Collection.{version_name, is_dead}
-use Rattle.spans.specs.Effects.{Writes, After, Aborts, Effect, Commits}
-use Rattle.spans.specs.Kept.{state_of, transaction_with, Transaction, Kept, IsKeptOf, kept_version, IsCrossed}
-use Rattle.spans.specs.declared.state.State.{State}
 use Rattle.spans.specs.declared.state.State.TheVariants as states
-use Rattle.spans.specs.Reads.{too_late}
-use Rattle.spans.specs.Transactions.{closed_of, is_aborted, is_committed, owner_of}
-use Rattle.spans.specs.Versions.{committed_version_of, version_of, write_of}
-use Rattle.spans.proofs.Copies.{Allowed, AllAllowed}
-use Rattle.spans.proofs.Steps.{same_key, by_test}
-use Rattle.spans.proofs.Dead.{committed_is}
 use Rattle.kept.proofs.Dead.{committed_stands}
 use Rattle.kept.proofs.Marking.{marks_aborted, marks_written, crossed_like}
 use Rattle.kept.proofs.Staying.{to_kept, kept_stays, marks_of}

@@ -1,17 +1,8 @@
 -- What answers by what is kept stands for the history with the command.
 use Rattle.std.proofs.Common.{Bool, List, None, Option, Some, ap, cond, eq-eqb, inl, inr, refl, sym, true, ℕ, ◌∷◌, ◌≡◌, ◌∙◌}
-use Rattle.spans.specs.Answer.{answer_of, with_feed}
-use Rattle.spans.specs.Feeds.{Feed, feed_of, is_cancelled, next_messages}
-use Rattle.spans.specs.Effects.{Aborts, Begins, Cancels, Closes, Collects, Commits, Effect, HardCloses, NoEffect, Opens, Polls, Protects, Reads, Releases, Scans, SnapshotReads, SnapshotScans, Writes, effect, effect_of, effects_of, event}
-use Rattle.spans.specs.Kept.{IsKeptOf, Kept, Place, place_of, place_with}
-use Rattle.spans.specs.Legal.{IsRightEvent, is_accepted}
+use Rattle.kept.proofs.Common.{Abort, Aborts, Begin, Begins, Cancel, Cancels, Close, CloseHard, Closes, Collect, Collects, Commit, Commits, Del, Effect, Event, Feed, Get, HardCloses, IsKeptOf, IsRightEvent, Kept, Messages, NoEffect, Open, OpenEvery, OpenInitial, OpenInitialEvery, Opens, Place, Poll, Polls, Protect, Protects, Put, ReadAt, Reads, Release, Releases, Reply, Scan, ScanAt, Scans, SnapshotReads, SnapshotScans, Stats, Writes, answer_of, effect, effect_of, effects_of, event, feed_of, is_accepted, is_cancelled, legal_allowed, next_messages, place_of, place_with, with_feed}
 use Rattle.spans.specs.declared.calls.commands.Cmd.{Cmd}
-use Rattle.spans.specs.declared.calls.commands.Cmd.TheVariants.{Abort, Begin, Cancel, Close, CloseHard, Collect, Commit, Del, Get, Open, OpenEvery, OpenInitial, OpenInitialEvery, Poll, Protect, Put, ReadAt, Release, Scan, ScanAt, Stats}
-use Rattle.spans.specs.declared.calls.events.Event.{Event}
-use Rattle.spans.specs.declared.calls.replies.Reply.{Reply}
-use Rattle.spans.specs.declared.calls.replies.Reply.TheVariants.{Messages}
 use Rattle.spans.proofs.Histories.{wanting_does_nothing}
-use Rattle.spans.proofs.Legal.{legal_allowed}
 use Rattle.std.specs.Prelude.{false, option_map, ◌==◌}
 use Rattle.kept.specs.StandsFor.{StandsFor}
 use Rattle.kept.proofs.Replying.{abort_answer, begin_answer, cancel_answer, close_answer, close_hard_answer, collect_answer, commit_answer, del_answer, get_answer, open_answer, open_every_answer, open_initial_every_answer, open_initial_answer, poll_answer, protect_answer, put_answer, read_at_answer, release_answer, scan_answer, scan_at_answer, stats_answer}

@@ -1,9 +1,7 @@
 -- A list has what it contains.
 use Rattle.std.proofs.Common.{List, [], arith, inl, inr, refl, ◌∷◌}
 use Rattle.std.specs.Prelude.{Contains, ◌↔◌}
-use Rattle.std.specs.List.{AllByRecursion}
-use Rattle.std.proofs.lemmas.List.Elements.{All-contains, All-from_recursion, Contains-append_right}
-use Rattle.spans.proofs.Members.{Has}
+use Rattle.kept.proofs.Common.{All-contains, All-from_recursion, AllByRecursion, Contains-append_right, Has}
 
 contains_it : {A : Type 0} (x : A) (xs : List A) → Has x xs → Contains xs x
 contains_it x [] i = absurd i

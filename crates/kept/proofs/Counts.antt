@@ -1,34 +1,16 @@
 -- The counts of a commit, a hard closing and the statistics, from what is kept.
-use Rattle.std.proofs.lemmas.Grind.{common_steps}
+use Rattle.kept.proofs.Common.{AllAllowed, AreDistinct, Cancels, Effect, Equal, Feed, Greater, Has, IsIn, IsKeptOf, Kept, Less, LiveFeed, Opens, RisingKeys, VersionName, Writes, among_has, and_from, and_parts, begun_among, begun_of, by_test, common_steps, dead_of, distinct_filter, false_from_ne_true, feed_of, has_filter, has_is, in_has, insert_key, insert_where, is_aborted, is_cancelled, is_committed, is_live, is_undecided, live_feeds, live_is, open_distinct, ordering_reverse, place_of, rising_distinct, same_key, same_length, undecided_timestamps, unopened, versions_of, write_count, write_of, write_set}
 use Rattle.std.proofs.Common.{Bool, List, None, Option, Some, [], ap, arith, cond, false, inl, inr, length, map, not, refl, subst, suc, sym, true, ℕ, ◌&&◌, ◌+◌, ◌-◌, ◌==◌, ◌∙◌, ◌∷◌, ◌≡◌}
-use Rattle.std.proofs.lemmas.Bool.{and_from, and_parts, false_from_ne_true}
 use Rattle.std.proofs.lemmas.Cmp.{nat_list_cmp_total}
 use Rattle.std.proofs.lemmas.Map.Lookups.{exact_bytes}
-use Rattle.std.specs.Ordering.{ordering_reverse}
 use Rattle.std.specs.Prelude.{bytes_eq, filter, is_some, nat_le, ◌↔◌}
 use Rattle.std.specs.declared.cmp.Ordering.{Ordering}
-use Rattle.std.specs.declared.cmp.Ordering.TheVariants.{Equal, Greater, Less}
 use Rattle.timestamps.specs.Bytes.{key_cmp}
-use Rattle.spans.specs.Collection.{LiveFeed, VersionName, dead_of, live_feeds, versions_of}
-use Rattle.spans.specs.Effects.{Cancels, Effect, Opens, Writes}
-use Rattle.spans.specs.Feeds.{Feed, feed_of, is_cancelled}
-use Rattle.spans.specs.Kept.{IsKeptOf, Kept, place_of}
-use Rattle.spans.specs.Keys.{insert_key, insert_where}
-use Rattle.spans.specs.Transactions.{begun_of, is_aborted, is_committed, is_undecided, undecided_timestamps}
-use Rattle.spans.specs.Versions.{write_count, write_of, write_set}
-use Rattle.spans.proofs.Copies.{AllAllowed}
-use Rattle.spans.proofs.Feeding.{unopened}
-use Rattle.spans.proofs.Keyed.{IsIn, RisingKeys}
-use Rattle.spans.proofs.Open.{begun_among}
-use Rattle.spans.proofs.Steps.{by_test, same_key}
 use Rattle.spans.proofs.WriteSets.{has, has_in, has_written, write_set_rises}
-use Rattle.spans.proofs.Members.{AreDistinct, Has}
 use Rattle.kept.specs.Lists.{AreThose, IsNumberOf}
 use Rattle.kept.specs.Places.{live_feed}
 use Rattle.kept.specs.Table.{is_open}
 use Rattle.kept.proofs.AfterCloses.{open_is}
-use Rattle.spans.proofs.Members.{among_has, distinct_filter, has_filter, has_is, in_has, open_distinct, rising_distinct, same_length}
-use Rattle.spans.proofs.FeedFloors.{is_live, live_is}
 use Rattle.kept.proofs.Dead.{open_kept}
 use Rattle.kept.proofs.Floors.{place_at}
 use Rattle.kept.proofs.VersionCounts.{stored_count}

@@ -1,16 +1,7 @@
 -- What is dead, and what is kept.
-use Rattle.std.proofs.lemmas.Grind.{common_steps}
+use Rattle.kept.proofs.Common.{After, AllAllowed, Effect, IsKeptOf, Kept, committed_is, committed_version_of, common_steps, dead_is, false_from_ne_true, horizon_of, is_aborted, is_committed, is_dead, kept_version, nat_tests, not_both, version_name, version_of, write_of}
 use Rattle.std.proofs.Common.{Bool, List, ap, refl, None, Option, arith, false, true, Some, cond, ◌≡◌, ◌∙◌, ◌<◌, ℕ}
-use Rattle.std.proofs.lemmas.Bool.{false_from_ne_true}
-use Rattle.std.proofs.lemmas.Bool.Decides.{nat_tests}
 use Rattle.std.specs.Prelude.{nat_le}
-use Rattle.spans.specs.Collection.{horizon_of, version_name, is_dead}
-use Rattle.spans.specs.Effects.{After, Effect}
-use Rattle.spans.specs.Kept.{IsKeptOf, Kept, kept_version}
-use Rattle.spans.specs.Transactions.{is_aborted, is_committed}
-use Rattle.spans.specs.Versions.{committed_version_of, version_of, write_of}
-use Rattle.spans.proofs.Copies.{AllAllowed, not_both}
-use Rattle.spans.proofs.Dead.{committed_is, dead_is}
 
 -- a committed version is a version
 pub committed_stands : (p : List Effect) → AllAllowed p → (x : List ℕ) (i : ℕ) (a : After) → committed_version_of p x i ≡ Some a → version_of p x i ≡ Some a

@@ -1,24 +1,11 @@
 -- What is dead by a new horizon is seen in what is kept alone.
-use Rattle.std.proofs.lemmas.Grind.{common_steps}
+use Rattle.kept.proofs.Common.{After, AllAllowed, Allowed, Collects, Effect, IsKeptOf, Kept, VersionName, and_from, and_parts, both_ways, by_test, committed_is, committed_version_of, common_steps, dead_is, dead_of, distinct_filter, has_filter, has_versions, horizon_of, is_committed, is_dead, is_delete, kept_version, lt-ltb, ltb-true, nat_tests, newest, newest_fewer, newest_is, newest_reaches, older_dead, same_length, version_name, version_of, version_wrote, versions_distinct, versions_of, write_of}
 use Rattle.std.proofs.Common.{Bool, List, None, Option, Some, ap, arith, cond, false, inl, inr, length, not, refl, sym, true, ℕ, ◌&&◌, ◌-◌, ◌<◌, ◌||◌, ◌∙◌, ◌∷◌, ◌≡◌, ◌≤◌}
-use Rattle.std.proofs.lemmas.Bool.{and_from, and_parts, both_ways, lt-ltb, ltb-true}
-use Rattle.std.proofs.lemmas.Bool.Decides.{nat_tests}
 use Rattle.std.specs.Prelude.{filter, is_some, nat_le, nat_lt}
-use Rattle.spans.specs.Collection.{VersionName, dead_of, horizon_of, is_dead, is_delete, version_name, versions_of}
-use Rattle.spans.specs.Effects.{After, Collects, Effect}
-use Rattle.spans.specs.Kept.{IsKeptOf, Kept, kept_version}
-use Rattle.spans.specs.Newest.{newest}
-use Rattle.spans.specs.Transactions.{is_committed}
-use Rattle.spans.specs.Versions.{committed_version_of, version_of, write_of}
-use Rattle.spans.proofs.Copies.{AllAllowed, Allowed}
-use Rattle.spans.proofs.Steps.{by_test, newest_is, version_wrote, newest_reaches, newest_fewer}
 use Rattle.kept.specs.Finding.{is_dropped, is_dead_in, kept_committed}
 use Rattle.kept.specs.Lists.{AreThose}
 use Rattle.kept.proofs.AfterCollects.{after_collects, dead_grows, removed_is}
-use Rattle.spans.proofs.Members.{distinct_filter, has_filter, same_length}
 use Rattle.kept.proofs.Dead.{committed_stands, kept_is}
-use Rattle.spans.proofs.VersionNames.{has_versions, versions_distinct}
-use Rattle.spans.proofs.Dead.{committed_is, dead_is, older_dead}
 
 -- a kept version that is committed is a committed one
 kept_fewer : (k : Kept) (p : List Effect) → AllAllowed p → IsKeptOf k p → (x : List ℕ) (j : ℕ) → committed_version_of p x j ≡ None → kept_committed k x j ≡ None

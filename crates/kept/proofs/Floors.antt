@@ -1,23 +1,8 @@
 -- The floor of a feed from its place, and how far a collection goes.
-use Rattle.std.proofs.lemmas.Grind.{common_steps}
+use Rattle.kept.proofs.Common.{AllAllowed, Effect, Feed, Has, IsKeptOf, IsRowIn, Kept, LiveFeed, Message, Place, Protection, ResolvedRise, Row, VersionName, apart_rises, closed_of, collection_horizon, common_steps, fed, feed_of, floor_after, floor_from, floor_of, in_append, in_list, is_cancelled, is_live, last_name, last_resolved, least_join, least_low, least_of, listed_above, listed_low, live_feeds, live_is, name_of, place_with, resolved_of, rows_in, some_gap, start_low, start_of, told_to}
 use Rattle.std.proofs.Common.{Bool, List, refl, inr, None, Option, arith, map, subst, false, ap, true, Some, inl, sym, ◌≡◌, ◌<◌, ◌≤◌, ◌-◌, ◌∷◌, ◌++◌, ◌∙◌, ℕ, []}
 use Rattle.std.specs.Prelude.{max, min}
-use Rattle.timestamps.specs.declared.row.Row.{Row}
-use Rattle.spans.specs.Collection.{live_feeds, floor_of, Protection, LiveFeed, VersionName, floor_after, collection_horizon}
-use Rattle.spans.specs.Consumer.{name_of}
-use Rattle.spans.specs.Effects.{Effect}
 use Rattle.spans.specs.FeedRight.{DividesList, RowsFollowResolved, RowsAreAbove, least_gap}
-use Rattle.spans.specs.Feeds.{told_to, rows_in, Feed, is_cancelled, last_resolved, feed_of, resolved_of, start_of}
-use Rattle.spans.specs.Kept.{Place, last_name, place_with, Kept, IsKeptOf}
-use Rattle.spans.specs.Transactions.{closed_of, least_of}
-use Rattle.spans.specs.declared.calls.messages.Message.{Message}
-use Rattle.spans.proofs.Copies.{AllAllowed}
-use Rattle.spans.proofs.Feeding.{fed, ResolvedRise, apart_rises, some_gap}
-use Rattle.spans.proofs.Listing.{in_list, listed_above, listed_low, start_low}
-use Rattle.spans.proofs.StreamOrder.{IsRowIn, in_append}
-use Rattle.spans.proofs.Members.{Has}
-use Rattle.spans.proofs.Horizon.{least_low, least_join}
-use Rattle.spans.proofs.FeedFloors.{floor_from, is_live, live_is}
 use Rattle.kept.specs.Places.{place_floor, IsLeastFloor, or_min, live_feed, row_floor}
 use Rattle.spans.specs.declared.calls.messages.Message.TheVariants as messages
 

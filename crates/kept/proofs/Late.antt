@@ -1,10 +1,6 @@
 -- The write rule by the marks up to the next version.
-use Rattle.std.proofs.lemmas.Grind.{common_steps}
+use Rattle.kept.proofs.Common.{Effect, IsActive, IsKeptOf, Kept, common_steps, too_late}
 use Rattle.std.proofs.Common.{Bool, List, arith, ℕ, ◌≡◌}
-use Rattle.spans.specs.Effects.{Effect}
-use Rattle.spans.specs.Kept.{IsKeptOf, Kept}
-use Rattle.spans.specs.Reads.{too_late}
-use Rattle.spans.proofs.Copies.{IsActive}
 use Rattle.kept.specs.Marks.{IsLate}
 
 -- a write is too late exactly where the marks and the versions say so

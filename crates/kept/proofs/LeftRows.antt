@@ -1,17 +1,7 @@
 -- The rows that are left for a feed, in two parts.
-use Rattle.std.proofs.lemmas.Grind.{common_steps}
+use Rattle.kept.proofs.Common.{Event, Kept, Place, Row, VersionName, and_parts, common_steps, in_append, is_after_name, lt-ltb, ltb-true, name_order, or_left, rises_append, start_at, take-take}
 use Rattle.std.proofs.Common.{false, true, sym, List, Some, [], ap, arith, length, subst, take, ℕ, ◌++◌, ◌-◌, ◌<◌, ◌∙◌, ◌≡◌, ◌≤◌}
-use Rattle.std.proofs.lemmas.Bool.{and_parts, lt-ltb, ltb-true, or_left}
-use Rattle.std.proofs.lemmas.List.{take-take}
 use Rattle.std.specs.Prelude.{true}
-use Rattle.timestamps.specs.declared.row.Row.{Row}
-use Rattle.spans.specs.Collection.{VersionName}
-use Rattle.spans.specs.Consumer.{is_after_name}
-use Rattle.spans.specs.Feeds.{start_at}
-use Rattle.spans.specs.Kept.{Kept, Place}
-use Rattle.spans.specs.declared.calls.events.Event.{Event}
-use Rattle.spans.proofs.RowOrder.{name_order}
-use Rattle.spans.proofs.StreamOrder.{in_append, rises_append}
 use Rattle.spans.proofs.Taking.{resolved_grows}
 use Rattle.spans.proofs.Lists.{take_both}
 use Rattle.kept.specs.Places.{AreFirsts, AreLeft, AreNext, AreStored, IsFirst}

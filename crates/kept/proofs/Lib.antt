@@ -1,3 +1,4 @@
+pub mod Common
 pub mod Dead
 pub mod Reading
 pub mod Marking

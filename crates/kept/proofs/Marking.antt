@@ -1,19 +1,8 @@
 -- The write rule by marks.
-use Rattle.std.proofs.lemmas.Grind.{common_steps}
+use Rattle.kept.proofs.Common.{After, AllAllowed, Effect, IsActive, IsCrossed, and_from, and_parts, both_ways, by_test, closed_of, committed_version_of, common_steps, eqb-true, false_from_ne_true, found_whole, horizon_low, is_blocked, is_committed, kept, kept_version, lt-ltb, ltb-true, nat_tests, newest, newest_is, or_cases, or_left, or_right, too_late, version_of, visible, write_of}
 use Rattle.std.proofs.Common.{Bool, List, refl, inr, None, Option, arith, false, subst, suc, true, zero, Some, inl, sym, ◌≡◌, ◌<◌, ◌≤◌, ◌⊎◌, ◌==◌, ◌&&◌, ◌||◌, ◌∙◌, ℕ}
-use Rattle.std.proofs.lemmas.Bool.{or_left, or_cases, and_from, lt-ltb, or_right, false_from_ne_true, both_ways, and_parts, ltb-true, eqb-true}
-use Rattle.std.proofs.lemmas.Bool.Decides.{nat_tests}
 use Rattle.std.specs.Prelude.{nat_lt, nat_le, ◌↔◌}
-use Rattle.spans.specs.Effects.{After, Effect}
-use Rattle.spans.specs.Kept.{kept_version, IsCrossed}
-use Rattle.spans.specs.Newest.{newest}
-use Rattle.spans.specs.Reads.{too_late}
-use Rattle.spans.specs.Transactions.{closed_of, is_committed}
-use Rattle.spans.specs.Versions.{visible, committed_version_of, version_of, write_of, is_blocked}
-use Rattle.spans.proofs.Copies.{kept, IsActive, AllAllowed, found_whole}
 use Rattle.spans.proofs.Marks.{late_across}
-use Rattle.spans.proofs.Steps.{newest_is, by_test}
-use Rattle.spans.proofs.Horizon.{horizon_low}
 use Rattle.kept.specs.Marks.{until, IsPiece, IsMarkedBy}
 use Rattle.kept.proofs.Dead.{kept_above}
 

@@ -1,9 +1,7 @@
 -- Ways to note a read in the marks of a key.
 use Rattle.std.proofs.Common.{Bool, List, None, Option, Some, arith, true, ℕ, ◌<◌, ◌≡◌, ◌≤◌, ◌⊎◌}
-use Rattle.std.proofs.lemmas.Bool.{both_ways, eq-eqb}
+use Rattle.kept.proofs.Common.{Kept, MAX, both_ways, eq-eqb}
 use Rattle.std.specs.Prelude.{◌↔◌}
-use Rattle.timestamps.specs.declared.ts.TheConstants.{MAX}
-use Rattle.spans.specs.Kept.{Kept}
 use Rattle.kept.specs.Finding.{IsNextAbove, seen}
 use Rattle.kept.specs.Marks.{IsNoted, IsPiece, until}
 use Rattle.kept.proofs.Marking.{added, merged}

@@ -1,22 +1,8 @@
 -- What is left to tell, from what is kept.
 use Rattle.std.proofs.Common.{Bool, List, None, Option, Some, ap, arith, cond, false, inl, inr, map, subst, sym, take, true, ℕ, ◌++◌, ◌<◌, ◌∙◌, ◌≡◌, ◌≤◌}
-use Rattle.std.proofs.lemmas.Bool.{and_parts, ltb-true}
+use Rattle.kept.proofs.Common.{After, AllAllowed, Effect, Feed, IsKeptOf, Kept, Place, Row, VersionName, and_parts, closed_of, due_if, due_message, feed_of, feeding, floors_high, horizon_of, is_aborted, is_after_name, is_cancelled, is_committed, is_due, kept_version, ltb-true, map_at_is, name_order, newest, next_messages, not_both, place_with, resolved_of, untold_is, untold_rows, version_wrote, write_of}
 use Rattle.std.specs.Prelude.{max}
-use Rattle.timestamps.specs.declared.row.Row.{Row}
-use Rattle.spans.specs.Collection.{VersionName, horizon_of}
-use Rattle.spans.specs.Consumer.{is_after_name}
-use Rattle.spans.specs.Effects.{After, Effect}
-use Rattle.spans.specs.Feeds.{Feed, due_message, feed_of, is_cancelled, is_due, next_messages, resolved_of, untold_rows}
-use Rattle.spans.specs.Kept.{IsKeptOf, Kept, Place, kept_version, place_with}
-use Rattle.spans.specs.Newest.{newest}
 use Rattle.spans.specs.Serial.{map_at}
-use Rattle.spans.specs.Transactions.{closed_of, is_aborted, is_committed}
-use Rattle.spans.specs.Versions.{write_of}
-use Rattle.spans.proofs.Copies.{AllAllowed, not_both}
-use Rattle.spans.proofs.Feeding.{due_if, feeding, untold_is}
-use Rattle.spans.proofs.RowOrder.{name_order}
-use Rattle.spans.proofs.Steps.{map_at_is, version_wrote}
-use Rattle.spans.proofs.FeedFloors.{floors_high}
 use Rattle.kept.specs.Places.{AreLeft, is_beyond, place_floor, row_floor}
 use Rattle.kept.proofs.Dead.{kept_above, kept_is}
 use Rattle.kept.proofs.Floors.{place_floor_is}

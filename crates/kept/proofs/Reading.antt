@@ -1,20 +1,9 @@
 -- A read of what is kept finds what a read of the history finds.
 use Rattle.std.proofs.Common.{Bool, List, not, refl, inr, None, Option, arith, subst, false, ap, true, Some, inl, sym, ◌≡◌, ◌<◌, ◌≤◌, ◌⊎◌, ◌==◌, ◌&&◌, ◌∙◌, ℕ}
-use Rattle.std.proofs.lemmas.Bool.{eqb-true, ltb-true}
-use Rattle.std.proofs.lemmas.Bool.Decides.{nat_tests}
+use Rattle.kept.proofs.Common.{After, AllAllowed, Effect, IsDropped, IsKeptOf, IsNewest, Kept, Version, by_test, closed_of, committed_value, committed_version_of, dead_is, eqb-true, horizon_low, horizon_of, is_blocked, is_committed, is_dead, kept_version, ltb-true, nat_tests, newest, newest_is, newest_only, newest_same, older_dead, version_at, version_name, version_of, version_wrote, visible, write_of}
 use Rattle.std.specs.Prelude.{nat_lt, is_none}
-use Rattle.spans.specs.Collection.{horizon_of, version_name, is_dead}
-use Rattle.spans.specs.Effects.{After, Effect}
-use Rattle.spans.specs.Kept.{Kept, IsKeptOf, kept_version}
-use Rattle.spans.specs.Newest.{version_at, IsNewest, Version, newest}
-use Rattle.spans.specs.Transactions.{closed_of, is_committed}
-use Rattle.spans.specs.Versions.{visible, committed_value, committed_version_of, version_of, write_of, is_blocked}
-use Rattle.spans.proofs.Copies.{AllAllowed}
-use Rattle.spans.proofs.Steps.{version_wrote, newest_only, newest_is, newest_same, by_test}
 use Rattle.kept.specs.Finding.{seen, is_seen_blocked}
 use Rattle.spans.proofs.Closed.{closed_version, closed_committed}
-use Rattle.spans.proofs.Horizon.{horizon_low}
-use Rattle.spans.proofs.Dead.{IsDropped, older_dead, dead_is}
 use Rattle.kept.proofs.Dead.{no_kept, committed_stands}
 
 -- the value of the visible version, and the version itself unless it was dropped

@@ -1,20 +1,8 @@
 -- The tests of a command of a transaction, from the table.
-use Rattle.std.proofs.lemmas.Grind.{common_steps}
+use Rattle.kept.proofs.Common.{Effect, Ended, IsActive, IsKeptOf, Kept, MAX, NoTxn, NotOwner, Refusal, Refused, Reply, TsRange, by_test, closed_of, common_steps, first_refusal, first_refusal_or, is_aborted, is_committed, is_owner, nat_tests, owner_of, transaction_tests, transaction_with}
 use Rattle.std.proofs.Common.{Bool, List, None, Option, Some, [], ap, arith, cond, false, not, refl, sym, true, ℕ, ◌++◌, ◌||◌, ◌∙◌, ◌∷◌, ◌≡◌, ◌≤◌}
-use Rattle.std.proofs.lemmas.Bool.Decides.{nat_tests}
 use Rattle.std.specs.Prelude.{is_some, nat_le, nat_lt, option_map}
-use Rattle.timestamps.specs.declared.ts.TheConstants.{MAX}
-use Rattle.spans.specs.Answer.{first_refusal, first_refusal_or, is_owner, transaction_tests}
-use Rattle.spans.specs.Effects.{Effect}
-use Rattle.spans.specs.Kept.{IsKeptOf, Kept, transaction_with}
 use Rattle.spans.specs.declared.state.State.TheVariants as states
-use Rattle.spans.specs.Transactions.{closed_of, is_aborted, is_committed, owner_of}
-use Rattle.spans.specs.declared.calls.replies.Refusal.{Refusal}
-use Rattle.spans.specs.declared.calls.replies.Refusal.TheVariants.{Ended, NoTxn, NotOwner, TsRange}
-use Rattle.spans.specs.declared.calls.replies.Reply.{Reply}
-use Rattle.spans.specs.declared.calls.replies.Reply.TheVariants.{Refused}
-use Rattle.spans.proofs.Copies.{IsActive}
-use Rattle.spans.proofs.Steps.{by_test}
 use Rattle.spans.proofs.Refusals.{tests_past, tests_met}
 use Rattle.kept.specs.Replies.{unless_refused}
 use Rattle.kept.specs.Table.{has_ended, refusal, transaction_refusal}

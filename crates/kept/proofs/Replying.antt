@@ -1,30 +1,8 @@
 -- The replies that are made of what is kept are the answers.
-use Rattle.std.proofs.lemmas.Grind.{common_steps}
+use Rattle.kept.proofs.Common.{Abort, Aborted, AllAllowed, Begin, BelowHorizon, Cancel, Cancelled, Close, CloseHard, Closed, Collect, Collected, Collects, Commit, Committed, Del, Effect, Feed, FeedCancelled, Found, Get, IsKeptOf, Kept, MAX, Message, Messages, NoFeed, NotClosed, NotOwner, Open, OpenEvery, OpenInitial, OpenInitialEvery, Opens, Place, Poll, Protect, Put, ReadAt, Refused, Release, Reply, Row, Scan, ScanAt, Span, Stats, TooLate, VersionName, Written, and_parts, answer_of, by_test, closed_of, collection_horizon, committed_value, common_steps, dead_of, due_if, eqb-true, feed_of, feeds_opened, first_refusal_or, horizon_low, horizon_of, is_cancelled, is_due, kind_of, leb-true, ltb-true, nat_tests, next_messages, place_with, snapshot_tests, too_late, transaction_tests, undecided_timestamps, unopened, with_feed, write_count}
 use Rattle.std.proofs.Common.{rules}
 use Rattle.std.proofs.Common.{Bool, List, None, Option, Some, [], ap, arith, cond, false, length, map, not, refl, suc, sym, take, true, zero, ℕ, ◌&&◌, ◌++◌, ◌-◌, ◌<◌, ◌==◌, ◌∙◌, ◌∷◌, ◌≡◌, ◌≤◌}
-use Rattle.std.proofs.lemmas.Bool.{and_parts, eqb-true, leb-true, ltb-true}
-use Rattle.std.proofs.lemmas.Bool.Decides.{nat_tests}
 use Rattle.std.specs.Prelude.{filter, is_some, max, nat_le, nat_lt, option_map}
-use Rattle.timestamps.specs.declared.row.Row.{Row}
-use Rattle.timestamps.specs.declared.ts.TheConstants.{MAX}
-use Rattle.spans.specs.Answer.{answer_of, first_refusal_or, snapshot_tests, transaction_tests, with_feed}
-use Rattle.spans.specs.Collection.{VersionName, collection_horizon, dead_of, horizon_of}
-use Rattle.spans.specs.Effects.{Collects, Effect, Opens, kind_of}
-use Rattle.spans.specs.Feeds.{Feed, feed_of, feeds_opened, is_cancelled, is_due, next_messages}
-use Rattle.spans.specs.Kept.{IsKeptOf, Kept, Place, place_with}
-use Rattle.spans.specs.Reads.{too_late}
-use Rattle.spans.specs.Transactions.{closed_of, undecided_timestamps}
-use Rattle.spans.specs.Versions.{committed_value, write_count}
-use Rattle.spans.specs.declared.calls.commands.Cmd.TheVariants.{Abort, Begin, Cancel, Close, CloseHard, Collect, Commit, Del, Get, Open, OpenEvery, OpenInitial, OpenInitialEvery, Poll, Protect, Put, ReadAt, Release, Scan, ScanAt, Stats}
-use Rattle.spans.specs.declared.calls.messages.Message.{Message}
-use Rattle.spans.specs.declared.calls.replies.Refusal.TheVariants.{BelowHorizon, FeedCancelled, NoFeed, NotClosed, NotOwner, TooLate}
-use Rattle.spans.specs.declared.calls.replies.Reply.{Reply}
-use Rattle.spans.specs.declared.calls.replies.Reply.TheVariants.{Aborted, Cancelled, Closed, Collected, Committed, Found, Messages, Refused, Written}
-use Rattle.spans.specs.declared.span.Span.{Span}
-use Rattle.spans.proofs.Copies.{AllAllowed}
-use Rattle.spans.proofs.Feeding.{due_if, unopened}
-use Rattle.spans.proofs.Steps.{by_test}
-use Rattle.spans.proofs.Horizon.{horizon_low}
 use Rattle.kept.specs.Collecting.{IsCollected, reached}
 use Rattle.kept.specs.Finding.{AreKeysOf, seen}
 use Rattle.kept.specs.Lists.{AreThose, IsNumberOf}

@@ -1,29 +1,12 @@
 -- A report of what is kept is the live report of the history.
-use Rattle.std.proofs.lemmas.Grind.{common_steps}
+use Rattle.kept.proofs.Common.{All-contains, All-weaker, AllAllowed, Cancels, Effect, Event, Feed, Has, IsKeptOf, Kept, LiveFeed, Message, Opens, Place, ResolvedRise, Transaction, all_of, and_parts, by_test, closed_of, common_steps, effects_of, feed_of, feed_rises, feeding, feeds_opened, has_filter, is_undecided, last_resolved, legal_allowed, live_feeds, live_is, ltb-false, ltb-true, map-append, not-true, owner_of, place_with, reverse-append, told_to, transaction_with, unopened, write_count}
 use Rattle.std.proofs.Common.{Bool, List, None, Option, Some, [], ap, arith, cond, false, map, not, refl, reverse, subst, sym, true, ℕ, ◌++◌, ◌==◌, ◌∙◌, ◌∷◌, ◌≡◌, ◌≤◌}
 use Rattle.std.specs.Prelude.{Contains, filter, nat_lt, option_map, ◌↔◌}
-use Rattle.std.proofs.lemmas.Bool.{and_parts, ltb-false, ltb-true, not-true}
-use Rattle.std.proofs.lemmas.List.{map-append, reverse-append}
-use Rattle.std.proofs.lemmas.List.Elements.{All-contains, All-weaker}
-use Rattle.spans.specs.Collection.{LiveFeed, live_feeds}
-use Rattle.spans.specs.Effects.{Cancels, Effect, Opens, effects_of}
-use Rattle.spans.specs.Feeds.{Feed, feed_of, feeds_opened, last_resolved, told_to}
-use Rattle.spans.specs.Kept.{IsKeptOf, Kept, Place, Transaction, place_with, transaction_with}
 use Rattle.spans.specs.Report.{AreFeeds, AreUndecided, IsFeedReport, IsReport, last_told, protection_report}
-use Rattle.spans.specs.Transactions.{closed_of, is_undecided, owner_of}
-use Rattle.spans.specs.Versions.{write_count}
-use Rattle.spans.specs.declared.calls.events.Event.{Event}
-use Rattle.spans.specs.declared.calls.messages.Message.{Message}
 use Rattle.spans.specs.declared.calls.messages.Message.TheVariants as messages
 use Rattle.spans.specs.declared.report.FeedReport.{FeedReport}
 use Rattle.spans.specs.declared.report.Report.{Report}
 use Rattle.spans.specs.declared.report.TransactionReport.{TransactionReport}
-use Rattle.spans.proofs.Copies.{AllAllowed}
-use Rattle.spans.proofs.Feeding.{ResolvedRise, feed_rises, feeding, unopened}
-use Rattle.spans.proofs.Legal.{legal_allowed}
-use Rattle.spans.proofs.Members.{Has, all_of, has_filter}
-use Rattle.spans.proofs.Steps.{by_test}
-use Rattle.spans.proofs.FeedFloors.{live_is}
 use Rattle.kept.specs.Places.{live_feed}
 use Rattle.kept.specs.Reports.{AreLive, AreOpen, IsKeptReport, IsToldOf, feed_report, if_above, resolved_at}
 use Rattle.kept.specs.StandsFor.{StandsFor}

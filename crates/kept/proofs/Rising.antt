@@ -1,14 +1,9 @@
 -- Lists of numbers that rise, and lists that fall.
-use Rattle.std.proofs.lemmas.Grind.{common_steps}
+use Rattle.kept.proofs.Common.{AllByRecursion, Has, Less, common_steps, nat_cmp, nat_tests}
 use Rattle.std.proofs.Common.{List, [], arith, inl, inr, refl, subst, sym, ℕ, ◌++◌, ◌<◌, ◌∷◌, ◌≡◌, ◌⊎◌}
 use Rattle.std.specs.Prelude.{◌↔◌}
-use Rattle.std.specs.List.{AllByRecursion}
 use Rattle.std.specs.List.Sorted.{IsStrictlyIncreasing, IsStrictlySortedBy}
-use Rattle.std.specs.Ordering.{nat_cmp}
-use Rattle.std.specs.declared.cmp.Ordering.TheVariants.{Less}
-use Rattle.std.proofs.lemmas.Bool.Decides.{nat_tests}
 use Rattle.std.proofs.lemmas.Map.Keys.{sorted_from_strictly_increasing}
-use Rattle.spans.proofs.Members.{Has}
 
 -- each is below all after it
 abbrev pub Rises : List ℕ → Type 0

@@ -1,23 +1,7 @@
 -- A scan of the kept keys finds what a scan of all written keys finds.
-use Rattle.std.proofs.lemmas.Grind.{common_steps}
+use Rattle.kept.proofs.Common.{After, AllAllowed, Blocked, Effect, IsIn, IsKeptOf, Kept, Refusal, Reply, Rows, Span, blocked_in, closed_of, committed_value, common_steps, filter_in, filter_rises, filtered_same, first_refusal_or, horizon_of, in_span, is_blocked, keys_rise, newest_is, pairs_alike, pairs_of, pairs_of_some, settled_in, visible, visible_in, written_keys}
 use Rattle.std.proofs.Common.{Bool, List, None, Option, Some, [], ap, arith, inl, inr, map, not, refl, suc, sym, true, zero, ℕ, ◌&&◌, ◌<◌, ◌==◌, ◌∙◌, ◌∷◌, ◌≡◌, ◌≤◌, ◌⊎◌}
 use Rattle.std.specs.Prelude.{filter, is_some}
-use Rattle.spans.specs.Answer.{first_refusal_or}
-use Rattle.spans.specs.Collection.{horizon_of}
-use Rattle.spans.specs.Effects.{After, Effect}
-use Rattle.spans.specs.Kept.{IsKeptOf, Kept}
-use Rattle.spans.specs.Keys.{in_span, pairs_of}
-use Rattle.spans.specs.Transactions.{closed_of}
-use Rattle.spans.specs.Versions.{committed_value, is_blocked, visible, written_keys}
-use Rattle.spans.specs.declared.calls.replies.Refusal.{Refusal}
-use Rattle.spans.specs.declared.calls.replies.Refusal.TheVariants.{Blocked}
-use Rattle.spans.specs.declared.calls.replies.Reply.{Reply}
-use Rattle.spans.specs.declared.calls.replies.Reply.TheVariants.{Rows}
-use Rattle.spans.specs.declared.span.Span.{Span}
-use Rattle.spans.proofs.Copies.{AllAllowed}
-use Rattle.spans.proofs.Keyed.{IsIn, filter_in, filter_rises, filtered_same, pairs_alike, pairs_of_some}
-use Rattle.spans.proofs.Legal.{blocked_in, keys_rise, settled_in, visible_in}
-use Rattle.spans.proofs.Steps.{newest_is}
 use Rattle.kept.specs.Finding.{AreKeysOf, is_seen_blocked, seen}
 use Rattle.kept.proofs.Reading.{blocked_is, blocker_is, seen_value, settled_is}
 

@@ -1,18 +1,9 @@
 -- What is kept after an event stands for the history with it.
-use Rattle.std.proofs.lemmas.Grind.{common_steps}
+use Rattle.kept.proofs.Common.{Aborts, After, AllAllowed, Allowed, Begins, Cancels, Closes, Collects, Commits, Effect, Event, HardCloses, IsKeptOf, IsRightEvent, Kept, Kind, Message, NoEffect, Opens, Polls, Protects, Reads, Releases, Scans, SnapshotReads, SnapshotScans, Span, Writes, common_steps, effect_of, effects_of, legal_allowed, right_allowed}
 use Rattle.std.proofs.Common.{arith}
 use Rattle.std.proofs.Common.{rules}
 use Rattle.std.proofs.Common.{List, cond, false, refl, subst, sym, ℕ, ◌&&◌, ◌==◌, ◌||◌, ◌∷◌, ◌≡◌}
 use Rattle.std.specs.Prelude.{bytes_eq, max}
-use Rattle.spans.specs.declared.kind.Kind.{Kind}
-use Rattle.spans.specs.Effects.{Aborts, After, Begins, Cancels, Closes, Collects, Commits, Effect, HardCloses, NoEffect, Opens, Polls, Protects, Reads, Releases, Scans, SnapshotReads, SnapshotScans, Writes, effect_of, effects_of}
-use Rattle.spans.specs.Kept.{IsKeptOf, Kept}
-use Rattle.spans.specs.Legal.{IsRightEvent}
-use Rattle.spans.specs.declared.calls.events.Event.{Event}
-use Rattle.spans.specs.declared.calls.messages.Message.{Message}
-use Rattle.spans.specs.declared.span.Span.{Span}
-use Rattle.spans.proofs.Copies.{AllAllowed, Allowed}
-use Rattle.spans.proofs.Legal.{legal_allowed, right_allowed}
 use Rattle.kept.specs.Changes.{IsAbortedBy, IsAlike, IsBegun, IsCancelledFrom, IsClosedAt, IsCollectedTo, IsCommittedBy, IsHardClosedAt, IsMovedBy, IsOpenedAt, IsProtectedBy, IsReadBy, IsReleasedFrom, IsScannedBy, IsWritten}
 use Rattle.kept.specs.StandsFor.{StandsFor}
 use Rattle.kept.proofs.AfterBegins.{after_begins}

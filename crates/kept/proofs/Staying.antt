@@ -1,17 +1,7 @@
 -- What an effect leaves as it is.
-use Rattle.std.proofs.lemmas.Grind.{common_steps}
+use Rattle.kept.proofs.Common.{After, AllAllowed, Allowed, Commits, Effect, IsCrossed, IsKeptOf, Kept, NoEffect, SnapshotReads, SnapshotScans, Span, Writes, by_test, closed_of, closed_stays, common_steps, horizon_low, horizon_of, is_committed, is_dead, kept_version, nat_tests, newest_same, version_name, version_of, write_of}
 use Rattle.std.proofs.Common.{Bool, List, None, Option, Some, ap, arith, cond, false, refl, sym, ℕ, ◌<◌, ◌==◌, ◌∙◌, ◌∷◌, ◌≡◌, ◌≤◌}
-use Rattle.std.proofs.lemmas.Bool.Decides.{nat_tests}
 use Rattle.std.specs.Prelude.{◌↔◌}
-use Rattle.spans.specs.Collection.{horizon_of, is_dead, version_name}
-use Rattle.spans.specs.Effects.{After, Commits, Effect, NoEffect, SnapshotReads, SnapshotScans, Writes}
-use Rattle.spans.specs.Kept.{IsCrossed, IsKeptOf, Kept, kept_version}
-use Rattle.spans.specs.Transactions.{closed_of, is_committed}
-use Rattle.spans.specs.Versions.{version_of, write_of}
-use Rattle.spans.specs.declared.span.Span.{Span}
-use Rattle.spans.proofs.Copies.{AllAllowed, Allowed, closed_stays}
-use Rattle.spans.proofs.Steps.{by_test, newest_same}
-use Rattle.spans.proofs.Horizon.{horizon_low}
 use Rattle.kept.specs.Changes.{IsAlike}
 use Rattle.kept.proofs.Dead.{high_live, kept_above}
 use Rattle.kept.proofs.Marking.{MarksAt, crossed_like, marks_kept}

@@ -1,23 +1,9 @@
 -- The rows that a feed was not told are those beyond its place.
-use Rattle.std.proofs.lemmas.Grind.{common_steps}
+use Rattle.kept.proofs.Common.{AllAllowed, Effect, Feed, IsFeeding, IsListed, IsRowIn, Message, RisingRows, Row, VersionName, and_from, and_parts, both_ways, closed_of, common_steps, false_from_ne_true, feed_of, in_append, in_list, is_after_name, last_name, list_rises, listed_above, lt-ltb, name_of, place_with, rest_above, rises_parts, rows_clash, rows_in, start_of, told_to}
 use Rattle.std.proofs.Common.{arith}
 use Rattle.std.proofs.Common.{List, refl, inr, None, Option, subst, false, true, Some, inl, sym, ◌≡◌, ◌∷◌, ◌∙◌, ℕ, []}
-use Rattle.std.proofs.lemmas.Bool.{and_from, lt-ltb, false_from_ne_true, both_ways, and_parts}
 use Rattle.std.specs.Prelude.{◌↔◌}
-use Rattle.timestamps.specs.declared.row.Row.{Row}
-use Rattle.spans.specs.Collection.{VersionName}
-use Rattle.spans.specs.Consumer.{is_after_name, name_of}
-use Rattle.spans.specs.Effects.{Effect}
-use Rattle.spans.specs.Feeds.{told_to, rows_in, Feed, feed_of, start_of}
-use Rattle.spans.specs.Kept.{last_name, place_with}
 use Rattle.spans.specs.Streams.{row_lt}
-use Rattle.spans.specs.Transactions.{closed_of}
-use Rattle.spans.specs.declared.calls.messages.Message.{Message}
-use Rattle.spans.proofs.Copies.{AllAllowed}
-use Rattle.spans.proofs.Feeding.{IsFeeding}
-use Rattle.spans.proofs.Listing.{IsListed, in_list, list_rises, listed_above}
-use Rattle.spans.proofs.StreamOrder.{rows_clash, RisingRows, IsRowIn, in_append, rises_parts}
-use Rattle.spans.proofs.FeedFloors.{rest_above}
 use Rattle.kept.specs.Places.{is_beyond}
 use Rattle.spans.specs.declared.calls.messages.Message.TheVariants as messages
 

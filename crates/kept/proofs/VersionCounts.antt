@@ -1,14 +1,7 @@
 -- The versions that are kept are counted by those of the history.
 use Rattle.std.proofs.Common.{Bool, List, not, refl, None, Option, false, ap, true, sym, length, cond, ◌≡◌, ◌+◌, ◌∙◌}
 use Rattle.std.specs.Prelude.{filter, is_some, ◌↔◌}
-use Rattle.spans.specs.Collection.{VersionName, versions_of, dead_of, is_dead}
-use Rattle.spans.specs.Effects.{After, Effect}
-use Rattle.spans.specs.Kept.{Kept, IsKeptOf, kept_version}
-use Rattle.spans.specs.Versions.{version_of}
-use Rattle.spans.proofs.Copies.{AllAllowed}
-use Rattle.spans.proofs.Members.{Has, AreDistinct, parted}
-use Rattle.spans.proofs.Members.{distinct_filter, has_filter, same_length}
-use Rattle.spans.proofs.VersionNames.{versions_distinct, has_versions}
+use Rattle.kept.proofs.Common.{After, AllAllowed, AreDistinct, Effect, Has, IsKeptOf, Kept, VersionName, dead_of, distinct_filter, has_filter, has_versions, is_dead, kept_version, parted, same_length, version_of, versions_distinct, versions_of}
 
 -- any list that has each version of the store once is as long as the versions less the dead
 pub stored_count : (k : Kept) (p : List Effect) → AllAllowed p → IsKeptOf k p → (vs : List VersionName) → AreDistinct vs → ((v : VersionName) → Has v vs ↔ (is_some (k.version v.key v.ts) ≡ true))

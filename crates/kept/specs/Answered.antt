@@ -1,17 +1,6 @@
 -- A command answered by what is kept: the reply, and what becomes of what is kept.
 use Rattle.std.specs.Prelude.{false, Bool, List, None, Option, Some, is_some, nat_le, true, ℕ, ◌&&◌, ◌≡◌, ◌≤◌, ◌⊎◌}
-use Rattle.timestamps.specs.declared.row.Row.{Row}
-use Rattle.timestamps.specs.declared.ts.TheConstants.{MAX}
-use Rattle.spans.specs.Collection.{VersionName}
-use Rattle.spans.specs.Effects.{Aborts, Begins, Cancels, Closes, Collects, Commits, Effect, HardCloses, NoEffect, Opens, Polls, Protects, Reads, Releases, Scans, SnapshotReads, SnapshotScans, Writes, effect, kind_of}
-use Rattle.spans.specs.Kept.{Kept, Place}
-use Rattle.spans.specs.Legal.{is_accepted, may_lack_memory}
-use Rattle.spans.specs.declared.span.Span.{Span}
-use Rattle.spans.specs.declared.calls.commands.Cmd.{Cmd}
-use Rattle.spans.specs.declared.calls.commands.Cmd.TheVariants.{Abort, Begin, Cancel, Close, CloseHard, Collect, Commit, Del, Get, Open, OpenEvery, OpenInitial, OpenInitialEvery, Poll, Protect, Put, ReadAt, Release, Scan, ScanAt, Stats}
-use Rattle.spans.specs.declared.calls.replies.Refusal.TheVariants.{NoMemory}
-use Rattle.spans.specs.declared.calls.replies.Reply.{Reply}
-use Rattle.spans.specs.declared.calls.replies.Reply.TheVariants.{Refused}
+use Rattle.kept.specs.Prelude.{Abort, Aborts, Begin, Begins, Cancel, Cancels, Close, CloseHard, Closes, Cmd, Collect, Collects, Commit, Commits, Del, Effect, Get, HardCloses, Kept, MAX, NoEffect, NoMemory, Open, OpenEvery, OpenInitial, OpenInitialEvery, Opens, Place, Poll, Polls, Protect, Protects, Put, ReadAt, Reads, Refused, Release, Releases, Reply, Row, Scan, ScanAt, Scans, SnapshotReads, SnapshotScans, Span, Stats, VersionName, Writes, effect, is_accepted, kind_of, may_lack_memory}
 use Rattle.kept.specs.Changes.{IsAbortedBy, IsAlike, IsBegun, IsCancelledFrom, IsClosedAt, IsCollectedTo, IsCommittedBy, IsHardClosedAt, IsMovedBy, IsOpenedAt, IsProtectedBy, IsReadBy, IsReleasedFrom, IsScannedBy, IsWritten}
 use Rattle.kept.specs.Collecting.{IsCollected, reached}
 use Rattle.kept.specs.Finding.{AreKeysOf}

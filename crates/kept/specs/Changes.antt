@@ -1,14 +1,7 @@
 -- What each effect changes of what is kept: k is what was kept before it, and k' what is kept after it. The last field of
 -- each record says that all else is as it was. Whether a version is committed is asked only where there is one.
 use Rattle.std.specs.Prelude.{List, None, Some, bytes_eq, false, filter, if◌then◌else◌, nat_le, nat_lt, not, option_map, suc, true, ℕ, ◌&&◌, ◌==◌, ◌||◌, ◌∷◌, ◌≡◌}
-use Rattle.spans.specs.Collection.{Protection}
-use Rattle.spans.specs.declared.kind.Kind.{Kind}
-use Rattle.spans.specs.Effects.{After}
-use Rattle.spans.specs.Feeds.{start_at}
-use Rattle.spans.specs.Kept.{Kept, Transaction}
-use Rattle.spans.specs.Keys.{in_span}
-use Rattle.spans.specs.declared.calls.messages.Message.{Message}
-use Rattle.spans.specs.declared.span.Span.{Span}
+use Rattle.kept.specs.Prelude.{After, Kept, Kind, Message, Protection, Span, Transaction, in_span, start_at}
 use Rattle.kept.specs.Finding.{is_dead_in}
 use Rattle.kept.specs.Marks.{IsForgotten, IsNoted}
 use Rattle.kept.specs.Places.{moved}

@@ -1,7 +1,6 @@
 -- What a collection drops, and what holds it back.
 use Rattle.std.specs.Prelude.{List, Option, map, max, min, ℕ, ◌≡◌}
-use Rattle.spans.specs.Collection.{Protection, VersionName}
-use Rattle.spans.specs.Kept.{Kept}
+use Rattle.kept.specs.Prelude.{Kept, Protection, VersionName}
 use Rattle.spans.specs.Transactions.{least_of}
 use Rattle.kept.specs.Finding.{is_dropped}
 use Rattle.kept.specs.Lists.{AreThose}

@@ -1,11 +1,6 @@
 -- What a read finds in what is kept.
 use Rattle.std.specs.Prelude.{ℕ, List, Bool, true, not, ◌≡◌, ◌<◌, ◌==◌, ◌&&◌, ◌||◌, ◌↔◌, nat_lt, nat_le, if◌then◌else◌, Option, Some, None, is_some}
-use Rattle.spans.specs.Effects.{After}
-use Rattle.spans.specs.Keys.{in_span}
-use Rattle.spans.specs.Newest.{Version, newest}
-use Rattle.spans.specs.Collection.{VersionName, is_delete}
-use Rattle.spans.specs.Kept.{Kept}
-use Rattle.spans.specs.declared.span.Span.{Span}
+use Rattle.kept.specs.Prelude.{After, Kept, Span, Version, VersionName, in_span, is_delete, newest}
 use Rattle.spans.proofs.Keyed.{IsIn, RisingKeys}
 
 -- of the kept versions of x, the newest at or below t

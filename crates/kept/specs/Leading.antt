@@ -1,12 +1,6 @@
 -- What the theorems of this crate are said with: a reply that is the answer, and what stands after an event.
 use Rattle.std.specs.Prelude.{List, ℕ, ◌∷◌, ◌≡◌}
-use Rattle.spans.specs.Answer.{answer_of}
-use Rattle.spans.specs.Effects.{Effect, effect_of, effects_of, event}
-use Rattle.spans.specs.Kept.{Kept}
-use Rattle.spans.specs.Legal.{IsRightEvent}
-use Rattle.spans.specs.declared.calls.commands.Cmd.{Cmd}
-use Rattle.spans.specs.declared.calls.events.Event.{Event}
-use Rattle.spans.specs.declared.calls.replies.Reply.{Reply}
+use Rattle.kept.specs.Prelude.{Cmd, Effect, Event, IsRightEvent, Kept, Reply, answer_of, effect_of, effects_of, event}
 use Rattle.kept.specs.StandsFor.{StandsFor}
 
 -- keys with their values

@@ -1,3 +1,4 @@
+pub mod Prelude
 pub mod Lists
 pub mod Finding
 pub mod Marks

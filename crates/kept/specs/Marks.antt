@@ -1,7 +1,6 @@
 -- What marking and forgetting readers of a key has to do, and what is asked of the marks.
 use Rattle.std.specs.Prelude.{Bool, List, None, Option, Some, false, nat_lt, true, ℕ, ◌&&◌, ◌<◌, ◌==◌, ◌↔◌, ◌≡◌, ◌≤◌, ◌⊎◌}
-use Rattle.timestamps.specs.declared.ts.TheConstants.{MAX}
-use Rattle.spans.specs.Kept.{IsCrossed, Kept}
+use Rattle.kept.specs.Prelude.{IsCrossed, Kept, MAX}
 use Rattle.kept.specs.Finding.{IsNextAbove, seen}
 
 -- at most the bound, where there is one

@@ -1,14 +1,7 @@
 -- What the place of a live feed answers.
 use Rattle.std.specs.Prelude.{Bool, List, None, Option, Some, is_some, length, max, min, nat_lt, take, true, ℕ, ◌&&◌, ◌++◌, ◌-◌, ◌↔◌, ◌≡◌, ◌<◌, ◌≤◌, ◌⊎◌}
-use Rattle.timestamps.specs.declared.row.Row.{Row}
-use Rattle.spans.specs.Collection.{LiveFeed, VersionName}
+use Rattle.kept.specs.Prelude.{After, Kept, LiveFeed, Message, Place, Row, VersionName, in_span, last_name, last_resolved, newest}
 use Rattle.spans.specs.Consumer.{is_after_name}
-use Rattle.spans.specs.Effects.{After}
-use Rattle.spans.specs.Feeds.{last_resolved}
-use Rattle.spans.specs.Kept.{Kept, Place, last_name}
-use Rattle.spans.specs.Keys.{in_span}
-use Rattle.spans.specs.Newest.{newest}
-use Rattle.spans.specs.declared.calls.messages.Message.{Message}
 use Rattle.spans.proofs.StreamOrder.{IsRowIn, RisingRows}
 
 -- more rows of the last row's timestamp may follow

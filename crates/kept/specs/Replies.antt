@@ -1,19 +1,7 @@
 -- The reply to each command, made of what is kept and of what the layers of an engine answer.
 use Rattle.std.specs.List.{list_any}
 use Rattle.std.specs.Prelude.{Bool, List, None, Option, Some, [], if◌then◌else◌, is_some, length, map, max, nat_le, nat_lt, not, suc, take, ℕ, ◌&&◌, ◌++◌, ◌==◌, ◌∷◌}
-use Rattle.timestamps.specs.declared.row.Row.{Row}
-use Rattle.timestamps.specs.declared.ts.TheConstants.{MAX}
-use Rattle.spans.specs.Answer.{first_refusal_or, is_gap, is_timestamp}
-use Rattle.spans.specs.Collection.{Protection, VersionName}
-use Rattle.spans.specs.declared.kind.Kind.{Kind}
-use Rattle.spans.specs.Feeds.{is_due}
-use Rattle.spans.specs.Kept.{Kept, Place}
-use Rattle.spans.specs.Keys.{pairs_of}
-use Rattle.spans.specs.declared.calls.messages.Message.{Message}
-use Rattle.spans.specs.declared.calls.replies.Refusal.{Refusal}
-use Rattle.spans.specs.declared.calls.replies.Refusal.TheVariants.{BelowClosed, BelowHorizon, Blocked, FeedCancelled, GapRange, NoFeed, NoProtection, NotClosed, NotOwner, TooLate, TsRange, TsUsed}
-use Rattle.spans.specs.declared.calls.replies.Reply.{Reply}
-use Rattle.spans.specs.declared.calls.replies.Reply.TheVariants.{Aborted, Cancelled, Closed, Collected, Committed, Found, Messages, Opened, Protected, Refused, Released, Rows, Started, Written}
+use Rattle.kept.specs.Prelude.{Aborted, BelowClosed, BelowHorizon, Blocked, Cancelled, Closed, Collected, Committed, FeedCancelled, Found, GapRange, Kept, Kind, MAX, Message, Messages, NoFeed, NoProtection, NotClosed, NotOwner, Opened, Place, Protected, Protection, Refusal, Refused, Released, Reply, Row, Rows, Started, TooLate, TsRange, TsUsed, VersionName, Written, first_refusal_or, is_due, is_gap, is_timestamp, pairs_of}
 use Rattle.kept.specs.Finding.{is_seen_blocked, seen}
 use Rattle.kept.specs.Table.{reach, refusal}
 use Rattle.spans.specs.declared.calls.messages.Message.TheVariants as messages

@@ -1,12 +1,8 @@
 -- What a live report says of what is kept.
 use Rattle.std.specs.Prelude.{All, Contains, List, None, Option, Some, if◌then◌else◌, is_some, map, max, nat_lt, option_map, reverse, true, ℕ, ◌↔◌, ◌≡◌}
 use Rattle.std.specs.List.Sorted.{IsStrictlyIncreasing}
-use Rattle.spans.specs.Collection.{VersionName}
-use Rattle.spans.specs.Feeds.{start_at}
-use Rattle.spans.specs.Kept.{Kept, Place, Transaction}
-use Rattle.spans.specs.Report.{protection_report}
+use Rattle.kept.specs.Prelude.{Kept, Place, Report, Transaction, VersionName, protection_report, start_at}
 use Rattle.spans.specs.declared.report.FeedReport.{FeedReport}
-use Rattle.spans.specs.declared.report.Report.{Report}
 use Rattle.spans.specs.declared.report.TransactionReport.{TransactionReport}
 use Rattle.kept.specs.Lists.{IsNumberOf}
 use Rattle.kept.specs.Places.{place_floor, row_floor}

@@ -1,9 +1,6 @@
 -- What is kept stands for a legal history.
 use Rattle.std.specs.Prelude.{List, None, [], false}
-use Rattle.spans.specs.Effects.{effects_of}
-use Rattle.spans.specs.Kept.{IsKeptOf, Kept}
-use Rattle.spans.specs.Legal.{IsLegal}
-use Rattle.spans.specs.declared.calls.events.Event.{Event}
+use Rattle.kept.specs.Prelude.{Event, IsKeptOf, IsLegal, Kept, effects_of}
 
 -- the history, its newest event first, is legal, and k is what is kept of it
 pub record StandsFor (k : Kept) (h : List Event) : Type 0 where

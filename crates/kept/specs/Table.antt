@@ -1,10 +1,8 @@
 -- What the table of transactions answers.
 use Rattle.std.specs.Prelude.{Bool, None, Option, Some, false, if◌then◌else◌, min, nat_le, not, true, ℕ, ◌-◌, ◌==◌, ◌≡◌, ◌≤◌}
-use Rattle.spans.specs.Kept.{Kept, Transaction}
+use Rattle.kept.specs.Prelude.{Ended, Kept, NoTxn, NotOwner, Refusal, Transaction}
 use Rattle.spans.specs.declared.state.State.{State}
 use Rattle.spans.specs.declared.state.State.TheVariants as states
-use Rattle.spans.specs.declared.calls.replies.Refusal.{Refusal}
-use Rattle.spans.specs.declared.calls.replies.Refusal.TheVariants.{Ended, NoTxn, NotOwner}
 
 -- it has committed or was aborted
 abbrev pub has_ended : State → Bool

@@ -1,11 +1,6 @@
 -- The example that the crate's page draws, worked.
 use Rattle.std.specs.Prelude.{ℕ, List, [], ◌∷◌, ◌≡◌, true, Some, None, is_some, refl}
-use Rattle.spans.specs.declared.calls.commands.Cmd.TheVariants.{Get, Put, ReadAt}
-use Rattle.spans.specs.declared.calls.replies.Reply.TheVariants.{Found, Refused}
-use Rattle.spans.specs.declared.calls.replies.Refusal.TheVariants.{TooLate, NotClosed, BelowHorizon}
-use Rattle.spans.specs.Effects.{Effect, Begins, Reads, Writes, Commits, Closes, Collects}
-use Rattle.spans.specs.Answer.{answer_of}
-use Rattle.spans.specs.Kept.{kept_version, transaction_of}
+use Rattle.kept.specs.Prelude.{Begins, BelowHorizon, Closes, Collects, Commits, Effect, Found, Get, NotClosed, Put, ReadAt, Reads, Refused, TooLate, Writes, answer_of, kept_version, transaction_of}
 
 abbrev a : List ℕ
 a = 97 ∷ []

@@ -1,10 +1,6 @@
 //! The rows that are left for a feed, in the two parts in which a store finds them.
 ghost use Rattle.std.specs.Prelude.{List, [], ℕ, Some, false, ◌++◌, ◌≡◌, ◌<◌, ◌≤◌};
-ghost use Rattle.timestamps.specs.declared.row.Row.{Row};
-ghost use Rattle.spans.specs.declared.calls.events.Event.{Event};
-ghost use Rattle.spans.specs.Collection.{VersionName};
-ghost use Rattle.spans.specs.Feeds.{start_at};
-ghost use Rattle.spans.specs.Kept.{Kept, Place};
+ghost use Rattle.kept.specs.Prelude.{Event, Kept, Place, Row, VersionName, start_at};
 ghost use Rattle.kept.specs.StandsFor.{StandsFor};
 ghost use Rattle.kept.specs.Places.{AreFirsts, AreLeftAt, AreNext, AreParts, first_of};
 

@@ -1,10 +1,6 @@
 //! The report that is made of what is kept.
 ghost use Rattle.std.specs.Prelude.{List, false};
-ghost use Rattle.spans.specs.declared.calls.events.Event.{Event};
-ghost use Rattle.spans.specs.declared.report.Report.{Report};
-ghost use Rattle.spans.specs.Effects.{effects_of};
-ghost use Rattle.spans.specs.Kept.{Kept};
-ghost use Rattle.spans.specs.Report.{IsReport};
+ghost use Rattle.kept.specs.Prelude.{Event, IsReport, Kept, Report, effects_of};
 ghost use Rattle.kept.specs.Reports.{IsKeptReport};
 ghost use Rattle.kept.specs.StandsFor.{StandsFor};
 

@@ -1,13 +1,6 @@
 //! What each event changes of what is kept.
 ghost use Rattle.std.specs.Prelude.{List, [], ℕ};
-ghost use Rattle.spans.specs.declared.span.Span.{Span};
-ghost use Rattle.spans.specs.declared.calls.commands.Cmd.{Cmd};
-ghost use Rattle.spans.specs.declared.calls.events.Event.{Event};
-ghost use Rattle.spans.specs.declared.calls.replies.Reply.{Reply};
-ghost use Rattle.spans.specs.declared.calls.messages.Message.{Message};
-ghost use Rattle.spans.specs.declared.kind.Kind.{Kind};
-ghost use Rattle.spans.specs.Effects.{After, Begins, Reads, Scans, Writes, Commits, Aborts, Closes, HardCloses, Protects, Releases, Collects, Opens, Polls, Cancels, SnapshotReads, SnapshotScans, NoEffect};
-ghost use Rattle.spans.specs.Kept.{Kept};
+ghost use Rattle.kept.specs.Prelude.{Aborts, After, Begins, Cancels, Closes, Cmd, Collects, Commits, Event, HardCloses, Kept, Kind, Message, NoEffect, Opens, Polls, Protects, Reads, Releases, Reply, Scans, SnapshotReads, SnapshotScans, Span, Writes};
 ghost use Rattle.kept.specs.Answered.{IsStep};
 ghost use Rattle.kept.specs.StandsFor.{StandsFor, nothing_kept};
 ghost use Rattle.kept.specs.Leading.{LeadsTo, LeadsOn, Pairs};

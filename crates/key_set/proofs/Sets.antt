@@ -2,12 +2,11 @@
 use Rattle.std.proofs.Common.{◌≡◌, ℕ, Bool, true, false, cond, ◌||◌, List, [], ◌∷◌, Option, Some, None, refl, sym, ◌∙◌, ap, subst, inl, inr, Result, Ok, Err, OnOk, OnErr, ◌<◌, length, suc, arith}
 use Rattle.std.specs.Prelude.{IfNone, IfOk, IfSome, bytes_eq, filter}
 use Rattle.std.specs.List.{items_where_true, list_any}
-use Rattle.std.specs.List.Retain.{IsFiltered}
+use Rattle.key_set.proofs.Common.{IsFiltered, IsIn, RisingKeys, add_rises, has, has_in, insert_key, key_cmp, key_lt, remove_key}
 use Rattle.std.specs.Option.{IsSome}
 use Rattle.std.specs.BTreeMap.{is_at}
 use Rattle.std.specs.BTreeMap.Range.{range_contains}
 use Rattle.std.specs.BTreeSet as sets
-use Rattle.std.specs.Set.{remove_key}
 use Rattle.std.specs.Ordering.{ordering_reverse}
 use Rattle.std.specs.declared.alloc.AllocError.{AllocError}
 use Rattle.std.specs.declared.cmp.Ordering.TheVariants.{Equal, Greater, Less}
@@ -17,12 +16,7 @@ use Rattle.std.proofs.lemmas.Cmp.{nat_list_cmp_total, tied_itself}
 use Rattle.std.proofs.lemmas.Map.Lookups.{exact_bytes}
 use Rattle.std.proofs.lemmas.Map.Text.{is_eq-slice_cmp}
 use Rattle.std.proofs.Math.Bool.{and-true}
-use Rattle.timestamps.specs.Bytes.{key_cmp}
-use Rattle.spans.specs.KeyOrder.{key_lt}
-use Rattle.spans.specs.Keys.{insert_key}
-use Rattle.spans.proofs.Keyed.{IsIn, RisingKeys, add_rises}
 use Rattle.spans.proofs.Steps.{by_test, key_itself, same_key}
-use Rattle.spans.proofs.WriteSets.{has, has_in}
 use Rattle.key_set.specs.Sets.{AreInOrder, first_above, keys_in}
 
 -- ---- in the words of std

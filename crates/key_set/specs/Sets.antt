@@ -1,7 +1,6 @@
 -- The keys of a set, of which the least lies in place.
 use Rattle.std.specs.Prelude.{ℕ, List, [], ◌∷◌, ◌≡◌, Option, Some, None, if◌then◌else◌}
-use Rattle.spans.specs.KeyOrder.{key_lt}
-use Rattle.spans.proofs.Keyed.{RisingKeys}
+use Rattle.key_set.specs.Prelude.{RisingKeys, key_lt}
 
 -- the key in place, where there is one, and then the others
 abbrev pub keys_in : Option (List ℕ) → List (List ℕ) → List (List ℕ)

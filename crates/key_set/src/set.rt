@@ -7,9 +7,8 @@ ghost use Rattle.std.specs.Option.{option_copied};
 ghost use Rattle.std.specs.Set.{remove_key};
 ghost use Rattle.std.specs.declared.cmp.Ordering.TheVariants.{Less};
 ghost use Rattle.timestamps.specs.Bytes.{key_cmp};
-ghost use Rattle.spans.specs.KeyOrder.{key_lt};
+ghost use Rattle.key_set.specs.Prelude.{RisingKeys, key_lt};
 ghost use Rattle.spans.specs.Keys.{insert_key};
-ghost use Rattle.spans.proofs.Keyed.{RisingKeys};
 ghost use Rattle.spans.proofs.WriteSets.{has};
 ghost use Rattle.key_set.specs.Sets.{AreInOrder, first_above, keys_in};
 

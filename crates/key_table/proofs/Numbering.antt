@@ -1,13 +1,11 @@
 -- A key that came to a table, and one that went from it.
 use Rattle.std.proofs.Common.{◌≡◌, ℕ, List, Option, Some, None, Bool, true, false, cond, refl, sym, ◌∙◌, ap, subst, arith, ◌==◌}
 use Rattle.std.specs.Prelude.{◌≢◌, IfSome}
-use Rattle.std.specs.BTreeMap.{BTreeMap, get, is_at}
+use Rattle.key_table.proofs.Common.{BTreeMap, Slab, get, is_at, key_cmp}
 use Rattle.std.proofs.lemmas.Bool.Decides.{nat_tests}
 use Rattle.std.proofs.lemmas.Map.Text.{is_eq-slice_cmp}
 use Rattle.std.proofs.lemmas.Slice.Eq.{bytes_eq-Decides}
 use Rattle.slab.specs.Slab as slab
-use Rattle.slab.specs.Slab.{Slab}
-use Rattle.timestamps.specs.Bytes.{key_cmp}
 use Rattle.key_table.specs.Numbers.{Numbered, number_in, IsNumberedAt, IsOwn}
 use Rattle.key_table.specs.Ties.{AreTied}
 

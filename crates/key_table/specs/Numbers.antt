@@ -1,8 +1,7 @@
 -- What a table of keys is seen as.
 use Rattle.std.specs.Prelude.{ℕ, List, Option, Some, ◌≡◌, if◌then◌else◌, bytes_eq}
 use Rattle.std.specs.Map.{lookup}
-use Rattle.std.specs.BTreeMap.{is_at}
-use Rattle.timestamps.specs.Bytes.{key_cmp}
+use Rattle.key_table.specs.Prelude.{is_at, key_cmp}
 
 -- keys, each with its number
 abbrev pub Numbered : Type 0

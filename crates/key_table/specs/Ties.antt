@@ -1,9 +1,8 @@
 -- How the numbers by key are tied to the keys by number.
 use Rattle.std.specs.Prelude.{ℕ, List, Some, ◌≡◌, ◌↔◌}
-use Rattle.std.specs.BTreeMap.{BTreeMap, get}
+use Rattle.key_table.specs.Prelude.{BTreeMap, get, key_cmp}
 use Rattle.slab.specs.Slab as slab
 use Rattle.slab.specs.Slab.{Slab}
-use Rattle.timestamps.specs.Bytes.{key_cmp}
 
 -- x has the number n exactly where it stands at n
 abbrev pub AreTied : BTreeMap (List ℕ) ℕ → Slab (List ℕ) → Type 0

@@ -1,26 +1,8 @@
 -- The replies to reads at a closed timestamp, and to commands of protections.
-use Rattle.std.proofs.lemmas.Grind.{common_steps}
+use Rattle.mvto_rules.proofs.Common.{After, AreKeysOf, BelowHorizon, Found, IsAlike, IsAnswered, IsStep, IsWanting, Kept, MAX, NoProtection, NotClosed, Protect, Protected, Protection, ReadAt, Refusal, Refused, Release, Released, Rows, ScanAt, Span, Standing, TsRange, alike_self, closed_in, common_steps, first_refusal, list_any, made_in, nat_tests, pairs_of, protection, protections_in, seen}
 use Rattle.std.proofs.Common.{Bool, List, None, Option, Some, ap, arith, cond, false, refl, suc, sym, true, ℕ, ◌<◌, ◌≤◌, ◌==◌, ◌∷◌, ◌≡◌, ◌∙◌, []}
-use Rattle.std.specs.List.{list_any}
 use Rattle.std.specs.Prelude.{filter, nat_lt, not}
-use Rattle.std.proofs.lemmas.Bool.Decides.{nat_tests}
-use Rattle.timestamps.specs.declared.ts.TheConstants.{MAX}
-use Rattle.spans.specs.Answer.{first_refusal}
-use Rattle.spans.specs.Collection.{Protection}
-use Rattle.spans.specs.Effects.{After}
-use Rattle.spans.specs.Kept.{Kept}
-use Rattle.spans.specs.Keys.{pairs_of}
-use Rattle.spans.specs.declared.calls.commands.Cmd.TheVariants.{Protect, ReadAt, Release, ScanAt}
-use Rattle.spans.specs.declared.calls.replies.Refusal.{Refusal}
-use Rattle.spans.specs.declared.calls.replies.Refusal.TheVariants.{BelowHorizon, NoProtection, NotClosed, TsRange}
-use Rattle.spans.specs.declared.calls.replies.Reply.TheVariants.{Found, Protected, Refused, Released, Rows}
-use Rattle.spans.specs.declared.span.Span.{Span}
 use Rattle.spans.proofs.Refusals.{none_met, first_met}
-use Rattle.kept.specs.Answered.{IsAnswered, IsStep, IsWanting}
-use Rattle.kept.specs.Changes.{IsAlike}
-use Rattle.kept.specs.Finding.{AreKeysOf, seen}
-use Rattle.kept.proofs.Staying.{alike_self}
-use Rattle.closing.specs.Standing.{Standing, closed_in, made_in, protection, protections_in}
 use Rattle.mvto_rules.specs.Snapshots.{horizon_refusal, snapshot_refusal, tests_at}
 
 -- ---- tests

@@ -1,30 +1,10 @@
 -- Closings. A hard one takes back what undecided transactions wrote, one after another.
-use Rattle.std.proofs.lemmas.Grind.{common_steps}
+use Rattle.mvto_rules.proofs.Common.{After, AreDistinct, AreDroppedAt, AreThose, Close, CloseHard, Closed, Has, IsClosedAt, IsHardClosedAt, IsOldest, IsStep, Kept, MAX, Protection, Refused, Stored, Table, Transaction, TsRange, alike_self, and_parts, by_test, common_steps, is_open, list_any, nat_tests, or_cases, or_left, or_right, reach, transaction_in, version_in, within}
 use Rattle.std.proofs.Common.{Bool, List, None, Option, Some, ap, arith, cond, eqb-true, eq-eqb, false, inl, inr, length, refl, subst, sym, true, ℕ, ◌<◌, ◌==◌, ◌&&◌, ◌||◌, ◌∷◌, ◌≡◌, ◌∙◌, []}
 use Rattle.std.specs.Prelude.{is_some, max, nat_le, nat_lt, not, ◌≤◌}
-use Rattle.std.specs.List.{list_any}
-use Rattle.std.proofs.lemmas.Bool.{or_cases, or_left, or_right, and_parts}
-use Rattle.std.proofs.lemmas.Bool.Decides.{nat_tests}
 use Rattle.std.proofs.Math.Bool.{and-true}
-use Rattle.spans.specs.Collection.{Protection}
-use Rattle.spans.specs.Effects.{After}
-use Rattle.spans.specs.Kept.{Kept, Transaction}
-use Rattle.spans.specs.declared.calls.commands.Cmd.TheVariants.{Close, CloseHard}
-use Rattle.spans.specs.declared.calls.replies.Refusal.TheVariants.{TsRange}
-use Rattle.spans.specs.declared.calls.replies.Reply.TheVariants.{Closed, Refused}
-use Rattle.spans.proofs.Members.{AreDistinct, Has}
-use Rattle.spans.proofs.Steps.{by_test}
-use Rattle.kept.specs.Answered.{IsStep}
-use Rattle.kept.specs.Changes.{IsClosedAt, IsHardClosedAt}
-use Rattle.kept.specs.Lists.{AreThose}
-use Rattle.kept.specs.Table.{IsOldest, is_open, reach}
-use Rattle.kept.proofs.Refusals.{within}
-use Rattle.kept.proofs.Staying.{alike_self}
-use Rattle.txn_table.specs.TransactionIn.{Table, transaction_in}
-use Rattle.version_chain.specs.Stores.{AreDroppedAt, Stored, version_in}
 use Rattle.mvto_rules.specs.Closings.{AreTakenBack, is_taken_back}
 use Rattle.mvto_rules.specs.Tables.{AreInRange}
-use Rattle.timestamps.specs.declared.ts.TheConstants.{MAX}
 
 -- the number is one of the list
 abbrev pub is_among : ℕ → List ℕ → Bool

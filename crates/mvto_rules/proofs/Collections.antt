@@ -1,22 +1,9 @@
 -- The reply to a collection, and what it changes.
 use Rattle.std.proofs.Common.{List, None, Option, ap, arith, inl, length, refl, subst, sym, true, ℕ, ◌<◌, ◌≤◌, ◌≡◌, ◌∙◌, []}
 use Rattle.std.specs.Prelude.{Some, map, min, nat_lt}
-use Rattle.std.proofs.lemmas.Bool.Decides.{nat_tests}
-use Rattle.timestamps.specs.declared.ts.TheConstants.{MAX}
-use Rattle.spans.specs.Collection.{Protection, VersionName}
-use Rattle.spans.specs.Kept.{Kept}
+use Rattle.mvto_rules.proofs.Common.{AreThose, Collect, Collected, IsCollectedTo, IsStep, Kept, MAX, Protection, Refused, TsRange, VersionName, alike_self, is_dropped, nat_tests, reached, within}
 use Rattle.spans.specs.Transactions.{least_of}
-use Rattle.spans.specs.declared.calls.commands.Cmd.TheVariants.{Collect}
-use Rattle.spans.specs.declared.calls.replies.Refusal.TheVariants.{TsRange}
-use Rattle.spans.specs.declared.calls.replies.Reply.TheVariants.{Collected, Refused}
-use Rattle.kept.specs.Answered.{IsStep}
-use Rattle.kept.specs.Changes.{IsCollectedTo}
-use Rattle.kept.specs.Collecting.{reached}
-use Rattle.kept.specs.Finding.{is_dropped}
-use Rattle.kept.specs.Lists.{AreThose}
 use Rattle.kept.specs.Places.{IsLeastFloor, or_min}
-use Rattle.kept.proofs.Refusals.{within}
-use Rattle.kept.proofs.Staying.{alike_self}
 
 pub collect_outside : (k : Kept) (seat to : ℕ) → MAX < to → IsStep k k seat (Collect to) (Refused TsRange)
 collect_outside k seat to high = let on : nat_lt MAX to ≡ true = grind (arith, nat_tests) in inl (record { right = (None, None, [], (λ low. absurd (omega arith)), rw on refl); change = alike_self k })

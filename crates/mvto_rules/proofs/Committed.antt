@@ -1,11 +1,6 @@
 -- The newest committed version of a key, found from above.
-use Rattle.std.proofs.lemmas.Grind.{common_steps}
+use Rattle.mvto_rules.proofs.Common.{After, IsNewestIn, Stored, by_test, common_steps, is_committed_in, ltb-false, ltb-true, newest, newest_is, newest_only, version_at, version_in}
 use Rattle.std.proofs.Common.{Bool, List, None, Option, arith, cond, false, inl, refl, true, ℕ, ◌-◌, ◌<◌, ◌≡◌, ◌≤◌}
-use Rattle.std.proofs.lemmas.Bool.{ltb-false, ltb-true}
-use Rattle.spans.specs.Effects.{After}
-use Rattle.spans.specs.Newest.{newest, version_at}
-use Rattle.spans.proofs.Steps.{by_test, newest_is, newest_only}
-use Rattle.version_chain.specs.Stores.{IsNewestIn, Stored, is_committed_in, version_in}
 use Rattle.version_chain.specs.declared.chain.Version as chains
 
 -- the committed versions of x

@@ -1,17 +1,8 @@
 -- The key at which a scan ends, found one entry after another.
-use Rattle.std.proofs.lemmas.Grind.{common_steps}
+use Rattle.mvto_rules.proofs.Common.{After, AllByRecursion, Entry, RisingKeys, Span, Stored, chain_of, common_steps, in_span, is_committed_in, keys_of, nat_tests, version_in}
 use Rattle.std.proofs.Common.{Bool, List, None, Option, Some, ap, arith, false, refl, true, ℕ, ◌∷◌, ◌≡◌, []}
-use Rattle.std.specs.List.{AllByRecursion}
-use Rattle.std.specs.Map.{keys_of}
 use Rattle.std.specs.Prelude.{IfSome, ◌==◌, ◌≤◌}
-use Rattle.std.proofs.lemmas.Bool.Decides.{nat_tests}
-use Rattle.spans.specs.Effects.{After}
-use Rattle.spans.specs.Keys.{in_span}
-use Rattle.spans.specs.declared.span.Span.{Span}
-use Rattle.spans.proofs.Keyed.{RisingKeys}
 use Rattle.spans.specs.Newest.{Version}
-use Rattle.version_chain.specs.Chains.{Entry, chain_of}
-use Rattle.version_chain.specs.Stores.{Stored, is_committed_in, version_in}
 use Rattle.version_chain.specs.declared.chain.Version as stored
 use Rattle.mvto_rules.specs.Room.{end_at, end_in, has_room, room_behind, stops_at}
 use Rattle.mvto_rules.specs.Scans.{entries_of, keys_in}

@@ -1,3 +1,4 @@
+pub mod Common
 pub mod Seeing
 pub mod Noting
 pub mod Walking

@@ -1,16 +1,7 @@
 -- The rows of a span at a closed timestamp, one key after another.
-use Rattle.std.proofs.lemmas.Grind.{common_steps}
+use Rattle.mvto_rules.proofs.Common.{AllByRecursion, Entry, RisingKeys, Span, Stored, Version, append-nil, chain_of, common_steps, in_span, is_committed_in, keys_of, version_in, with_value}
 use Rattle.std.proofs.Common.{arith}
 use Rattle.std.proofs.Common.{refl, List, Option, ap, sym, true, ℕ, ◌++◌, ◌∷◌, ◌≡◌, ◌∙◌, []}
-use Rattle.std.proofs.lemmas.List.{append-nil}
-use Rattle.std.specs.List.{AllByRecursion}
-use Rattle.std.specs.Map.{keys_of}
-use Rattle.spans.specs.Keys.{in_span, with_value}
-use Rattle.spans.specs.declared.span.Span.{Span}
-use Rattle.spans.proofs.Keyed.{RisingKeys}
-use Rattle.version_chain.specs.Chains.{Entry, chain_of}
-use Rattle.version_chain.specs.Stores.{Stored, is_committed_in, version_in}
-use Rattle.version_chain.specs.declared.chain.Version.{Version}
 use Rattle.mvto_rules.specs.Scans.{entries_of, keys_in, rows_in}
 use Rattle.mvto_rules.specs.Sights.{value_in}
 use Rattle.mvto_rules.proofs.Seeing.{IsThere}

@@ -1,24 +1,11 @@
 -- A read of one key, noted.
-use Rattle.std.proofs.lemmas.Grind.{common_steps}
+use Rattle.mvto_rules.proofs.Common.{After, HaveSameMarks, IsAlike, IsAsBefore, IsCrossedIn, IsLate, IsMarkedAt, IsNextAbove, IsNoted, IsPiece, IsReadBy, Kept, MAX, Stored, Version, after_of, by_test, chain_of, common_steps, marked_in, nat_tests, seen, until, version_in, version_of}
 use std.Path.{fun_ext}
 use Rattle.std.proofs.Common.{List, None, Option, Some, arith, false, refl, subst, sym, true, ℕ, ◌<◌, ◌≤◌, ◌==◌, ◌≡◌, ◌∙◌, [], ◌∷◌, ap}
 use Rattle.std.specs.Prelude.{is_some, nat_lt}
-use Rattle.std.proofs.lemmas.Bool.Decides.{nat_tests}
-use Rattle.timestamps.specs.declared.ts.TheConstants.{MAX}
-use Rattle.spans.specs.Effects.{After}
-use Rattle.spans.specs.Kept.{Kept}
-use Rattle.spans.proofs.Steps.{by_test}
-use Rattle.kept.specs.Changes.{IsAlike, IsReadBy}
-use Rattle.kept.specs.Finding.{IsNextAbove, seen}
-use Rattle.kept.specs.Marks.{IsLate, IsNoted, IsPiece, until}
 use Rattle.kept.proofs.Noting.{merged_noted, own_noted}
-use Rattle.version_chain.specs.Marking.{IsCrossedIn, IsMarkedAt}
-use Rattle.version_chain.specs.Stores.{HaveSameMarks, IsAsBefore, Stored, after_of, marked_in, version_in}
 use Rattle.mvto_rules.specs.Holding.{holding, marked_of}
 use Rattle.mvto_rules.specs.declared.rules.Rules.{Rules}
-use Rattle.version_chain.specs.Chains.{chain_of}
-use Rattle.version_chain.specs.Versions.{version_of}
-use Rattle.version_chain.specs.declared.chain.Version.{Version}
 
 next_like : (f g : ℕ → Option After) (t : ℕ) (o : Option ℕ) → ((n : ℕ) → t < n → g n ≡ f n) → IsNextAbove f t o → IsNextAbove g t o
 next_like f g t None same none = λ n l. same n l ∙ none n l

@@ -1,29 +1,10 @@
 -- What the reply to each command of a transaction changes, by what was found for it.
-use Rattle.std.proofs.lemmas.Grind.{common_steps}
+use Rattle.mvto_rules.proofs.Common.{Abort, Aborted, After, AreKeysOf, Begin, Blocked, Commit, Committed, Del, Found, Get, IsAbortedBy, IsAlike, IsAnswered, IsBegun, IsChangedBy, IsCommittedBy, IsLate, IsNumberOf, IsReadBy, IsScanReply, IsScannedBy, IsStep, IsWanting, IsWriteReply, IsWritten, Kept, NoMemory, Put, Refusal, Refused, Reply, Rows, Scan, Span, Started, TooLate, Written, alike_self, begin_reply, by_test, common_steps, effect, first_refusal_or, get_reply, is_accepted, is_seen_blocked, refusal, scan_reply, seen, unless_refused, write_reply}
 use Rattle.std.proofs.Common.{arith}
 use Rattle.std.proofs.Common.{Bool, Err, List, None, Ok, Option, Result, Some, ap, cond, false, inl, inr, refl, subst, sym, true, ℕ, ◌⊎◌, ◌∷◌, ◌≡◌, ◌∙◌, []}
 use Rattle.std.specs.Prelude.{IfOk, OnErr, is_some}
-use Rattle.spans.specs.Answer.{first_refusal_or}
-use Rattle.spans.specs.Effects.{After, effect}
-use Rattle.spans.specs.Kept.{Kept}
-use Rattle.spans.specs.Legal.{is_accepted}
 use Rattle.spans.specs.declared.calls.commands.Cmd.{Cmd}
-use Rattle.spans.specs.declared.calls.commands.Cmd.TheVariants.{Abort, Begin, Commit, Del, Get, Put, Scan}
-use Rattle.spans.specs.declared.calls.replies.Refusal.{Refusal}
-use Rattle.spans.specs.declared.calls.replies.Refusal.TheVariants.{Blocked, NoMemory, TooLate}
-use Rattle.spans.specs.declared.calls.replies.Reply.{Reply}
-use Rattle.spans.specs.declared.calls.replies.Reply.TheVariants.{Aborted, Committed, Found, Refused, Rows, Started, Written}
-use Rattle.spans.specs.declared.span.Span.{Span}
-use Rattle.spans.proofs.Steps.{by_test}
-use Rattle.kept.specs.Answered.{IsAnswered, IsChangedBy, IsScanReply, IsStep, IsWanting, IsWriteReply}
-use Rattle.kept.specs.Changes.{IsAbortedBy, IsAlike, IsBegun, IsCommittedBy, IsReadBy, IsScannedBy, IsWritten}
-use Rattle.kept.specs.Finding.{AreKeysOf, is_seen_blocked, seen}
 use Rattle.kept.specs.Leading.{Pairs}
-use Rattle.kept.specs.Lists.{IsNumberOf}
-use Rattle.kept.specs.Marks.{IsLate}
-use Rattle.kept.specs.Replies.{begin_reply, get_reply, scan_reply, unless_refused, write_reply}
-use Rattle.kept.specs.Table.{refusal}
-use Rattle.kept.proofs.Staying.{alike_self}
 use Rattle.mvto_rules.specs.Accepting.{IsScanAccepted, IsWriteAccepted}
 use Rattle.mvto_rules.specs.Holding.{Changes, Holds, Stays, StaysIfRefused, Steps, holding, write_of}
 use Rattle.mvto_rules.specs.declared.rules.Rules.{Rules}

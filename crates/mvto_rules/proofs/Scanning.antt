@@ -1,37 +1,9 @@
 -- A scan's reply, and what it marks.
-use Rattle.std.proofs.lemmas.Grind.{common_steps}
+use Rattle.mvto_rules.proofs.Common.{AllByRecursion, AreFilled, AreKeysOf, AreMarkedAt, Blocked, Entry, IsAsBefore, IsIn, IsScanReply, IsScannedBy, Kept, MAX, Refusal, Refused, Reply, RisingKeys, Rows, Span, Stored, Version, after_of, both_ways, by_test, chain_nowhere, chain_of, common_steps, first_refusal_or, in_span, is_accepted, keys_of, marked_in, nat_tests, newest_in, newest_is, refusal, rises_filtered, scan_reply, unless_refused, until, version_in, version_of}
 use Rattle.std.proofs.Common.{List, None, Option, Some, ap, arith, cond, false, inl, inr, refl, subst, sym, true, ℕ, ◌<◌, ◌≤◌, ◌==◌, ◌∷◌, ◌≡◌, ◌∙◌, []}
 use Rattle.std.specs.Prelude.{is_some, map}
-use Rattle.std.specs.List.{AllByRecursion}
-use Rattle.std.specs.Map.{keys_of}
-use Rattle.std.proofs.lemmas.Bool.{both_ways}
-use Rattle.std.proofs.lemmas.Bool.Decides.{nat_tests}
-use Rattle.spans.specs.Answer.{first_refusal_or}
-use Rattle.spans.specs.Kept.{Kept}
-use Rattle.spans.specs.Keys.{in_span}
-use Rattle.spans.specs.Legal.{is_accepted}
-use Rattle.spans.specs.declared.span.Span.{Span}
-use Rattle.spans.specs.declared.calls.replies.Refusal.{Refusal}
-use Rattle.spans.specs.declared.calls.replies.Refusal.TheVariants.{Blocked}
-use Rattle.spans.specs.declared.calls.replies.Reply.{Reply}
-use Rattle.spans.specs.declared.calls.replies.Reply.TheVariants.{Refused, Rows}
-use Rattle.spans.proofs.Keyed.{IsIn, RisingKeys}
-use Rattle.spans.proofs.Steps.{by_test, newest_is}
 use Rattle.spans.proofs.WriteSets.{has, has_in}
-use Rattle.kept.specs.Answered.{IsScanReply}
-use Rattle.kept.specs.Changes.{IsScannedBy}
-use Rattle.kept.specs.Finding.{AreKeysOf}
-use Rattle.kept.specs.Marks.{until}
-use Rattle.kept.specs.Replies.{scan_reply, unless_refused}
-use Rattle.kept.specs.Table.{refusal}
 use Rattle.kept.proofs.Marking.{merged}
-use Rattle.timestamps.specs.declared.ts.TheConstants.{MAX}
-use Rattle.version_chain.specs.Marking.{AreMarkedAt, newest_in}
-use Rattle.version_chain.specs.Chains.{AreFilled, Entry, chain_of}
-use Rattle.version_chain.specs.Stores.{IsAsBefore, Stored, after_of, marked_in, version_in}
-use Rattle.version_chain.specs.Versions.{version_of}
-use Rattle.version_chain.specs.declared.chain.Version.{Version}
-use Rattle.version_chain.proofs.InSpans.{chain_nowhere, rises_filtered}
 use Rattle.mvto_rules.specs.Holding.{holding, marked_of}
 use Rattle.mvto_rules.specs.Scans.{entries_of, first_blocker, keys_in, rows_in, stops_in}
 use Rattle.mvto_rules.specs.declared.rules.Rules.{Rules}

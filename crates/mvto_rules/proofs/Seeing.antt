@@ -1,22 +1,7 @@
 -- What a read finds, by the newest version at or below its timestamp.
-use Rattle.std.proofs.lemmas.Grind.{common_steps}
+use Rattle.mvto_rules.proofs.Common.{After, Blocked, Found, IsNewestIn, IsNewestOf, IsNoneUpTo, Kept, Refused, Reply, Stored, Version, after_of, chain_of, common_steps, get_reply, is_committed_in, nat_tests, newest, newest_only, option_copied, refusal, version_at, version_in, version_of}
 use Rattle.std.proofs.Common.{Bool, Bor, List, None, Option, Some, ap, arith, cond, false, inl, inr, refl, subst, sym, true, ℕ, ◌<◌, ◌≤◌, ◌==◌, ◌≡◌, ◌∙◌}
-use Rattle.std.specs.Option.{option_copied}
 use Rattle.std.specs.Prelude.{IfSome, MatchOption}
-use Rattle.std.proofs.lemmas.Bool.Decides.{nat_tests}
-use Rattle.spans.specs.Effects.{After}
-use Rattle.spans.specs.Kept.{Kept}
-use Rattle.spans.specs.Newest.{newest, version_at}
-use Rattle.spans.specs.declared.calls.replies.Refusal.TheVariants.{Blocked}
-use Rattle.spans.specs.declared.calls.replies.Reply.{Reply}
-use Rattle.spans.specs.declared.calls.replies.Reply.TheVariants.{Found, Refused}
-use Rattle.spans.proofs.Steps.{newest_only}
-use Rattle.kept.specs.Replies.{get_reply}
-use Rattle.kept.specs.Table.{refusal}
-use Rattle.version_chain.specs.Chains.{chain_of}
-use Rattle.version_chain.specs.Stores.{IsNewestIn, Stored, after_of, is_committed_in, version_in}
-use Rattle.version_chain.specs.Versions.{IsNewestOf, IsNoneUpTo, version_of}
-use Rattle.version_chain.specs.declared.chain.Version.{Version}
 use Rattle.mvto_rules.specs.Sights.{sight_of, ts_of, value_in, would_stop}
 use Rattle.mvto_rules.specs.declared.sight.Sight.{Sight}
 use Rattle.mvto_rules.specs.declared.sight.Sight.TheVariants as sights

@@ -1,22 +1,12 @@
 -- What is told of the undecided transactions, one after another.
-use Rattle.std.proofs.lemmas.Grind.{common_steps}
+use Rattle.mvto_rules.proofs.Common.{AreThose, Has, IsNumberOf, IsStrictlyIncreasing, Kept, MAX, Transaction, and_from, and_parts, append-nil, common_steps, is_open, map-append, nat_tests, transaction_in}
 use Rattle.std.proofs.Common.{List, Option, None, Some, [], ap, append_assoc, arith, inl, inr, map, refl, subst, sym, true, ℕ, ◌++◌, ◌∷◌, ◌≡◌, ◌∙◌, ◌≤◌}
 use Rattle.std.specs.Prelude.{All, Contains, is_some, nat_le, option_map, ◌&&◌, ◌↔◌}
-use Rattle.std.specs.List.Sorted.{IsStrictlyIncreasing}
-use Rattle.std.proofs.lemmas.Bool.{and_from, and_parts}
-use Rattle.std.proofs.lemmas.Bool.Decides.{nat_tests}
-use Rattle.std.proofs.lemmas.List.{append-nil, map-append}
 use Rattle.std.proofs.lemmas.List.Elements.{All-push}
-use Rattle.timestamps.specs.declared.ts.TheConstants.{MAX}
-use Rattle.spans.specs.Kept.{Kept, Transaction}
 use Rattle.spans.specs.declared.report.TransactionReport.{TransactionReport}
 use Rattle.spans.specs.declared.state.State.{State}
-use Rattle.spans.proofs.Members.{Has}
-use Rattle.kept.specs.Lists.{AreThose, IsNumberOf}
 use Rattle.kept.specs.Reports.{AreOpen, IsToldOf}
-use Rattle.kept.specs.Table.{is_open}
 use Rattle.kept.proofs.Contained.{contains_has}
-use Rattle.txn_table.specs.TransactionIn.{transaction_in}
 use Rattle.mvto_rules.specs.Holding.{holding}
 use Rattle.mvto_rules.specs.Tables.{AreInRange}
 use Rattle.mvto_rules.specs.declared.rules.Rules.{Rules}

@@ -1,20 +1,8 @@
 -- A walk through the entries of a span.
-use Rattle.std.proofs.lemmas.Grind.{common_steps}
+use Rattle.mvto_rules.proofs.Common.{AllByRecursion, Entry, IsIn, IsNewestOf, IsNoneUpTo, RisingKeys, Span, Stored, Version, chain_among, chain_of, common_steps, in_span, is_committed_in, key_among, keys_of, newest_in, option_copied, version_in}
 use Rattle.std.proofs.Common.{arith}
 use Rattle.std.proofs.Common.{Bor, List, Option, Some, ap, append_assoc, cond, false, inl, inr, refl, subst, sym, true, ℕ, ◌<◌, ◌≤◌, ◌++◌, ◌∷◌, ◌≡◌, ◌∙◌, []}
 use Rattle.std.specs.Prelude.{IfSome, MatchOption}
-use Rattle.std.specs.List.{AllByRecursion}
-use Rattle.std.specs.Map.{keys_of}
-use Rattle.std.specs.Option.{option_copied}
-use Rattle.spans.specs.Keys.{in_span}
-use Rattle.spans.specs.declared.span.Span.{Span}
-use Rattle.spans.proofs.Keyed.{IsIn, RisingKeys}
-use Rattle.version_chain.specs.Chains.{Entry, chain_of}
-use Rattle.version_chain.specs.Marking.{newest_in}
-use Rattle.version_chain.specs.Stores.{Stored, is_committed_in, version_in}
-use Rattle.version_chain.specs.Versions.{IsNewestOf, IsNoneUpTo}
-use Rattle.version_chain.specs.declared.chain.Version.{Version}
-use Rattle.version_chain.proofs.InSpans.{chain_among, key_among}
 use Rattle.mvto_rules.specs.Scans.{entries_of, first_blocker, keys_in}
 use Rattle.mvto_rules.specs.Sights.{sight_of}
 use Rattle.mvto_rules.specs.declared.sight.Sight.TheVariants as sights

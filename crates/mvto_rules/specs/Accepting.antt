@@ -1,12 +1,6 @@
 -- When a command whose reply rests on what is found would not be refused.
 use Rattle.std.specs.Prelude.{Bool, List, None, true, ℕ, ◌≡◌}
-use Rattle.spans.specs.Kept.{Kept}
-use Rattle.spans.specs.Legal.{is_accepted}
-use Rattle.spans.specs.declared.span.Span.{Span}
-use Rattle.kept.specs.Finding.{AreKeysOf}
-use Rattle.kept.specs.Marks.{IsLate}
-use Rattle.kept.specs.Replies.{scan_reply, write_reply}
-use Rattle.kept.specs.Table.{refusal}
+use Rattle.mvto_rules.specs.Prelude.{AreKeysOf, IsLate, Kept, Span, is_accepted, refusal, scan_reply, write_reply}
 
 -- a scan, by the keys of the span
 abbrev pub IsScanAccepted : Kept → ℕ → ℕ → Span → Type 0

@@ -1,12 +1,6 @@
 -- What closing does to what the rules hold.
 use Rattle.std.specs.Prelude.{Bool, List, None, Some, if◌then◌else◌, length, nat_le, ℕ, ◌&&◌, ◌≡◌}
-use Rattle.spans.specs.Effects.{After}
-use Rattle.spans.specs.Kept.{Kept}
-use Rattle.kept.specs.Lists.{AreThose}
-use Rattle.kept.specs.Marks.{IsForgotten}
-use Rattle.kept.specs.Table.{is_open}
-use Rattle.txn_table.specs.TransactionIn.{Table, transaction_in}
-use Rattle.version_chain.specs.Stores.{Stored, is_committed_in, version_in}
+use Rattle.mvto_rules.specs.Prelude.{After, AreThose, IsForgotten, Kept, Stored, Table, is_committed_in, is_open, transaction_in, version_in}
 use Rattle.mvto_rules.specs.Holding.{marked_of}
 use Rattle.mvto_rules.specs.declared.rules.Rules.{Rules}
 

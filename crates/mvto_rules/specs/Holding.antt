@@ -1,17 +1,8 @@
 -- What the rules hold, as a part of what an engine keeps: all of it but the feeds.
 use Rattle.std.specs.Prelude.{Bool, List, None, Option, Some, ℕ, ◌≡◌}
-use Rattle.spans.specs.Effects.{After}
-use Rattle.spans.specs.Kept.{Kept, Transaction}
+use Rattle.mvto_rules.specs.Prelude.{After, Del, IsAlike, IsStep, Kept, Put, Refusal, Refused, Standing, Stored, Transaction, closed_in, is_committed_in, made_in, marked_in, protections_in, transaction_in, version_in}
 use Rattle.spans.specs.declared.calls.commands.Cmd.{Cmd}
-use Rattle.spans.specs.declared.calls.commands.Cmd.TheVariants.{Del, Put}
-use Rattle.spans.specs.declared.calls.replies.Refusal.{Refusal}
 use Rattle.spans.specs.declared.calls.replies.Reply.{Reply}
-use Rattle.spans.specs.declared.calls.replies.Reply.TheVariants.{Refused}
-use Rattle.kept.specs.Answered.{IsStep}
-use Rattle.kept.specs.Changes.{IsAlike}
-use Rattle.closing.specs.Standing.{Standing, closed_in, made_in, protections_in}
-use Rattle.version_chain.specs.Stores.{Stored, is_committed_in, marked_in, version_in}
-use Rattle.txn_table.specs.TransactionIn.{transaction_in}
 use Rattle.mvto_rules.specs.declared.rules.Rules.{Rules}
 
 -- what the rules hold

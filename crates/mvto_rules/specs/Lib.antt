@@ -1,3 +1,4 @@
+pub mod Prelude
 pub mod Tables
 pub mod Sights
 pub mod Scans

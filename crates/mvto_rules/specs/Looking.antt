@@ -1,8 +1,7 @@
 -- What the rules tell without a command, of what is kept alone.
 use Rattle.std.specs.Prelude.{List, None, Option, Some, if◌then◌else◌, is_some, true, ℕ, ◌≡◌, ◌≤◌, ◌⊎◌}
-use Rattle.spans.specs.Kept.{Kept}
-use Rattle.spans.specs.Newest.{Version, newest}
-use Rattle.kept.specs.Finding.{kept_committed}
+use Rattle.mvto_rules.specs.Prelude.{Kept, kept_committed, newest}
+use Rattle.spans.specs.Newest.{Version}
 
 -- the timestamp of a version that has a value
 abbrev pub value_at : Version → Option ℕ

@@ -2,8 +2,7 @@
 use Rattle.std.specs.Prelude.{Option, map, ℕ, ◌≡◌}
 use Rattle.spans.specs.Collection.{Protection}
 use Rattle.spans.specs.Transactions.{least_of}
-use Rattle.kept.specs.Places.{or_min}
-use Rattle.closing.specs.Standing.{Standing, closed_in, protections_in}
+use Rattle.mvto_rules.specs.Prelude.{Standing, closed_in, or_min, protections_in}
 
 -- the least timestamp that is protected, where there is any
 abbrev pub IsLeastProtection : Standing → Option ℕ → Type 0

@@ -1,7 +1,6 @@
 -- What a scan answers of a store.
 use Rattle.std.specs.Prelude.{None, Some, ℕ, ◌≡◌}
-use Rattle.spans.specs.declared.span.Span.{Span}
-use Rattle.version_chain.specs.Stores.{Stored}
+use Rattle.mvto_rules.specs.Prelude.{Span, Stored}
 use Rattle.mvto_rules.specs.Scans.{first_blocker, keys_in, rows_in}
 use Rattle.mvto_rules.specs.declared.reading.Reading.{Reading}
 use Rattle.mvto_rules.specs.declared.reading.Reading.TheVariants.{Stopped, Through}

@@ -1,13 +1,7 @@
 -- How far a scan finds room. A row has the bytes of its key and its value, and 17 more, as a message in bytes has (this
 -- project's own).
 use Rattle.std.specs.Prelude.{Bool, List, None, Option, Some, [], false, if◌then◌else◌, length, nat_lt, not, true, ℕ, ◌&&◌, ◌+◌, ◌-◌, ◌==◌, ◌||◌, ◌∷◌, ◌≡◌}
-use Rattle.spans.specs.Effects.{After}
-use Rattle.spans.specs.Kept.{Kept}
-use Rattle.spans.specs.declared.span.Span.{Span}
-use Rattle.kept.specs.Finding.{AreKeysOf, is_seen_blocked, seen}
-use Rattle.version_chain.specs.Stores.{Stored}
-use Rattle.version_chain.specs.declared.chain.Version.{Version}
-use Rattle.version_chain.specs.Marking.{newest_in}
+use Rattle.mvto_rules.specs.Prelude.{After, AreKeysOf, Kept, Span, Stored, Version, is_seen_blocked, newest_in, seen}
 use Rattle.mvto_rules.specs.Scans.{stops_in}
 use Rattle.mvto_rules.specs.declared.room.Room.{Room}
 

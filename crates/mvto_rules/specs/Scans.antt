@@ -2,11 +2,7 @@
 use Rattle.std.specs.List.{filter}
 use Rattle.std.specs.Map.{keys_of}
 use Rattle.std.specs.Prelude.{Bool, List, None, Option, Some, [], if◌then◌else◌, ℕ, ◌∷◌, ◌&&◌}
-use Rattle.spans.specs.Keys.{in_span, pairs_of}
-use Rattle.spans.specs.declared.span.Span.{Span}
-use Rattle.version_chain.specs.Chains.{Entry, has_versions}
-use Rattle.version_chain.specs.Stores.{Stored, is_committed_in}
-use Rattle.version_chain.specs.Marking.{newest_in}
+use Rattle.mvto_rules.specs.Prelude.{Entry, Span, Stored, has_versions, in_span, is_committed_in, newest_in, pairs_of}
 use Rattle.mvto_rules.specs.Sights.{would_stop}
 
 -- the keys of the span that have a version, each with its versions

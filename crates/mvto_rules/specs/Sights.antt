@@ -1,7 +1,6 @@
 -- What a read finds at a key, by the newest version there at or below its timestamp.
 use Rattle.std.specs.Prelude.{Bool, None, Option, Some, if◌then◌else◌, not, ℕ, ◌&&◌, ◌==◌}
-use Rattle.spans.specs.Effects.{After}
-use Rattle.version_chain.specs.declared.chain.Version.{Version}
+use Rattle.mvto_rules.specs.Prelude.{After, Version}
 use Rattle.mvto_rules.specs.declared.sight.Sight.{Sight}
 use Rattle.mvto_rules.specs.declared.sight.Sight.TheVariants.{Blocked, Other, Own}
 

@@ -1,9 +1,7 @@
 -- Why a timestamp can't be read at, or is no longer needed to be.
 use Rattle.std.specs.Prelude.{Bool, List, None, Option, Some, [], if◌then◌else◌, nat_lt, ℕ, ◌∷◌}
 use Rattle.spans.specs.Answer.{first_refusal}
-use Rattle.spans.specs.Kept.{Kept}
-use Rattle.spans.specs.declared.calls.replies.Refusal.{Refusal}
-use Rattle.spans.specs.declared.calls.replies.Refusal.TheVariants.{BelowHorizon, NotClosed}
+use Rattle.mvto_rules.specs.Prelude.{BelowHorizon, Kept, NotClosed, Refusal}
 
 -- what is below the horizon may be gone
 abbrev pub horizon_refusal : Kept → ℕ → Option Refusal

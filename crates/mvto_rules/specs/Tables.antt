@@ -1,7 +1,6 @@
 -- What the rules ask of the table of transactions.
 use Rattle.std.specs.Prelude.{is_some, true, ℕ, ◌≡◌, ◌≤◌}
-use Rattle.timestamps.specs.declared.ts.TheConstants.{MAX}
-use Rattle.txn_table.specs.TransactionIn.{Table, transaction_in}
+use Rattle.mvto_rules.specs.Prelude.{MAX, Table, transaction_in}
 
 -- only a number that is a timestamp has a transaction
 abbrev pub AreInRange : Table → Type 0

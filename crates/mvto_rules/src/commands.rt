@@ -1,13 +1,7 @@
 //! Each command that the rules answer. Running out of memory becomes an answer here.
 ghost use Rattle.std.specs.Prelude.{ℕ, ◌≡◌, ◌<◌, ◌≤◌, IfOk, OnErr};
 ghost use Rattle.std.specs.Option.{option_copied};
-ghost use Rattle.timestamps.specs.declared.ts.TheConstants.{MAX};
-ghost use Rattle.spans.specs.declared.calls.commands.Cmd.TheVariants.{Abort, Begin, Close, CloseHard, Collect, Commit, Get, Protect, ReadAt, Release, Scan, ScanAt};
-ghost use Rattle.spans.specs.declared.calls.replies.Refusal.TheVariants.{NoMemory};
-ghost use Rattle.spans.specs.declared.calls.replies.Reply.TheVariants.{Refused};
-ghost use Rattle.kept.specs.Answered.{IsStep};
-ghost use Rattle.kept.specs.Places.{IsLeastFloor};
-ghost use Rattle.closing.specs.Standing.{closed_in, made_in};
+ghost use Rattle.mvto_rules.specs.Prelude.{Abort, Begin, Close, CloseHard, Collect, Commit, Get, IsLeastFloor, IsStep, MAX, NoMemory, Protect, ReadAt, Refused, Release, Scan, ScanAt, closed_in, made_in};
 
 use crate::forgetting::take_back_through;
 use crate::rules::Rules;

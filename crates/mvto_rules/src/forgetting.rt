@@ -1,8 +1,6 @@
 //! What a closing lets go: transactions, readers, and versions.
 ghost use Rattle.std.specs.Prelude.{ℕ, ◌≡◌};
-ghost use Rattle.kept.specs.Changes.{IsClosedAt};
-ghost use Rattle.closing.specs.Standing.{closed_in};
-ghost use Rattle.version_chain.specs.Stores.{HaveSameMarks};
+ghost use Rattle.mvto_rules.specs.Prelude.{HaveSameMarks, IsClosedAt, closed_in};
 ghost use Rattle.mvto_rules.specs.Closings.{AreTakenBack, IsCountTakenBack, is_taken_back, with_closed};
 ghost use Rattle.mvto_rules.specs.Tables.{AreInRange};
 

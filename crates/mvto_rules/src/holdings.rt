@@ -1,9 +1,6 @@
-//! What the rules hold, to be read.
+//! What the rules hold, to be read: the versions, what is closed, the horizon, and counts.
 ghost use Rattle.std.specs.Prelude.{◌≡◌, ◌≤◌};
-ghost use Rattle.timestamps.specs.declared.ts.TheConstants.{MAX};
-ghost use Rattle.kept.specs.Lists.{IsNumberOf};
-ghost use Rattle.kept.specs.Table.{is_open};
-ghost use Rattle.closing.specs.Standing.{closed_in};
+ghost use Rattle.mvto_rules.specs.Prelude.{IsNumberOf, MAX, closed_in, is_open};
 ghost use Rattle.version_chain.specs.Stores as stores;
 
 use crate::rules::Rules;

@@ -1,7 +1,7 @@
-//! What is told without a command: versions of keys, how far timestamps have come, and whether a command is refused.
+//! What is told without a command: versions of keys, the oldest undecided transaction, how far timestamps have come,
+//! and whether a command is refused.
 ghost use Rattle.std.specs.Prelude.{◌≡◌, is_some, not};
-ghost use Rattle.kept.specs.Table.{IsOldest, refusal};
-ghost use Rattle.spans.specs.Newest.{version_at};
+ghost use Rattle.mvto_rules.specs.Prelude.{IsOldest, refusal, version_at};
 ghost use Rattle.mvto_rules.specs.Looking.{IsReachedIn, kept_value_version, value_at};
 ghost use Rattle.mvto_rules.specs.Snapshots.{snapshot_refusal};
 

@@ -2,9 +2,7 @@
 ghost use Rattle.std.specs.Prelude.{◌≡◌, ◌++◌, [], IfOk, OnErr, OnOk, None};
 ghost use Rattle.std.specs.Option.{option_copied};
 ghost use Rattle.std.specs.Map.{keys_of};
-ghost use Rattle.spans.specs.Keys.{with_value};
-ghost use Rattle.spans.proofs.Keyed.{RisingKeys};
-ghost use Rattle.version_chain.specs.Chains.{AreFilled};
+ghost use Rattle.mvto_rules.specs.Prelude.{AreFilled, RisingKeys, with_value};
 ghost use Rattle.mvto_rules.specs.Scans.{entries_of, first_blocker, keys_in};
 ghost use Rattle.mvto_rules.specs.Readings.{IsReading};
 ghost use Rattle.mvto_rules.specs.Sights.{value_in};

@@ -11,8 +11,7 @@
 ghost use Rattle.std.specs.Prelude.{◌≡◌, true};
 ghost use Rattle.std.specs.Map.{keys_of};
 ghost use Rattle.std.specs.Option.{option_copied};
-ghost use Rattle.spans.proofs.Keyed.{RisingKeys};
-ghost use Rattle.version_chain.specs.Chains.{AreFilled};
+ghost use Rattle.mvto_rules.specs.Prelude.{AreFilled, RisingKeys};
 ghost use Rattle.mvto_rules.specs.Room.{IsEnd, end_in, has_room, room_behind, stops_at};
 ghost use Rattle.mvto_rules.specs.Scans.{entries_of, keys_in};
 ghost use Rattle.mvto_rules.specs.Sights.{value_in};

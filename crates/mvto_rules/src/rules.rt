@@ -2,23 +2,10 @@
 //! `Sight::of` is the read rule, which gets and scans apply. The store judges a write by the write rule.
 ghost use Rattle.std.specs.Prelude.{◌≡◌, ◌<◌, ◌≤◌, is_some, true, Some, None, IfOk, IfErr, OnOk, OnErr};
 ghost use Rattle.std.specs.Option.{option_copied};
-ghost use Rattle.timestamps.specs.declared.ts.TheConstants.{MAX};
-ghost use Rattle.spans.specs.Effects.{After};
-ghost use Rattle.spans.specs.Legal.{is_accepted};
-ghost use Rattle.spans.specs.declared.calls.replies.Refusal.{Refusal};
-ghost use Rattle.spans.specs.declared.calls.replies.Refusal.TheVariants.{TooLate};
-ghost use Rattle.spans.specs.declared.calls.replies.Reply.TheVariants.{Found, Refused, Started, Written};
+ghost use Rattle.mvto_rules.specs.Prelude.{After, Found, IsAbortedBy, IsAlike, IsBegun, IsCommittedBy, IsNextAbove, IsNumberOf, IsReadBy, IsScanReply, IsScannedBy, IsWriteReply, IsWritten, MAX, Refusal, Refused, Started, TooLate, Written, begin_reply, closed_in, get_reply, is_accepted, refusal, seen, version_in};
 ghost use Rattle.spans.specs.declared.calls.replies.Reply.TheVariants as replies;
-ghost use Rattle.kept.specs.Answered.{IsScanReply, IsWriteReply};
 ghost use Rattle.kept.specs.Leading.{Pairs};
-ghost use Rattle.kept.specs.Changes.{IsAbortedBy, IsAlike, IsBegun, IsCommittedBy, IsReadBy, IsScannedBy, IsWritten};
-ghost use Rattle.kept.specs.Finding.{IsNextAbove, seen};
-ghost use Rattle.kept.specs.Replies.{begin_reply, get_reply};
 ghost use Rattle.kept.specs.StandsFor.{nothing_kept};
-ghost use Rattle.kept.specs.Lists.{IsNumberOf};
-ghost use Rattle.kept.specs.Table.{refusal};
-ghost use Rattle.closing.specs.Standing.{closed_in};
-ghost use Rattle.version_chain.specs.Stores.{version_in};
 ghost use Rattle.mvto_rules.specs.Accepting.{IsScanAccepted, IsWriteAccepted};
 ghost use Rattle.mvto_rules.specs.Tables.{AreInRange};
 

@@ -2,11 +2,7 @@
 ghost use Rattle.std.specs.Prelude.{ℕ, ◌≡◌, ◌<◌, ◌≤◌, IfOk, IfSome, OnErr};
 ghost use Rattle.std.specs.Map.{keys_of};
 ghost use Rattle.std.specs.Option.{option_copied};
-ghost use Rattle.spans.specs.declared.calls.commands.Cmd.TheVariants.{Protect, ReadAt, ScanAt};
-ghost use Rattle.spans.proofs.Keyed.{RisingKeys};
-ghost use Rattle.kept.specs.Answered.{IsAnswered, IsWanting};
-ghost use Rattle.closing.specs.Standing.{made_in};
-ghost use Rattle.version_chain.specs.Chains.{AreFilled};
+ghost use Rattle.mvto_rules.specs.Prelude.{AreFilled, IsAnswered, IsWanting, Protect, ReadAt, RisingKeys, ScanAt, made_in};
 ghost use Rattle.mvto_rules.specs.Scans.{entries_of, keys_in, rows_in};
 ghost use Rattle.mvto_rules.specs.Snapshots.{horizon_refusal, snapshot_refusal};
 

@@ -1,45 +1,16 @@
 -- Each answer after a history whose commands keep the limits keeps them too, and is short.
 use Rattle.std.proofs.Common.{◌≡◌, ℕ, suc, ◌+◌, ◌*◌, ◌-◌, ◌<◌, ◌≤◌, Bool, true, false, not, ◌++◌, List, [], ◌∷◌, length, map, Option, Some, None, refl, sym, subst, inl, inr, arith}
 use Rattle.std.specs.Prelude.{filter, is_some, max, nat_le, nat_lt, ◌==◌}
-use Rattle.std.specs.List.{AllByRecursion}
-use Rattle.std.proofs.lemmas.List.Elements.{recursion_from_All}
-use Rattle.timestamps.specs.declared.ts.TheConstants.{MAX}
-use Rattle.text_format.specs.declared.Format.{Format}
-use Rattle.text_format.specs.Limits.{value_limit}
-use Rattle.json_lines.specs.Messages.{IsAfter, IsMessage}
-use Rattle.spans.specs.declared.calls.commands.Cmd.{Cmd}
-use Rattle.spans.specs.declared.calls.commands.Cmd.TheVariants.{Begin, Get, Scan, Put, Del, Commit, Abort, Close, CloseHard, Protect, Release, Collect, Open, OpenInitial, OpenEvery, OpenInitialEvery, Poll, Cancel, Stats, ReadAt, ScanAt}
-use Rattle.spans.specs.declared.calls.events.Event.{Event}
-use Rattle.spans.specs.declared.calls.messages.Message.{Message}
+use Rattle.pipes.proofs.Common.{Abort, Aborted, After, AllAllowed, AllByRecursion, Begin, BelowClosed, BelowHorizon, Blocked, Cancel, Cancelled, Close, CloseHard, Closed, Cmd, Collect, Collected, Collects, Commit, Committed, Del, Effect, Ended, Event, Feed, FeedCancelled, Follows, Format, Found, GapRange, Get, IsAfter, IsCommand, IsLegal, IsMessage, IsNumber, IsPair, IsRefusal, IsReply, IsRightEvent, MAX, Message, Messages, NoFeed, NoMemory, NoProtection, NoTxn, NotClosed, NotOwner, Open, OpenEvery, OpenInitial, OpenInitialEvery, Opened, Poll, Protect, Protected, Put, ReadAt, Refused, Release, Released, Reply, Rows, Scan, ScanAt, Span, Started, Stats, TooLate, TsRange, TsUsed, Written, bytes_few, closed_of, collection_horizon, committed_value, dead_of, decided_through, due_message, each_key, effect_count, effects_of, feed_of, feeds_opened, filter_in, horizon_low, horizon_of, in_span, in_txn, is_blocked, is_cancelled, is_protected, kind_of, least_low, legal_allowed, letters, live_feeds, made_at_most, newest_is, next_messages, number_length, opened_at_most, owner_of, pairs_of, protections_made, recursion_from_All, refusal_words, reply_words, undecided_timestamps, unless_is, untold_rows, value_limit, version_of, versions_of, visible, write_count, written_keys}
 use Rattle.spans.specs.declared.calls.messages.Message.TheVariants as messages
 use Rattle.spans.specs.declared.calls.replies.Refusal.{Refusal}
-use Rattle.spans.specs.declared.calls.replies.Refusal.TheVariants.{BelowClosed, TsUsed, TsRange, Blocked, NoTxn, NotOwner, Ended, TooLate, NotClosed, BelowHorizon, NoProtection, NoFeed, FeedCancelled, NoMemory, GapRange}
-use Rattle.spans.specs.declared.calls.replies.Reply.{Reply}
-use Rattle.spans.specs.declared.calls.replies.Reply.TheVariants.{Started, Found, Rows, Written, Committed, Aborted, Closed, Protected, Released, Collected, Opened, Messages, Cancelled, Refused}
 use Rattle.spans.specs.declared.calls.replies.Reply.TheVariants as replies
 use Rattle.spans.specs.declared.kind.Kind.{Kind}
-use Rattle.spans.specs.declared.span.Span.{Span}
 use Rattle.spans.specs.Answer.{answer_of, first_refusal_or, horizon_tests, is_timestamp, opening_answer, opening_tests, snapshot_tests, transaction_tests, with_feed}
-use Rattle.spans.specs.Collection.{collection_horizon, dead_of, horizon_of, is_protected, live_feeds, protections_made, versions_of}
-use Rattle.spans.specs.Effects.{After, Collects, Effect, effects_of, kind_of}
-use Rattle.spans.specs.Feeds.{Feed, feed_of, feeds_opened, due_message, is_cancelled, next_messages, untold_rows}
-use Rattle.spans.specs.Keys.{in_span, pairs_of}
-use Rattle.spans.specs.Legal.{IsLegal, IsRightEvent}
 use Rattle.spans.specs.Reads.{too_late}
-use Rattle.spans.specs.Transactions.{closed_of, decided_through, owner_of, undecided_timestamps}
-use Rattle.spans.specs.Versions.{committed_value, is_blocked, version_of, visible, write_count, written_keys}
-use Rattle.spans.proofs.Copies.{AllAllowed}
-use Rattle.spans.proofs.Histories.{effect_count, made_at_most, opened_at_most}
-use Rattle.spans.proofs.Horizon.{horizon_low, least_low}
-use Rattle.spans.proofs.Keyed.{filter_in}
-use Rattle.spans.proofs.Legal.{Follows, each_key, in_txn, legal_allowed, unless_is}
 use Rattle.spans.proofs.Lists.{take_few}
-use Rattle.spans.proofs.Steps.{newest_is}
 use Rattle.plain_database.proofs.ClosedRange.{closed_in_range}
 use Rattle.plain_database.proofs.Counting.{dead_few, versions_few}
-use Rattle.word_lines.specs.Limits.{IsCommand, IsNumber, IsPair, IsRefusal, IsReply}
-use Rattle.word_lines.specs.Replies.{refusal_words, reply_words}
-use Rattle.word_lines.proofs.WrittenWords.{bytes_few, letters, number_length}
 use Rattle.pipes.specs.Texts.{KeepsFormat}
 use Rattle.pipes.proofs.Numbers.{collection_low, filter_few, keys_few, live_few, pairs_few, undecided_few, write_count_few}
 use Rattle.pipes.proofs.Told.{next_are}

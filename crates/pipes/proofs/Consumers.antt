@@ -1,23 +1,12 @@
 -- A consumer takes the line of the message that its feed told next.
 use Rattle.std.proofs.Common.{◌≡◌, ℕ, List, [], ◌∷◌, ◌++◌, Option, None, refl, sym, ap, subst, ◌∙◌}
-use Rattle.std.specs.List.{AllByRecursion}
-use Rattle.text_format.specs.declared.Format.TheVariants.{Two}
-use Rattle.spans.specs.declared.calls.events.Event.{Event}
-use Rattle.spans.specs.declared.calls.messages.Message.{Message}
+use Rattle.pipes.proofs.Common.{AllByRecursion, AllTaken, ApplyFault, Event, IsMessage, Message, Replica, Span, Takes, Two, apply_fault, message_at, message_line, ok_is, taken_after, test_of}
 use Rattle.spans.specs.declared.calls.messages.Message.TheVariants as messages
-use Rattle.spans.specs.declared.span.Span.{Span}
-use Rattle.spans.specs.Consumer.{AllTaken, ApplyFault, apply_fault}
-use Rattle.spans.proofs.Floors.{taken_after}
 use Rattle.json_lines.specs.declared.fault.MessageFault.{MessageFault}
 use Rattle.json_lines.specs.declared.fault.MessageFault.TheVariants as lines
-use Rattle.json_lines.specs.Messages.{IsMessage, message_line}
-use Rattle.json_lines.specs.Tests.{message_at}
-use Rattle.word_lines.proofs.ReadWords.{ok_is}
 use Rattle.replica.specs.declared.fault.Fault.{Fault}
 use Rattle.replica.specs.declared.fault.Fault.TheVariants as faults
-use Rattle.replica.specs.declared.replica.Replica.{Replica}
 use Rattle.replica.specs.Faults.{AddsValue}
-use Rattle.replica.specs.Replicas.{Takes, test_of}
 use Rattle.embedded_replica.specs.Consumers.{HasTaken, IsLineOf, IsNoMessage, IsRefused}
 use Rattle.embedded_replica.specs.declared.consumer.TakeError.{TakeError}
 use Rattle.embedded_replica.specs.declared.consumer.TakeError.TheVariants as takes

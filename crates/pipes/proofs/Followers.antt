@@ -1,35 +1,9 @@
 -- A follower of a feed takes what the history told the feed.
 use Rattle.std.proofs.Common.{◌≡◌, ℕ, ◌==◌, Bool, true, false, List, [], ◌∷◌, ◌++◌, reverse, Option, Some, None, refl, sym, ap, subst, ◌∙◌}
 use Rattle.std.specs.Prelude.{is_none}
-use Rattle.std.specs.List.{AllByRecursion, flat_map}
+use Rattle.pipes.proofs.Common.{All-append, All-from_recursion, AllByRecursion, AllTaken, Cmd, ConsumerIsRight, Effect, Event, Feed, FollowOptions, Format, IsEvent, IsLegal, IsMessage, IsReply, IsStartOf, KeepsLimit, Message, Messages, Poll, Refused, Reply, Span, Start, TooLate, append-nil, by_test, effect, effects_of, events_text, feed_of, flat_map, followed_at, followed_lines, followed_through, is_feed, lawful, lines_of, recursion_from_All, reverse-append, reverse-reverse, taken_after, told_to, transcript_text}
 use Rattle.std.proofs.lemmas.Grind.{flat_map-append}
-use Rattle.std.proofs.lemmas.List.{append-nil, reverse-append, reverse-reverse}
-use Rattle.std.proofs.lemmas.List.Elements.{All-append, All-from_recursion, recursion_from_All}
-use Rattle.text_format.specs.declared.Format.{Format}
-use Rattle.spans.specs.declared.calls.commands.Cmd.{Cmd}
-use Rattle.spans.specs.declared.calls.commands.Cmd.TheVariants.{Poll}
-use Rattle.spans.specs.declared.calls.events.Event.{Event}
-use Rattle.spans.specs.declared.calls.messages.Message.{Message}
-use Rattle.spans.specs.declared.span.Span.{Span}
-use Rattle.spans.specs.declared.calls.replies.Refusal.TheVariants.{TooLate}
-use Rattle.spans.specs.declared.calls.replies.Reply.{Reply}
-use Rattle.spans.specs.declared.calls.replies.Reply.TheVariants.{Messages, Refused}
-use Rattle.spans.specs.Consumer.{AllTaken, ConsumerIsRight}
-use Rattle.spans.specs.Effects.{Effect, effect, effects_of}
-use Rattle.spans.specs.Feeds.{Feed, feed_of, told_to}
-use Rattle.spans.specs.Legal.{IsLegal}
-use Rattle.spans.proofs.Floors.{taken_after}
-use Rattle.spans.proofs.Lawful.{lawful}
-use Rattle.spans.proofs.Steps.{by_test}
-use Rattle.json_lines.specs.Messages.{IsMessage}
-use Rattle.word_lines.specs.Limits.{IsEvent, IsReply, KeepsLimit}
-use Rattle.replica.specs.Starts.{IsStartOf, Start}
-use Rattle.script.specs.Lines.{lines_of}
-use Rattle.script.specs.Transcripts.{events_text, transcript_text}
-use Rattle.follow.specs.Chosen.{is_feed}
 use Rattle.follow.specs.Followed.{start_of as options_start}
-use Rattle.follow.specs.Following.{followed_at, followed_lines, followed_through}
-use Rattle.follow.specs.declared.options.FollowOptions.{FollowOptions}
 use Rattle.pipes.specs.Followers.{Follows, IsFollowing, TakesAll, told_in, told_lines}
 use Rattle.pipes.specs.Texts.{IsWritable}
 use Rattle.pipes.proofs.TakenLines.{AreTaken, Goes, event_goes, header_goes, messages_taken, nothing_goes, polled_of, told_of, told_where}

@@ -1,22 +1,7 @@
 -- The rows that a replica shows are read again, and a replica that begins with them goes on from it.
 use Rattle.std.proofs.Common.{◌≡◌, ℕ, List, [], ◌∷◌, Some, None, Ok, refl, sym, ap, ◌∙◌}
-use Rattle.std.specs.List.{All, AllByRecursion, flat_map}
-use Rattle.std.proofs.lemmas.List.Elements.{recursion_from_All}
-use Rattle.text_format.specs.declared.Format.TheVariants.{Two}
-use Rattle.spans.specs.declared.calls.commands.Cmd.{Cmd}
-use Rattle.spans.specs.declared.span.Span.{Span}
-use Rattle.spans.specs.Keys.{AreRows, value_among}
-use Rattle.spans.specs.Serial.{Map}
-use Rattle.spans.proofs.Keyed.{among_rows}
-use Rattle.word_lines.specs.Limits.{IsPair}
-use Rattle.word_lines.specs.Replies.{row_line}
-use Rattle.word_lines.proofs.ReadWords.{ok_is}
-use Rattle.script.specs.Lines.{lines_of}
-use Rattle.script.proofs.EventsAgain.{row_again}
-use Rattle.replica.specs.declared.replica.Replica.{Replica}
-use Rattle.replica.specs.Replicas.{view_in, span_in}
+use Rattle.pipes.proofs.Common.{All, AllByRecursion, AreRows, Cmd, IsPair, Map, Pairs, Replica, Span, Two, among_rows, flat_map, lines_of, ok_is, recursion_from_All, row_again, row_line, seeded_start, span_in, value_among, view_in}
 use Rattle.replica.specs.Rows.{AreRowsOf}
-use Rattle.replica.specs.Starts.{Pairs, seeded_start}
 use Rattle.embedded_replica.specs.Seeds.{pairs_at, pairs_of_lines, seeded_of}
 use Rattle.pipes.specs.GoingOn.{GoOnFrom, IsKept}
 

@@ -1,16 +1,7 @@
 -- A line has room for the words of each command with those of its reply.
 use Rattle.std.proofs.Common.{◌≡◌, ℕ, ◌+◌, ◌<◌, ◌≤◌, List, [], ◌∷◌, ◌++◌, length, lit<, arith}
 use Rattle.std.specs.Prelude.{codes, decimal}
-use Rattle.std.proofs.lemmas.Fmt.{length-decimal-le}
-use Rattle.text_format.specs.declared.Format.{Format}
-use Rattle.text_format.specs.Limits.{key_limit, line_limit}
-use Rattle.spans.specs.declared.calls.commands.Cmd.{Cmd}
-use Rattle.spans.specs.declared.calls.commands.Cmd.TheVariants.{Get, ReadAt, Stats}
-use Rattle.spans.specs.declared.calls.events.Event.{Event}
-use Rattle.word_lines.specs.Commands.{words_of}
-use Rattle.word_lines.specs.Limits.{IsCommand, IsNumber, KeepsLimit}
-use Rattle.word_lines.specs.Replies.{reply_words}
-use Rattle.word_lines.proofs.WrittenWords.{bytes_few, command_few, joined_few, letters, number_length, room}
+use Rattle.pipes.proofs.Common.{Cmd, Event, Format, Get, IsCommand, IsNumber, KeepsLimit, ReadAt, Stats, bytes_few, command_few, joined_few, key_limit, length-decimal-le, letters, line_limit, number_length, reply_words, room, words_of}
 use Rattle.pipes.specs.Texts.{KeepsFormat}
 use Rattle.pipes.proofs.Answers.{room_of}
 

@@ -1,22 +1,11 @@
 -- A message's line is one line, and not too long.
 use Rattle.std.proofs.Common.{◌≡◌, ℕ, ◌+◌, ◌*◌, ◌≤◌, List, [], ◌∷◌, ◌++◌, length, Option, Some, None, Ok, refl, sym, ap, ◌∙◌, append_assoc, arith}
 use Rattle.std.specs.Prelude.{codes, decimal, not, ◌==◌, replicate}
-use Rattle.std.proofs.lemmas.Bool.{ne_eqb}
-use Rattle.std.proofs.lemmas.List.{length-append, length-replicate}
+use Rattle.pipes.proofs.Common.{Format, IsAfter, IsMessage, IsNumber, Lacks, Message, after_text, base64, decimal_all, key_limit, length-append, length-replicate, lines_again, lines_of, message_line, ne_eqb, number_length, room, symbols, text_again, text_at, value_limit}
 use Rattle.std.proofs.lemmas.List.Folds.{list_all-append}
 use Rattle.base64.proofs.RoundTrip.{length-encode_symbols}
 use Rattle.base64.specs.Rfc4648.{encode_symbols, padding_len}
-use Rattle.text_format.specs.declared.Format.{Format}
-use Rattle.text_format.specs.Limits.{key_limit, value_limit}
-use Rattle.json_lines.specs.Messages.{IsAfter, IsMessage, after_text, base64, message_line, symbols}
-use Rattle.spans.specs.declared.calls.messages.Message.{Message}
 use Rattle.spans.specs.declared.calls.messages.Message.TheVariants as messages
-use Rattle.word_lines.specs.Limits.{IsNumber}
-use Rattle.word_lines.specs.Words.{text_at}
-use Rattle.word_lines.proofs.JoinedParts.{Lacks, decimal_all, text_again}
-use Rattle.word_lines.proofs.WrittenWords.{number_length, room}
-use Rattle.script.specs.Lines.{lines_of}
-use Rattle.script.proofs.CutLines.{lines_again}
 use Rattle.script.proofs.MessageLines.{base64_all}
 
 -- a message's line without its newline

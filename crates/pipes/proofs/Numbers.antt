@@ -5,12 +5,7 @@ use Rattle.std.specs.declared.cmp.Ordering.{Ordering}
 use Rattle.std.specs.declared.cmp.Ordering.TheVariants.{Less, Equal, Greater}
 use Rattle.std.proofs.lemmas.List.Sums.{length-filter, count_by-le-length}
 use Rattle.timestamps.specs.Bytes.{key_cmp}
-use Rattle.spans.specs.Collection.{LiveFeed, Protection, collection_horizon, floor_of, horizon_of, live_feeds, protections_of}
-use Rattle.spans.specs.Effects.{Begins, Cancels, Effect, Opens, Writes}
-use Rattle.spans.specs.Keys.{insert_key, insert_where, pairs_of, with_value}
-use Rattle.spans.specs.Transactions.{begun_of, closed_of, is_undecided, undecided_timestamps}
-use Rattle.spans.specs.Versions.{write_count, write_of, written_keys}
-use Rattle.spans.proofs.Horizon.{least_low}
+use Rattle.pipes.proofs.Common.{Begins, Cancels, Effect, LiveFeed, Opens, Protection, Writes, begun_of, closed_of, collection_horizon, floor_of, horizon_of, insert_key, insert_where, is_undecided, least_low, live_feeds, pairs_of, protections_of, undecided_timestamps, with_value, write_count, write_of, written_keys}
 
 -- a filter leaves no more than there was
 pub filter_few : {A : Type 0} (q : A → Bool) (xs : List A) → length (filter q xs) ≤ length xs

@@ -1,41 +1,21 @@
 -- What a run, a race and an embedded database leave is the text of one history whose commands keep the limits.
 use Rattle.std.proofs.Common.{◌≡◌, ℕ, suc, ◌+◌, ◌<◌, ◌≤◌, ◌==◌, Bool, List, [], ◌∷◌, ◌++◌, length, reverse, Result, Ok, Err, refl, sym, ap, ◌∙◌, subst, inl, inr, arith}
 use Rattle.std.specs.Prelude.{filter}
-use Rattle.std.specs.List.{All, AllByRecursion}
-use Rattle.std.proofs.lemmas.Bool.{both_ways, eq-eqb}
-use Rattle.std.proofs.lemmas.List.{append-nil, length-append, length-reverse, reverse-reverse}
-use Rattle.std.proofs.lemmas.List.Elements.{All-filter, All-from_recursion, All-map, All-weaker, recursion_from_All}
+use Rattle.pipes.proofs.Common.{All, All-filter, All-from_recursion, All-map, All-reverse, All-weaker, AllByRecursion, BeginWith, Cmd, Event, Format, Has, IsCommand, IsLegal, IsOpenAt, IsServed, One, Two, append-nil, both_ways, by_test, calls_of, eq-eqb, event_text, events_text, following_lines, gapless_begins, header, heading_text, length-append, length-reverse, lines_of, of_seat, recursion_from_All, reverse-reverse, transcript_text, turned_more}
 use mathlib.Core.Option.{some}
 use lib.ListN.{get_elem?}
-use Rattle.text_format.specs.declared.Format.{Format}
-use Rattle.text_format.specs.declared.Format.TheVariants.{One, Two}
-use Rattle.text_format.specs.Limits.{header}
-use Rattle.spans.specs.declared.calls.commands.Cmd.{Cmd}
-use Rattle.spans.specs.declared.calls.events.Event.{Event}
-use Rattle.spans.specs.Legal.{IsLegal}
-use Rattle.spans.specs.Members.{Has}
-use Rattle.spans.proofs.Histories.{turned_more}
-use Rattle.spans.proofs.ReportLimit.{All-reverse}
-use Rattle.spans.proofs.Steps.{by_test}
 use Rattle.spelled_words.specs.declared.fault.LineFault.{LineFault}
-use Rattle.word_lines.specs.Events.{event_text, heading_text}
-use Rattle.word_lines.specs.Limits.{IsCommand}
 use Rattle.word_lines.specs.Reading.{command_at}
-use Rattle.word_lines.specs.Replies.{following_lines}
 use Rattle.word_lines.specs.Table.{table}
 use Rattle.word_lines.proofs.ReadCommands.{command_found}
-use Rattle.script.specs.Lines.{lines_of}
 use Rattle.script.specs.Scripts.{IsCall, Script, onto_script, script_at, script_of_lines}
-use Rattle.script.specs.Transcripts.{events_text, transcript_text}
-use Rattle.ticket_lock.specs.Lists.{of_seat}
 use Rattle.shared_db.specs.declared.config.Config.{Config}
 use Rattle.sessions.specs.Devices.{Reads, Writes}
-use Rattle.sessions.specs.Runs.{BeginWith, EndsBy, IsOpenAt, IsServed, calls_of}
+use Rattle.sessions.specs.Runs.{EndsBy}
 use Rattle.sessions.specs.declared.ending.ServeEnd.{ServeEnd}
 use Rattle.sessions.specs.declared.ending.ServeEnd.TheVariants as run
 use Rattle.races.specs.Calls.{IsRaceOf, commands_by}
 use Rattle.races.specs.Playing.{commands_of}
-use Rattle.trace_check.proofs.TraceSteps.{gapless_begins}
 use Rattle.jobs.specs.Races.{IsRaced}
 use Rattle.embedded.specs.Embedded.{StandsFor}
 use Rattle.embedded.specs.declared.database.Database.{Database}

@@ -1,17 +1,11 @@
 -- What follows a text of which these messages are taken reports them.
 use Rattle.std.proofs.Common.{◌≡◌, ℕ, Bool, true, false, List, ◌++◌, refl, sym, ap, subst, ◌∙◌, inl, inr}
 use Rattle.std.specs.Prelude.{is_some}
-use Rattle.std.proofs.lemmas.List.{append-nil}
-use Rattle.spans.specs.declared.calls.messages.Message.{Message}
-use Rattle.sessions.specs.Runs.{MayHold}
-use Rattle.ticket_lock.specs.Lists.{StartsWith}
+use Rattle.pipes.proofs.Common.{FollowOptions, Followed, IsFollowReport, MayHold, Message, StartsWith, append-nil, followed_at, followed_through}
 use Rattle.follow.specs.declared.ending.FollowEnd.{FollowEnd}
 use Rattle.follow.specs.declared.ending.FollowEnd.TheVariants as ends
 use Rattle.follow.specs.declared.fault.FollowFault.{FollowFault}
-use Rattle.follow.specs.declared.options.FollowOptions.{FollowOptions}
 use Rattle.follow.specs.Ends.{EndsBy, IsFaultAt}
-use Rattle.follow.specs.Following.{Followed, followed_at, followed_through}
-use Rattle.follow.specs.Reports.{IsFollowReport}
 use Rattle.pipes.specs.Followers.{ReportsAll, TakesAll}
 
 module _ (o : FollowOptions) (text : List ℕ) (ms : List Message) (takes : TakesAll o text ms) where

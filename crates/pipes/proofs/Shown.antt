@@ -1,22 +1,10 @@
 -- What a follower tells of a feed is the map's.
 use Rattle.std.proofs.Common.{◌≡◌, ℕ, ◌-◌, Bool, true, false, cond, ◌&&◌, List, [], ◌∷◌, ◌++◌, Option, Some, None, refl, ap, subst, ◌∙◌}
 use Rattle.std.specs.Prelude.{is_none}
-use Rattle.timestamps.specs.declared.row.Row.{Row}
-use Rattle.spans.specs.declared.calls.events.Event.{Event}
-use Rattle.spans.specs.declared.calls.messages.Message.{Message}
+use Rattle.pipes.proofs.Common.{ConsumerIsRight, Event, Feed, FollowOptions, IsLegal, Map, Message, Row, Start, apply_fault, effects_of, lawful, map_at, put, seed_of, shown_before, span_part, start_of, told_to, view_of}
 use Rattle.spans.specs.declared.calls.messages.Message.TheVariants as messages
 use Rattle.spans.specs.Completeness.{CompleteIsRight, is_new, ready_after}
-use Rattle.spans.specs.Consumer.{ConsumerIsRight, apply_fault, seed_of, view_of}
-use Rattle.spans.specs.Effects.{effects_of}
-use Rattle.spans.specs.Feeds.{Feed, told_to}
-use Rattle.spans.specs.Legal.{IsLegal}
-use Rattle.spans.specs.Serial.{Map, map_at, put, span_part}
-use Rattle.spans.proofs.Lawful.{lawful}
-use Rattle.replica.specs.Starts.{Start}
 use Rattle.replica.proofs.Following.{view_join}
-use Rattle.follow.specs.declared.options.FollowOptions.{FollowOptions}
-use Rattle.follow.specs.Followed.{start_of}
-use Rattle.follow.specs.Reports.{shown_before}
 use Rattle.pipes.specs.Followers.{Follows, TellsMaps, rows_after}
 
 -- maps that are alike stay alike

@@ -1,41 +1,15 @@
 -- What a follower takes of the lines of events.
 use Rattle.std.proofs.Common.{◌≡◌, ℕ, ◌+◌, ◌==◌, ◌≤◌, Bool, true, false, cond, not, List, [], ◌∷◌, ◌++◌, length, Option, Some, None, Ok, refl, sym, ap, subst, ◌∙◌, append_assoc, arith}
 use Rattle.std.specs.Prelude.{codes, decimal}
-use Rattle.std.specs.List.{AllByRecursion, flat_map, list_all}
-use Rattle.std.proofs.lemmas.Bool.{ne_eqb}
-use Rattle.std.proofs.lemmas.Fmt.{decimal_nonempty}
-use Rattle.std.proofs.lemmas.List.{append-nil}
-use Rattle.text_format.specs.declared.Format.{Format}
-use Rattle.text_format.specs.declared.Format.TheVariants.{One, Two}
-use Rattle.text_format.specs.Limits.{header, key_limit, line_limit, value_limit}
-use Rattle.spans.specs.declared.calls.commands.Cmd.{Cmd}
+use Rattle.pipes.proofs.Common.{AllByRecursion, AllTaken, ApplyFault, Cmd, Event, FollowOptions, Followed, Format, IsCommand, IsEvent, IsMessage, IsNumber, IsPair, IsReply, IsWord, KeepsLimit, Lacks, Message, One, Reply, Two, append-nil, apply_fault, begins_message, bytes_few, bytes_word, chosen_at, decimal_all, decimal_nonempty, event_text, flat_map, followed_lines, followed_through, following_lines, header, heading_text, is_chosen, is_false, is_feed, is_taking_after, joined, joined_few, key_limit, line_at, line_limit, lines_again, lines_of, list_all, message_at, message_line, ne_eqb, number_word, onto_followed, polled_among, polled_by, polled_in, reply_words, room, row_line, said_by, start_of, text_again, text_at, value_limit, words_again, words_line_again, words_of, words_then}
 use Rattle.spans.specs.declared.calls.commands.Cmd.TheVariants as cmd
-use Rattle.spans.specs.declared.calls.events.Event.{Event}
-use Rattle.spans.specs.declared.calls.messages.Message.{Message}
 use Rattle.spans.specs.declared.calls.messages.Message.TheVariants as messages
-use Rattle.spans.specs.declared.calls.replies.Reply.{Reply}
 use Rattle.spans.specs.declared.calls.replies.Reply.TheVariants as reply
-use Rattle.spans.specs.Consumer.{AllTaken, ApplyFault, apply_fault}
-use Rattle.json_lines.specs.Messages.{IsMessage, message_line}
-use Rattle.json_lines.specs.Tests.{message_at}
 use Rattle.json_lines.proofs.NumberWords.{number_only}
-use Rattle.word_lines.specs.Commands.{joined, words_of}
-use Rattle.word_lines.specs.Events.{event_text, heading_text}
-use Rattle.word_lines.specs.Limits.{IsCommand, IsEvent, IsNumber, IsPair, IsReply, KeepsLimit}
-use Rattle.word_lines.specs.Replies.{following_lines, reply_words, row_line}
 use Rattle.word_lines.specs.Spelling.{spelling}
-use Rattle.word_lines.specs.Words.{text_at}
-use Rattle.word_lines.proofs.JoinedParts.{IsWord, Lacks, decimal_all, is_false, text_again, words_again}
 use Rattle.word_lines.proofs.Spellings.{both}
 use Rattle.word_lines.proofs.ReadParts.{command_words}
-use Rattle.word_lines.proofs.WrittenWords.{bytes_few, bytes_word, joined_few, number_word, room, words_then}
-use Rattle.script.specs.Lines.{lines_of}
-use Rattle.script.proofs.CutLines.{lines_again, words_line_again}
 use Rattle.script.proofs.WrittenReplies.{reply_are_words}
-use Rattle.follow.specs.declared.options.FollowOptions.{FollowOptions}
-use Rattle.follow.specs.Chosen.{begins_message, is_feed, is_taking_after, polled_among, polled_by, polled_in}
-use Rattle.follow.specs.Followed.{is_chosen, start_of}
-use Rattle.follow.specs.Following.{Followed, chosen_at, followed_lines, followed_through, line_at, onto_followed, said_by}
 use Rattle.follow.proofs.Lines.{followed_message, followed_none, followed_passed, line_message}
 use Rattle.pipes.proofs.MessageTexts.{message_first, message_kept, message_text}
 

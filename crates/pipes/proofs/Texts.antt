@@ -1,19 +1,8 @@
 -- The text of a history whose commands keep the limits is read again, and `check` says `yes` of it.
 use Rattle.std.proofs.Common.{◌≡◌, ℕ, suc, ◌+◌, ◌<◌, ◌≤◌, List, [], ◌∷◌, length, reverse, Result, Ok, Err, refl, sym, subst, arith}
-use Rattle.std.specs.List.{All, AllByRecursion}
-use Rattle.std.proofs.lemmas.List.{length-reverse, reverse-reverse}
-use Rattle.std.proofs.lemmas.List.Elements.{All-from_recursion, All-weaker, recursion_from_All}
-use Rattle.text_format.specs.declared.Format.{Format}
-use Rattle.text_format.specs.Limits.{format_of}
-use Rattle.spans.specs.declared.calls.events.Event.{Event}
-use Rattle.spans.specs.Legal.{IsGapless}
-use Rattle.spans.proofs.ReportLimit.{All-reverse}
-use Rattle.script.specs.Transcripts.{transcript_at, transcript_text}
-use Rattle.script.proofs.EventsAgain.{transcript_again}
+use Rattle.pipes.proofs.Common.{All, All-from_recursion, All-reverse, All-weaker, AllByRecursion, Event, Format, IsEvent, IsGapless, KeepsLimit, format_of, gapless_from_first, length-reverse, recursion_from_All, reverse-reverse, transcript_again, transcript_at, transcript_text, wrong_is_no_trace}
 use Rattle.script.proofs.Headers.{format_again}
 use Rattle.trace_check.specs.Traces.{IsFirstWrong, IsTrace}
-use Rattle.trace_check.proofs.TraceSteps.{gapless_from_first, wrong_is_no_trace}
-use Rattle.word_lines.specs.Limits.{IsEvent, KeepsLimit}
 use Rattle.jobs.specs.declared.ending.End.TheVariants as ends
 use Rattle.pipes.specs.Texts.{IsWritable, KeepsFormat, SaysYes}
 use Rattle.pipes.proofs.Answers.{HasReply, replies_suit}

@@ -1,25 +1,11 @@
 -- Each message that a feed tells has a text: its timestamp is in range, and its key and value were written.
 use Rattle.std.proofs.Common.{◌≡◌, ℕ, ◌≤◌, ◌<◌, Bool, true, not, List, [], ◌∷◌, ◌++◌, map, Some, None, sym, ◌∙◌, subst, inl, inr, arith}
 use Rattle.std.specs.Prelude.{is_some}
-use Rattle.std.specs.List.{All, AllByRecursion, list_any}
-use Rattle.std.proofs.lemmas.List.Elements.{All-append, All-cons, All-filter, All-map, All-nil, All-take}
-use Rattle.timestamps.specs.declared.row.Row.{Row}
-use Rattle.timestamps.specs.declared.ts.TheConstants.{MAX}
-use Rattle.text_format.specs.declared.Format.{Format}
-use Rattle.json_lines.specs.Messages.{IsAfter, IsMessage}
+use Rattle.pipes.proofs.Common.{After, All, All-append, All-cons, All-filter, All-map, All-nil, All-take, AllAllowed, AllByRecursion, Effect, Feed, Format, Has, IsAfter, IsIn, IsMessage, MAX, Row, by_test, closed_of, committed_value, due_message, feed_of, is_due, list_any, list_of, map_at_is, next_messages, resolved_of, rows_in, same_version, settled_in, told_to, untold_rows, written_keys}
 use Rattle.spans.specs.declared.calls.messages.Message.TheVariants as messages
-use Rattle.spans.specs.Effects.{After, Effect}
-use Rattle.spans.specs.Feeds.{Feed, due_message, feed_of, is_due, list_of, next_messages, resolved_of, rows_in, same_version, told_to, untold_rows}
-use Rattle.spans.specs.Members.{Has}
-use Rattle.spans.specs.Transactions.{closed_of}
-use Rattle.spans.specs.Versions.{committed_value, written_keys}
-use Rattle.spans.proofs.Copies.{AllAllowed}
 use Rattle.spans.proofs.Feeding.{due_above, feeding}
-use Rattle.spans.proofs.Keyed.{IsIn}
-use Rattle.spans.proofs.Legal.{settled_in}
 use Rattle.spans.proofs.Listing.{IsListed, IsScanned, IsSettled, in_list}
 use Rattle.spans.proofs.Members.{all_of}
-use Rattle.spans.proofs.Steps.{by_test, map_at_is}
 use Rattle.spans.proofs.StreamOrder.{IsRowIn, IsStreamed}
 use Rattle.pipes.proofs.Written.{KeepsWrite, committed_keeps, key_keeps, wrote_keeps}
 

@@ -1,24 +1,9 @@
 -- All keys and values that the database shows were written by commands, so they keep the limits that those keep.
 use Rattle.std.proofs.Common.{◌≡◌, ℕ, ◌==◌, ◌&&◌, List, [], ◌∷◌, Option, Some, None, refl, sym, subst, inl, inr}
 use Rattle.std.specs.Prelude.{bytes_eq}
-use Rattle.std.specs.List.{AllByRecursion}
-use Rattle.std.proofs.lemmas.Bool.{and_parts}
-use Rattle.text_format.specs.declared.Format.{Format}
-use Rattle.json_lines.specs.Messages.{IsAfter, IsKey}
-use Rattle.spans.specs.declared.calls.commands.Cmd.{Cmd}
-use Rattle.spans.specs.declared.calls.commands.Cmd.TheVariants.{Put, Del}
-use Rattle.spans.specs.declared.calls.events.Event.{Event}
-use Rattle.spans.specs.declared.calls.replies.Refusal.TheVariants.{TooLate}
-use Rattle.spans.specs.declared.calls.replies.Reply.{Reply}
-use Rattle.spans.specs.declared.calls.replies.Reply.TheVariants.{Written, Refused}
-use Rattle.spans.specs.Effects.{After, Effect, Writes, effect, effects_of}
-use Rattle.spans.specs.Keys.{pairs_of, with_value}
+use Rattle.pipes.proofs.Common.{After, AllByRecursion, Cmd, Del, Effect, Event, Format, IsAfter, IsCommand, IsIn, IsKey, IsPair, Put, Refused, Reply, TooLate, Writes, Written, and_parts, by_test, committed_value, committed_version_of, effect, effects_of, newest_is, only_in, pairs_of, same_key, version_of, version_wrote, visible, with_value, write_of, written_keys}
 use Rattle.spans.specs.Newest.{newest}
-use Rattle.spans.specs.Versions.{committed_value, committed_version_of, version_of, visible, write_of, written_keys}
 use Rattle.spans.proofs.Dead.{committed_is}
-use Rattle.spans.proofs.Keyed.{IsIn, only_in}
-use Rattle.spans.proofs.Steps.{by_test, newest_is, same_key, version_wrote}
-use Rattle.word_lines.specs.Limits.{IsCommand, IsPair}
 use Rattle.pipes.specs.Texts.{KeepsFormat}
 
 module _ (format : Format) where

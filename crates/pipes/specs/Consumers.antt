@@ -1,17 +1,9 @@
 -- Which consumers take the lines of a feed's polls (this project's own).
 use Rattle.std.specs.Prelude.{ℕ, List, ◌∷◌, ◌++◌, ◌≡◌, Some, reverse}
-use Rattle.text_format.specs.declared.Format.TheVariants.{Two}
-use Rattle.json_lines.specs.Messages.{message_line}
+use Rattle.pipes.specs.Prelude.{Event, Feed, Follows, IsStartOf, Message, Replica, Start, Takes, Two, effects_of, feed_of, message_line}
 use Rattle.json_lines.specs.declared.fault.MessageFault.TheVariants as lines
-use Rattle.spans.specs.declared.calls.events.Event.{Event}
-use Rattle.spans.specs.declared.calls.messages.Message.{Message}
 use Rattle.spans.specs.declared.calls.messages.Message.TheVariants as messages
-use Rattle.spans.specs.Effects.{effects_of}
-use Rattle.spans.specs.Feeds.{Feed, feed_of}
-use Rattle.replica.specs.Replicas.{Follows, Takes}
-use Rattle.replica.specs.Starts.{IsStartOf, Start}
 use Rattle.replica.specs.declared.fault.Fault.TheVariants as faults
-use Rattle.replica.specs.declared.replica.Replica.{Replica}
 use Rattle.embedded_replica.specs.Consumers.{HasTaken, IsRefused}
 use Rattle.embedded_replica.specs.declared.consumer.TakeError.{TakeError}
 use Rattle.embedded_replica.specs.declared.consumer.TakeError.TheVariants as takes

@@ -1,22 +1,13 @@
 -- Which followers follow a feed of a history, and what they are to take and to show (this project's own).
 use Rattle.std.specs.Prelude.{ℕ, List, [], ◌∷◌, ◌++◌, ◌≡◌, Some, reverse}
-use Rattle.std.specs.List.{flat_map}
-use Rattle.json_lines.specs.Messages.{message_line}
-use Rattle.spans.specs.declared.calls.events.Event.{Event}
-use Rattle.spans.specs.declared.calls.messages.Message.{Message}
+use Rattle.pipes.specs.Prelude.{Effect, Event, Feed, FollowOptions, IsStartOf, MayHold, Message, Reads, Writes, effects_of, feed_of, flat_map, message_line, told_to}
 use Rattle.spans.specs.declared.calls.messages.Message.TheVariants as messages
 use Rattle.spans.specs.Consumer.{view_of}
-use Rattle.spans.specs.Effects.{Effect, effects_of}
-use Rattle.spans.specs.Feeds.{Feed, feed_of, told_to}
 use Rattle.spans.specs.Serial.{Map, map_at, span_part}
-use Rattle.replica.specs.Starts.{IsStartOf}
 use Rattle.ticket_lock.specs.Lists.{StartsWith}
-use Rattle.sessions.specs.Devices.{Reads, Writes}
-use Rattle.sessions.specs.Runs.{MayHold}
 use Rattle.follow.specs.declared.ending.FollowEnd.{FollowEnd}
 use Rattle.follow.specs.declared.ending.FollowEnd.TheVariants as ends
 use Rattle.follow.specs.declared.fault.FollowFault.{FollowFault}
-use Rattle.follow.specs.declared.options.FollowOptions.{FollowOptions}
 use Rattle.follow.specs.Ends.{IsFollowed}
 use Rattle.follow.specs.Followed.{start_of}
 use Rattle.follow.specs.Following.{followed_at, followed_through}

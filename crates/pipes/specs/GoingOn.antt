@@ -1,18 +1,11 @@
 -- What is kept of a replica for one that goes on with its rows (this project's own).
 use Rattle.std.specs.Prelude.{ℕ, List, [], ◌≡◌, Some, Ok}
-use Rattle.std.specs.List.{All, flat_map}
-use Rattle.text_format.specs.declared.Format.TheVariants.{Two}
+use Rattle.pipes.specs.Prelude.{All, BeginsWith, Follows, IsPair, Pairs, Replica, Start, Two, flat_map, row_line, seeded_of, span_in, view_in}
 use Rattle.spans.specs.declared.calls.commands.Cmd.{Cmd}
-use Rattle.word_lines.specs.Limits.{IsPair}
 use Rattle.word_lines.specs.Reading.{command_at}
-use Rattle.word_lines.specs.Replies.{row_line}
 use Rattle.word_lines.specs.Table.{table}
-use Rattle.replica.specs.declared.replica.Replica.{Replica}
-use Rattle.replica.specs.Replicas.{Follows, view_in, span_in}
 use Rattle.replica.specs.Right.{StartsFrom}
 use Rattle.replica.specs.Rows.{AreRowsOf}
-use Rattle.replica.specs.Starts.{Pairs, Start}
-use Rattle.embedded_replica.specs.Seeds.{BeginsWith, seeded_of}
 
 -- the rows are all that the replica has, and keep the format's limits, and the line opens a feed of its span at n
 pub record IsKept (r : Replica) (n : ℕ) (line : List ℕ) (rows : Pairs) : Type 0 where

@@ -1,3 +1,4 @@
+pub mod Prelude
 pub mod Texts
 pub mod Followers
 pub mod Consumers

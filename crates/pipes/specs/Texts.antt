@@ -1,13 +1,8 @@
 -- Which histories have a text that is read again (this project's own).
 use Rattle.std.specs.Prelude.{ℕ, List, ◌+◌, ◌<◌, ◌≡◌, ◌≤◌, codes, length, true}
-use Rattle.std.specs.List.{All}
-use Rattle.text_format.specs.declared.Format.{Format}
-use Rattle.spans.specs.declared.calls.events.Event.{Event}
+use Rattle.pipes.specs.Prelude.{All, Event, Format, IsCommand, ServeEnd, transcript_text}
 use Rattle.sessions.specs.Made.{IsHistory}
-use Rattle.sessions.specs.declared.ending.ServeEnd.{ServeEnd}
 use Rattle.sessions.specs.declared.ending.ServeEnd.TheVariants as run
-use Rattle.word_lines.specs.Limits.{IsCommand}
-use Rattle.script.specs.Transcripts.{transcript_text}
 use Rattle.jobs.specs.Verdicts.{IsVerdict, is_right}
 use Rattle.jobs.specs.declared.ending.End.{End}
 

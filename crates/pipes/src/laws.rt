@@ -3,28 +3,14 @@ ghost use Rattle.std.specs.Prelude.{List, None, Ok, Some, length, reverse, ℕ, 
 ghost use Rattle.std.specs.List.{All, flat_map};
 ghost use Rattle.embedded.specs.Embedded.{StandsFor};
 ghost use Rattle.embedded.specs.declared.database.Database.{Database};
-ghost use Rattle.embedded_replica.specs.Seeds.{pairs_at};
-ghost use Rattle.follow.specs.declared.options.FollowOptions.{FollowOptions};
+ghost use Rattle.pipes.specs.Prelude.{Event, FollowOptions, Format, IsEvent, IsPair, IsServed, KeepsLimit, Message, Pairs, Reads, Replica, ServeEnd, Two, Writes, effects_of, pairs_at, row_line, transcript_at, transcript_text};
 ghost use Rattle.jobs.specs.Races.{IsRaced};
 ghost use Rattle.pipes.specs.Consumers.{ComesNext, TakesLine};
 ghost use Rattle.pipes.specs.Followers.{IsFollowing, ReportsAll, TakesAll, TellsMaps, told_in, told_lines};
 ghost use Rattle.pipes.specs.GoingOn.{GoOnFrom, IsKept};
 ghost use Rattle.pipes.specs.Texts.{EndsWhole, IsTranscript, IsWritable, KeepsFormat, SaysYes};
-ghost use Rattle.replica.specs.Starts.{Pairs};
-ghost use Rattle.replica.specs.declared.replica.Replica.{Replica};
-ghost use Rattle.script.specs.Transcripts.{transcript_at, transcript_text};
-ghost use Rattle.sessions.specs.Devices.{Reads, Writes};
-ghost use Rattle.sessions.specs.Runs.{IsServed};
-ghost use Rattle.sessions.specs.declared.ending.ServeEnd.{ServeEnd};
 ghost use Rattle.shared_db.specs.declared.config.Config.{Config};
-ghost use Rattle.spans.specs.Effects.{effects_of};
-ghost use Rattle.spans.specs.declared.calls.events.Event.{Event};
-ghost use Rattle.spans.specs.declared.calls.messages.Message.{Message};
 ghost use Rattle.text_format.specs.Limits.{format_of};
-ghost use Rattle.text_format.specs.declared.Format.TheVariants.{Two};
-ghost use Rattle.text_format.specs.declared.Format.{Format};
-ghost use Rattle.word_lines.specs.Limits.{IsEvent, IsPair, KeepsLimit};
-ghost use Rattle.word_lines.specs.Replies.{row_line};
 
 /// Each event of a history whose commands keep a format's limits has a text that keeps them too, so the text of them all is
 /// read again, in its format, as these events, and `check` says `yes`.

@@ -1,20 +1,7 @@
 -- Closed is a timestamp, or 0.
 use Rattle.std.proofs.Common.{◌≡◌, ℕ, ◌≤◌, ◌-◌, List, [], ◌∷◌, map, inl, inr, arith}
 use Rattle.std.specs.Prelude.{max, nat_lt}
-use Rattle.std.proofs.lemmas.Bool.{ltb-false}
-use Rattle.timestamps.specs.declared.ts.TheConstants.{MAX}
-use Rattle.spans.specs.declared.calls.commands.Cmd.{Cmd}
-use Rattle.spans.specs.declared.calls.commands.Cmd.TheVariants.{Close, CloseHard}
-use Rattle.spans.specs.declared.calls.replies.Reply.{Reply}
-use Rattle.spans.specs.declared.calls.replies.Reply.TheVariants.{Closed, Refused}
-use Rattle.spans.specs.declared.calls.replies.Refusal.TheVariants.{TsRange, TooLate, NoMemory}
-use Rattle.spans.specs.declared.calls.events.Event.{Event}
-use Rattle.spans.specs.Effects.{Effect, effect, effects_of, event}
-use Rattle.spans.specs.Transactions.{closed_of, decided_through, undecided_timestamps}
-use Rattle.spans.specs.Answer.{first_refusal_or}
-use Rattle.spans.specs.Legal.{IsRightEvent, IsLegal}
-use Rattle.spans.proofs.Steps.{by_test}
-use Rattle.spans.proofs.Horizon.{least_low}
+use Rattle.plain_database.proofs.Common.{Close, CloseHard, Closed, Cmd, Effect, Event, IsLegal, IsRightEvent, MAX, NoMemory, Refused, Reply, TooLate, TsRange, by_test, closed_of, decided_through, effect, effects_of, event, first_refusal_or, least_low, ltb-false, undecided_timestamps}
 
 -- what a closing through `to` answers is in range, where it isn't refused
 answered_in_range : (to at aborted at' aborted' : ℕ) → Closed at aborted ≡ first_refusal_or ((nat_lt MAX to, TsRange) ∷ []) (Closed at' aborted') → (to ≤ MAX → at' ≤ MAX) → at ≤ MAX

@@ -1,23 +1,7 @@
 -- What a database holds after a collection, and how many versions that leaves dead.
-use Rattle.std.proofs.lemmas.Grind.{common_steps}
+use Rattle.plain_database.proofs.Common.{AllAllowed, Collect, Collected, Collects, Effect, Event, IsDeathCount, IsRightEvent, NoEffect, Reply, VersionName, closed_of, collection_horizon, common_steps, dead_of, effect, effects_of, event, feeds_kept, horizon_low, horizon_of, is_between, is_delete, is_delete_between, legal_allowed, protections_kept, replaces_between, version_at, version_of}
 use Rattle.std.proofs.Common.{◌≡◌, ℕ, ◌+◌, ◌-◌, ◌^◌, ◌≤◌, ◌&&◌, List, ◌∷◌, length, refl, sym, ◌∙◌, ap, arith}
 use Rattle.std.specs.Prelude.{min}
-use Rattle.spans.specs.declared.calls.commands.Cmd.TheVariants.{Collect}
-use Rattle.spans.specs.declared.calls.replies.Reply.{Reply}
-use Rattle.spans.specs.declared.calls.replies.Reply.TheVariants.{Collected}
-use Rattle.spans.specs.declared.calls.events.Event.{Event}
-use Rattle.spans.specs.Collection.{VersionName, collection_horizon, dead_of, horizon_of, is_delete}
-use Rattle.spans.specs.Effects.{Collects, Effect, NoEffect, effect, effects_of, event}
-use Rattle.spans.specs.Legal.{IsRightEvent}
-use Rattle.spans.specs.Transactions.{closed_of}
-use Rattle.spans.specs.Versions.{version_of}
-use Rattle.spans.proofs.Copies.{AllAllowed}
-use Rattle.spans.proofs.Legal.{legal_allowed}
-use Rattle.spans.proofs.Horizon.{horizon_low}
-use Rattle.plain_versions.specs.Chains.{version_at}
-use Rattle.plain_versions.specs.Dying.{IsDeathCount, is_between, is_delete_between, replaces_between}
-use Rattle.plain_feeds.proofs.FeedTies.{feeds_kept}
-use Rattle.plain_feeds.proofs.ProtectionTies.{protections_kept}
 use Rattle.plain_database.specs.declared.database.PlainDatabase.{PlainDatabase}
 use Rattle.plain_database.specs.Tied.{IsTied, StandsFor}
 use Rattle.plain_database.proofs.Dying.{died_count, dead_rises, dead_then_is}

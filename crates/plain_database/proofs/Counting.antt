@@ -1,27 +1,9 @@
 -- The chains have as many versions as the history, and as many of each transaction.
-use Rattle.std.proofs.lemmas.Grind.{common_steps}
+use Rattle.plain_database.proofs.Common.{After, AllAllowed, Commit, Committed, Effect, Ended, Has, IsCountOf, Refusal, VersionName, Writes, and_parts, answer_of, by_test, common_steps, dead_of, eqb-true, first_refusal, fits_in, has_is, has_versions, in_has, is_aborted, is_committed, is_dead, or_parts, rising_distinct, same_key, same_length, tests_past, transaction_tests, version_at, version_name, version_of, version_wrote, versions_distinct, versions_of, write_count, write_of, write_set, write_set_length, wrote}
 use Rattle.std.proofs.Common.{◌≡◌, ℕ, ◌≤◌, ◌==◌, ◌||◌, Bool, true, false, ◌&&◌, List, [], ◌∷◌, length, Option, Some, None, refl, sym, ◌∙◌, ap, inl, inr, arith}
 use Rattle.std.specs.Prelude.{bytes_eq, is_some}
-use Rattle.std.proofs.lemmas.Bool.{eqb-true, and_parts, or_parts}
 use Rattle.std.proofs.lemmas.List.Sums.{length-filter, count_by-le-length}
-use Rattle.spans.specs.declared.calls.commands.Cmd.TheVariants.{Commit}
-use Rattle.spans.specs.declared.calls.replies.Reply.TheVariants.{Committed}
-use Rattle.spans.specs.declared.calls.replies.Refusal.{Refusal}
-use Rattle.spans.specs.declared.calls.replies.Refusal.TheVariants.{Ended}
-use Rattle.spans.specs.Answer.{answer_of, first_refusal, transaction_tests}
-use Rattle.spans.specs.Collection.{VersionName, version_name, versions_of, dead_of, is_dead}
-use Rattle.spans.specs.Effects.{After, Effect, Writes}
-use Rattle.spans.specs.Transactions.{is_aborted, is_committed}
-use Rattle.spans.specs.Versions.{version_of, write_count, write_of, write_set}
-use Rattle.spans.proofs.Copies.{AllAllowed}
-use Rattle.spans.proofs.Members.{Has, fits_in, has_is, in_has, rising_distinct, same_length}
-use Rattle.spans.proofs.Steps.{by_test, same_key, version_wrote}
-use Rattle.spans.proofs.VersionNames.{versions_distinct, has_versions}
 use Rattle.spans.proofs.WriteSets.{has, has_in, has_written as has_key, write_set_rises}
-use Rattle.spans.proofs.Refusals.{tests_past}
-use Rattle.kept.proofs.Counts.{write_set_length}
-use Rattle.plain_versions.specs.Chains.{version_at, wrote}
-use Rattle.plain_versions.specs.Counting.{IsCountOf}
 use Rattle.plain_versions.specs.Written.{is_version}
 use Rattle.plain_database.specs.declared.database.PlainDatabase.{PlainDatabase}
 use Rattle.plain_database.specs.Tied.{IsTied}

@@ -1,34 +1,8 @@
 -- What a dump writes is what the definitions say.
 use Rattle.std.proofs.Common.{◌≡◌, ℕ, suc, ◌+◌, ◌<◌, ◌≤◌, Bool, true, false, not, cond, ◌&&◌, ◌||◌, List, [], ◌∷◌, ◌++◌, length, drop, Option, Some, None, refl, sym, ◌∙◌, ap, subst, inl, inr, arith, append_assoc, get_or, zero}
-use Rattle.std.proofs.lemmas.Bool.Decides.{nat_tests}
-use Rattle.std.proofs.lemmas.List.{drop_more, take_all}
+use Rattle.plain_database.proofs.Common.{AreNextRows, AreRowsAfter, Effect, Event, Has, IsBestOf, IsLatest, IsRowIn, LentVersion, Row, Transaction, Version, all_keys, among_has, at_most, begun_among, begun_of, closed_of, closed_version, committed_version_of, drop_more, each_low, effects_of, first_low, greatest_of, has_begun, horizon_low, horizon_of, in_stream, is_committed, is_delete, is_left, legal_allowed, mark_of, nat_tests, newest, newest_same, only_rows, owner_of, stream_of, stream_rises, take_all, transaction_at, version_at, write_of}
 use Rattle.std.specs.Prelude.{filter, is_none, is_some, max, nat_le, nat_lt, ◌⊎◌}
-use Rattle.timestamps.specs.declared.row.Row.{Row}
-use Rattle.spans.specs.declared.calls.events.Event.{Event}
-use Rattle.spans.specs.Collection.{horizon_of, is_delete}
-use Rattle.spans.specs.Effects.{Effect, effects_of}
-use Rattle.spans.specs.Newest.{Version, newest}
-use Rattle.spans.specs.Streams.{stream_of}
-use Rattle.spans.specs.Transactions.{begun_of, closed_of, is_committed, owner_of}
-use Rattle.spans.specs.Versions.{committed_version_of, write_of}
-use Rattle.spans.proofs.Closed.{closed_version}
 use Rattle.spans.proofs.Dead.{committed_is}
-use Rattle.spans.proofs.Horizon.{horizon_low}
-use Rattle.spans.proofs.Legal.{legal_allowed}
-use Rattle.spans.proofs.Members.{Has, among_has, has_begun}
-use Rattle.spans.proofs.Open.{begun_among}
-use Rattle.spans.proofs.Steps.{newest_same}
-use Rattle.spans.proofs.StreamOrder.{IsRowIn, in_stream, stream_rises}
-use Rattle.kept.proofs.Untold.{only_rows}
-use Rattle.restarts.specs.Dump.{greatest_of, mark_of}
-use Rattle.restarts.specs.Rows.{all_keys, is_left}
-use Rattle.restarts.proofs.InRange.{at_most, each_low, first_low}
-use Rattle.plain_versions.specs.declared.transactions.Transaction.{Transaction}
-use Rattle.plain_versions.specs.declared.versions.LentVersion.{LentVersion}
-use Rattle.plain_versions.specs.Chains.{version_at}
-use Rattle.plain_versions.specs.Streams.{AreNextRows, AreRowsAfter}
-use Rattle.plain_versions.specs.Transactions.{IsLatest, transaction_at}
-use Rattle.plain_versions.specs.Versions.{IsBestOf}
 use Rattle.plain_versions.proofs.Newest.{best_is, place_of}
 use Rattle.plain_database.specs.declared.database.PlainDatabase.{PlainDatabase}
 use Rattle.plain_database.specs.Answering.{AfterEach}

@@ -1,24 +1,9 @@
 -- How many versions die as a collection takes the horizon further, and that nothing else changes how many are dead.
-use Rattle.std.proofs.lemmas.Grind.{common_steps}
+use Rattle.plain_database.proofs.Common.{After, AllAllowed, AreDistinct, Begins, Collects, Effect, Has, VersionName, and-false, and_from, and_parts, by_test, closed_committed, closed_of, closed_stays, closed_version, committed_version_of, common_steps, dead_of, distinct_append, distinct_filter, eqb-true, fits_in, has_append, has_filter, has_versions, horizon_low, horizon_of, is_between, is_dead, is_delete, is_delete_between, le-leb, leb-true, length-append, length-map, lt-ltb, ltb-true, nat_tests, newest, newest_same, not_both, owner_of, replaces_between, same_length, version_name, version_of, version_wrote, versions_distinct, versions_of, wrote_begun}
 use Rattle.std.proofs.Common.{◌≡◌, ℕ, ◌+◌, ◌-◌, ◌<◌, ◌≤◌, ◌⊎◌, ◌==◌, Bool, true, false, not, ◌&&◌, ◌||◌, List, [], ◌∷◌, ◌++◌, length, map, Option, Some, None, refl, sym, ◌∙◌, ap, subst, inl, inr, arith}
 use Rattle.std.specs.Prelude.{◌↔◌, filter, is_some, nat_le, nat_lt}
-use Rattle.std.proofs.lemmas.Bool.{and_from, and_parts, eqb-true, leb-true, le-leb, lt-ltb, ltb-true}
-use Rattle.std.proofs.lemmas.Bool.Decides.{nat_tests}
-use Rattle.std.proofs.lemmas.List.{length-append, length-map}
-use Rattle.std.proofs.Math.Bool.{and-false}
-use Rattle.spans.specs.Collection.{VersionName, version_name, versions_of, dead_of, is_dead, is_delete, horizon_of}
-use Rattle.spans.specs.Effects.{After, Effect, Begins, Collects}
-use Rattle.spans.specs.Newest.{Version as Seen, newest}
-use Rattle.spans.specs.Transactions.{closed_of, owner_of}
-use Rattle.spans.specs.Versions.{version_of, committed_version_of}
-use Rattle.spans.proofs.Closed.{closed_committed, closed_version, wrote_begun}
-use Rattle.spans.proofs.Copies.{AllAllowed, closed_stays, not_both}
-use Rattle.spans.proofs.Members.{Has, AreDistinct, distinct_append, distinct_filter, fits_in, has_append, has_filter, same_length}
-use Rattle.spans.proofs.Steps.{by_test, newest_same, version_wrote}
-use Rattle.spans.proofs.VersionNames.{has_versions, versions_distinct}
-use Rattle.spans.proofs.Horizon.{horizon_low}
+use Rattle.spans.specs.Newest.{Version as Seen}
 use Rattle.kept.proofs.AfterCollects.{dead_grows, removed_is}
-use Rattle.plain_versions.specs.Dying.{is_between, is_delete_between, replaces_between}
 use Rattle.plain_database.specs.Dying.{dead_then}
 use Rattle.plain_database.proofs.Replacing.{dead_by, dies, delete_dies, replaced_dies, replaces_once}
 

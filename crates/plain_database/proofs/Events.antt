@@ -1,27 +1,11 @@
 -- What a database stands for after one more event.
 use Rattle.std.proofs.Common.{◌≡◌, ℕ, Bool, true, false, List, Option, ◌∷◌, ◌==◌, None, refl, sym, subst}
 use Rattle.std.specs.Prelude.{nat_le, option_map}
-use Rattle.spans.specs.declared.calls.commands.Cmd.{Cmd}
-use Rattle.spans.specs.declared.span.Span.{Span}
-use Rattle.spans.specs.declared.calls.commands.Cmd.TheVariants.{Begin, Get, Scan, Put, Del, Commit, CloseHard, ReadAt, ScanAt}
-use Rattle.spans.specs.declared.calls.replies.Reply.{Reply}
-use Rattle.spans.specs.declared.calls.replies.Reply.TheVariants.{Started, Found, Rows, Written, Committed, Aborted, Closed, Opened, Refused}
-use Rattle.spans.specs.declared.calls.replies.Refusal.TheVariants.{TooLate}
-use Rattle.spans.specs.declared.calls.events.Event.{Event}
-use Rattle.spans.specs.declared.kind.Kind.{Kind}
-use Rattle.spans.specs.Effects.{After, Aborts, Begins, Commits, Effect, HardCloses, NoEffect, Reads, Scans, SnapshotReads, SnapshotScans, Writes, effect, effects_of, event, kind_of, open_cmd}
-use Rattle.spans.specs.Keys.{in_span}
-use Rattle.spans.specs.Versions.{visible}
-use Rattle.spans.specs.Legal.{IsRightEvent}
-use Rattle.spans.proofs.Copies.{Allowed}
-use Rattle.spans.proofs.Legal.{right_allowed, legal_allowed}
+use Rattle.plain_database.proofs.Common.{Aborted, Aborts, After, Allowed, Begin, Begins, CloseHard, Closed, Cmd, Commit, Commits, Committed, Del, Effect, Event, Found, Get, HardCloses, IsCleared, IsRightEvent, IsSetAt, IsWritten, Kind, NoEffect, Opened, Put, ReadAt, Reads, Refused, Reply, Rows, Scan, ScanAt, Scans, SnapshotReads, SnapshotScans, Span, Started, Stored, Table, TooLate, Writes, Written, begun, decided, effect, effects_of, event, hard_closed, in_span, kind_of, legal_allowed, open_cmd, right_allowed, source_at, transaction_at, visible}
 use Rattle.plain_versions.specs.declared.transactions.Decision.TheVariants as decisions
 use Rattle.plain_database.specs.declared.span_reads.Scan.{Scan as SpanRead}
 use Rattle.plain_database.specs.declared.database.PlainDatabase.{PlainDatabase}
-use Rattle.plain_versions.specs.Transactions.{Table, transaction_at, begun, decided, hard_closed, IsSetAt}
-use Rattle.plain_versions.specs.Chains.{Stored, IsWritten, IsCleared}
 use Rattle.plain_database.specs.Reads.{KeyReads, HasReadToo}
-use Rattle.plain_versions.specs.Sources.{source_at}
 use Rattle.plain_database.specs.SpanReads.{scan_of, HasScanToo}
 use Rattle.plain_database.specs.Late.{is_late}
 use Rattle.plain_database.specs.Answering.{Records}

@@ -1,36 +1,17 @@
 -- The rows that a feed was not told are those of the chains from its place on.
-use Rattle.std.proofs.lemmas.Grind.{common_steps}
+use Rattle.plain_database.proofs.Common.{After, AllAllowed, AreRowsAfter, Effect, FeedRecord, IsRowAfter, IsStreamed, IsToldIn, Row, Stored, Table, Version, VersionName, and_from, and_parts, beyond_is, by_test, closed_of, committed_at, committed_version_of, common_steps, eq-eqb, feed_of, feed_part, feeding, in_append, is_after, is_committed, le-leb, le-ltb, length-take, lt-ltb, ltb-false, ltb-true, map_at_is, newest, newest_same, only_rows, or_left, rises_append, start_at, told_to, untold_is, untold_rows, write_of}
 use Rattle.std.proofs.Common.{◌≡◌, ℕ, suc, ◌-◌, ◌<◌, ◌≤◌, ◌==◌, Bool, true, false, cond, ◌&&◌, List, ◌++◌, length, take, max, Option, Some, None, refl, sym, ◌∙◌, ap, subst, inl, inr, arith}
 use Rattle.std.specs.Prelude.{nat_lt, if◌then◌else◌}
-use Rattle.std.proofs.lemmas.Bool.{and_from, and_parts, or_left, lt-ltb, ltb-true, ltb-false, le-leb, le-ltb, eq-eqb}
-use Rattle.std.proofs.lemmas.List.{length-take}
-use Rattle.timestamps.specs.declared.row.Row.{Row}
-use Rattle.spans.specs.Collection.{VersionName}
 use Rattle.spans.specs.Consumer.{is_after_name}
-use Rattle.spans.specs.Effects.{Effect, After}
-use Rattle.spans.specs.Feeds.{feed_of, told_to, start_at, untold_rows}
 use Rattle.spans.specs.Kept.{place_with}
-use Rattle.spans.specs.Newest.{Version, newest}
 use Rattle.spans.specs.Serial.{map_at}
-use Rattle.spans.specs.Transactions.{closed_of, is_committed}
-use Rattle.spans.specs.Versions.{committed_version_of, write_of}
-use Rattle.spans.proofs.Copies.{AllAllowed}
-use Rattle.spans.proofs.Feeding.{feeding, untold_is}
 use Rattle.spans.proofs.RowOrder.{name_order}
-use Rattle.spans.proofs.Steps.{by_test, map_at_is, newest_same}
-use Rattle.spans.proofs.StreamOrder.{IsStreamed, in_append, rises_append}
 use Rattle.spans.proofs.Taking.{resolved_grows}
 use Rattle.spans.proofs.Lists.{take_both}
 use Rattle.kept.specs.Places.{is_beyond}
-use Rattle.kept.proofs.Untold.{beyond_is, only_rows}
-use Rattle.plain_feeds.specs.declared.record.FeedRecord.{FeedRecord}
 use Rattle.plain_feeds.specs.declared.told.Told.{Told}
 use Rattle.plain_feeds.specs.Places.{key_above, row_ts, tells_snapshot, told_through}
-use Rattle.plain_feeds.specs.Records.{IsToldIn, feed_part}
-use Rattle.plain_versions.specs.Chains.{Stored, committed_at}
 use Rattle.plain_versions.specs.Snapshots.{AreValueRows, is_past}
-use Rattle.plain_versions.specs.Streams.{AreRowsAfter, IsRowAfter, is_after}
-use Rattle.plain_versions.specs.Transactions.{Table}
 
 -- ---- a place, and the rows behind it
 

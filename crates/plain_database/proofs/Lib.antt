@@ -1,3 +1,4 @@
+pub mod Common
 pub mod Undecided
 pub mod SpanReads
 pub mod Ties

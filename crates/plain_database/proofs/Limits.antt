@@ -1,21 +1,9 @@
 -- The limit of a legal history is how far a collection up to closed goes.
-use Rattle.std.proofs.lemmas.Grind.{common_steps}
+use Rattle.plain_database.proofs.Common.{Effect, Event, Has, IsLegal, LiveFeed, Protection, by_test, closed_of, collection_horizon, common_steps, effects_of, feed_limit, first_least, floor_of, horizon_low, horizon_of, least_join, least_of, legal_allowed, limit, limit_of, live_feeds, ltb-false, ltb-true, map-append, protection_limit, protections_high, protections_of, reverse-append}
 use Rattle.std.proofs.Common.{◌≡◌, ℕ, ◌<◌, ◌≤◌, cond, List, [], ◌∷◌, ◌++◌, map, reverse, refl, sym, ◌∙◌, ap, arith}
 use Rattle.std.specs.Prelude.{nat_lt, min, max}
-use Rattle.std.proofs.lemmas.Bool.{ltb-true, ltb-false}
-use Rattle.std.proofs.lemmas.List.{reverse-append, map-append}
-use Rattle.spans.specs.declared.calls.events.Event.{Event}
 use Rattle.spans.specs.declared.report.Limit.{Limit}
 use Rattle.spans.specs.declared.report.Holder.TheVariants as holders
-use Rattle.spans.specs.Effects.{Effect, effects_of}
-use Rattle.spans.specs.Transactions.{closed_of, least_of}
-use Rattle.spans.specs.Collection.{Protection, LiveFeed, horizon_of, protections_of, live_feeds, floor_of, collection_horizon}
-use Rattle.spans.specs.Legal.{IsLegal}
-use Rattle.spans.specs.Report.{limit, first_least, protection_limit, feed_limit, limit_of}
-use Rattle.spans.proofs.Legal.{legal_allowed}
-use Rattle.spans.proofs.Members.{Has}
-use Rattle.spans.proofs.Steps.{by_test}
-use Rattle.spans.proofs.Horizon.{horizon_low, protections_high, least_join}
 use Rattle.spans.proofs.FeedFloors.{live_floor_high}
 
 -- a number more

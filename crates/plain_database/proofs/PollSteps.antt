@@ -1,23 +1,10 @@
 -- What a feed is told next, and what a database stands for after it was told.
 use Rattle.std.proofs.Common.{◌≡◌, ℕ, zero, suc, ◌≤◌, false, not, List, [], ◌∷◌, ◌++◌, map, take, Option, Some, refl, sym, ◌∙◌, ap, arith}
 use Rattle.std.specs.Prelude.{filter, if◌then◌else◌}
-use Rattle.std.specs.List.{list_any}
-use Rattle.std.proofs.lemmas.Bool.{le-ltb}
-use Rattle.timestamps.specs.declared.ts.TheConstants.{MAX}
-use Rattle.spans.specs.declared.calls.commands.Cmd.TheVariants.{Poll}
-use Rattle.spans.specs.declared.calls.replies.Reply.TheVariants.{Messages}
+use Rattle.plain_database.proofs.Common.{Effect, Event, Feed, FeedRecord, IsRightEvent, Kind, LeadsTo, MAX, Messages, Poll, Polls, closed_of, due_message, effects_of, event, feed_part, first_rows, is_due, le-ltb, list_any, list_of, next_messages, resolved_of, rows_in, same_version, told_to, untold_rows}
 use Rattle.spans.specs.declared.calls.messages.Message.{Message}
 use Rattle.spans.specs.declared.calls.messages.Message.TheVariants as messages
-use Rattle.spans.specs.declared.calls.events.Event.{Event}
-use Rattle.spans.specs.Effects.{Effect, Polls, effects_of, event}
-use Rattle.spans.specs.declared.kind.Kind.{Kind}
-use Rattle.spans.specs.Feeds.{Feed, first_rows, list_of, resolved_of, is_due, told_to, rows_in, same_version, due_message, untold_rows, next_messages}
-use Rattle.spans.specs.Legal.{IsRightEvent}
-use Rattle.spans.specs.Transactions.{closed_of}
 use Rattle.spans.proofs.Listing.{IsSettled, first_none}
-use Rattle.plain_feeds.specs.declared.record.FeedRecord.{FeedRecord}
-use Rattle.plain_feeds.specs.FeedTie.{LeadsTo}
-use Rattle.plain_feeds.specs.Records.{feed_part}
 use Rattle.plain_database.specs.declared.database.PlainDatabase.{PlainDatabase}
 use Rattle.plain_database.specs.Tied.{StandsFor}
 use Rattle.plain_database.proofs.ClosedRange.{closed_in_range}

@@ -3,22 +3,12 @@ use Rattle.std.proofs.Common.{rules}
 use Rattle.std.proofs.Common.{◌≡◌, ℕ, Bool, true, false, cond, ◌&&◌, ◌||◌, List, [], ◌∷◌, Some, None, refl, sym, ◌∙◌, ap, arith}
 use Rattle.std.specs.Prelude.{filter, min, nat_lt}
 use Rattle.std.specs.List.Sorted.{IsStrictlySortedBy}
-use Rattle.std.specs.Map.{lookup, keys_of}
-use Rattle.std.specs.BTreeMap.{is_at, insert_entry}
-use Rattle.std.specs.BTreeMap.Range.{range_contains}
-use Rattle.std.specs.Ordering.{nat_cmp}
-use Rattle.std.specs.declared.cmp.Ordering.{Ordering}
-use Rattle.std.specs.declared.cmp.Ordering.TheVariants.{Less, Equal, Greater}
-use Rattle.std.specs.declared.ops.Bound.TheVariants.{Excluded, Unbounded}
-use Rattle.std.proofs.lemmas.Bool.Decides.{nat_tests}
+use Rattle.plain_database.proofs.Common.{Equal, Excluded, Greater, Less, Ordering, Unbounded, by_test, insert_entry, is_at, key_cmp, keys_of, lookup, nat_cmp, nat_tests, or_assoc, range_contains, same_key}
 use Rattle.std.proofs.lemmas.Cmp.{nat_cmp_total}
 use Rattle.std.proofs.lemmas.Map.{lookup-none}
 use Rattle.std.proofs.lemmas.Map.Entries.{none_below_head}
 use Rattle.std.proofs.lemmas.Map.Keys.{sorted_tail}
 use Rattle.std.proofs.lemmas.Map.Text.{is_eq-slice_cmp}
-use Rattle.std.proofs.Math.Bool.{or_assoc}
-use Rattle.timestamps.specs.Bytes.{key_cmp}
-use Rattle.spans.proofs.Steps.{by_test, same_key}
 use Rattle.plain_database.specs.Reads.{lies_between, is_read_across, least_with, least_source, KeyReads, goes_across, HasReadToo}
 
 -- the lower of two sources lets more through than either

@@ -1,13 +1,8 @@
 -- Of the versions of a key: one replaces the newest below it, and none but the newest at or below a horizon has another above it.
-use Rattle.std.proofs.lemmas.Grind.{common_steps}
+use Rattle.plain_database.proofs.Common.{After, Version, and-false, and_from, and_parts, both_ways, by_test, common_steps, le-leb, lt-ltb, ltb-true, nat_tests, newer_or, newest, newest_is, newest_only, newest_rises, or_right}
 use Rattle.std.proofs.Common.{◌≡◌, ℕ, zero, suc, ◌-◌, ◌<◌, ◌≤◌, ◌⊎◌, Bool, true, false, ◌&&◌, ◌||◌, Option, Some, None, refl, sym, ◌∙◌, ap, subst, inl, inr, arith}
 use Rattle.std.specs.Prelude.{is_none, is_some, nat_le, nat_lt}
-use Rattle.std.proofs.lemmas.Bool.{and_from, and_parts, both_ways, le-leb, lt-ltb, ltb-true, or_right}
-use Rattle.std.proofs.lemmas.Bool.Decides.{nat_tests}
-use Rattle.std.proofs.Math.Bool.{and-false}
-use Rattle.spans.specs.Effects.{After}
-use Rattle.spans.specs.Newest.{Version, version_at, newer_or, newest}
-use Rattle.spans.proofs.Steps.{by_test, newest_is, newest_only, newest_rises}
+use Rattle.spans.specs.Newest.{version_at}
 
 -- the newest version is at or above each that is in reach
 pub newest_reaches : (f : ℕ → Option After) (t i : ℕ) → i ≤ t → is_some (f i) ≡ true → i ≤ (newest f t).ts

@@ -1,33 +1,11 @@
 -- Why a database's answers are those of the definitions.
 use Rattle.std.proofs.Common.{◌≡◌, ℕ, ◌≤◌, ◌==◌, Bool, true, false, not, ◌&&◌, ◌||◌, List, [], ◌∷◌, Option, Some, None, refl, sym, ◌∙◌, ap, arith}
 use Rattle.std.specs.Prelude.{max, nat_lt, Result, IfOk, OnErr}
-use Rattle.std.proofs.lemmas.Bool.{ne_eqb, le-ltb, ltb-false}
-use Rattle.std.proofs.lemmas.Result.{IfOk-weaker, on_err_weaker}
-use Rattle.timestamps.specs.declared.ts.TheConstants.{MAX}
-use Rattle.spans.specs.declared.calls.commands.Cmd.TheVariants.{Get, Close, CloseHard, ReadAt}
-use Rattle.spans.specs.declared.calls.commands.Cmd.{Cmd}
+use Rattle.plain_database.proofs.Common.{Blocked, Close, CloseHard, Closed, Cmd, Effect, Event, Found, Get, IfOk-weaker, IsBest, IsCountOf, IsDecidedThrough, LentVersion, MAX, NotClosed, ReadAt, Refused, Reply, answer_of, by_test, closed_of, closed_value, committed_in, committed_value, effects_of, first_refusal, is_blocked, is_committed, is_undecided_through, le-ltb, legal_allowed, ltb-false, may_lack_memory, ne_eqb, newest_like, newest_only, on_err_weaker, snapshot_tests, tests_past, transaction_at, transaction_tests, versions_at, visible}
 use Rattle.std.specs.declared.alloc.AllocError.{AllocError}
-use Rattle.spans.specs.Legal.{may_lack_memory}
-use Rattle.spans.proofs.Legal.{legal_allowed}
-use Rattle.spans.proofs.Closed.{closed_value}
 use Rattle.plain_database.proofs.Undecided.{decided_through_is, open_count_through}
-use Rattle.spans.specs.declared.calls.replies.Reply.{Reply}
-use Rattle.spans.specs.declared.calls.replies.Reply.TheVariants.{Found, Closed, Refused}
-use Rattle.spans.specs.declared.calls.replies.Refusal.TheVariants.{Blocked, NotClosed}
-use Rattle.spans.specs.declared.calls.events.Event.{Event}
-use Rattle.spans.specs.Effects.{Effect, effects_of}
-use Rattle.spans.specs.Transactions.{is_committed, closed_of}
-use Rattle.spans.specs.Versions.{visible, is_blocked, committed_value}
 use Rattle.spans.specs.Newest.{Version as Seen, version_at as seen_at}
-use Rattle.spans.specs.Answer.{first_refusal, transaction_tests, snapshot_tests, answer_of}
-use Rattle.spans.proofs.Steps.{by_test, newest_only, newest_like}
-use Rattle.spans.proofs.Refusals.{tests_past}
-use Rattle.plain_versions.specs.declared.versions.LentVersion.{LentVersion}
 use Rattle.plain_database.specs.declared.database.PlainDatabase.{PlainDatabase}
-use Rattle.plain_versions.specs.Versions.{IsBest}
-use Rattle.plain_versions.specs.Counting.{IsCountOf}
-use Rattle.plain_versions.specs.Transactions.{transaction_at, committed_in, is_undecided_through, IsDecidedThrough}
-use Rattle.plain_versions.specs.Chains.{versions_at}
 use Rattle.plain_database.specs.Tied.{StandsFor}
 use Rattle.plain_database.specs.Answering.{Accepts, Answers, AnswersCounted, MayLackMemory}
 

@@ -1,20 +1,9 @@
 -- What a database tells of a history in a report.
 use Rattle.std.proofs.Common.{◌≡◌, ℕ, ◌<◌, ◌-◌, true, false, List, [], ◌∷◌, length, map, take, Some, refl, sym, ◌∙◌, ap, arith}
 use Rattle.std.specs.Prelude.{All}
-use Rattle.std.proofs.lemmas.List.{length-take}
-use Rattle.std.proofs.lemmas.List.Elements.{All-cons, All-head, All-nil, All-tail, All-weaker}
-use Rattle.timestamps.specs.declared.row.Row.{Row}
-use Rattle.spans.specs.declared.calls.events.Event.{Event}
-use Rattle.spans.specs.declared.report.FeedReport.{FeedReport}
+use Rattle.plain_database.proofs.Common.{All-cons, All-head, All-nil, All-tail, All-weaker, AreFeeds, AreUndecided, Collects, Effect, Event, FeedReport, IsDeathCount, IsFeedReport, Row, collection_horizon, dead_of, effects_of, length-take, owner_of, removable_of, version_at, write_count}
 use Rattle.spans.specs.declared.report.TransactionReport.{TransactionReport}
-use Rattle.spans.specs.Collection.{collection_horizon, dead_of}
-use Rattle.spans.specs.Effects.{Collects, Effect, effects_of}
-use Rattle.spans.specs.Report.{AreFeeds, AreUndecided, IsFeedReport, removable_of}
-use Rattle.spans.specs.Transactions.{owner_of}
-use Rattle.spans.specs.Versions.{write_count}
 use Rattle.kept.proofs.Contained.{contains_has}
-use Rattle.plain_versions.specs.Chains.{version_at}
-use Rattle.plain_versions.specs.Dying.{IsDeathCount}
 use Rattle.plain_versions.specs.Reports.{AreOpen, IsOpenReport}
 use Rattle.plain_database.specs.declared.database.PlainDatabase.{PlainDatabase}
 use Rattle.plain_database.specs.Reports.{AreCounted, IsCounted, IsUntoldCount}

@@ -1,24 +1,9 @@
 -- In a history whose events a number can count, numbers are left and counts fit: the answers that rest on that.
-use Rattle.std.proofs.lemmas.Grind.{common_steps}
+use Rattle.plain_database.proofs.Common.{Collect, Collected, Collects, Event, IsDeathCount, IsLegal, MAX, Opened, Protect, Protected, Stats, answer_of, collection_horizon, common_steps, dead_of, effects_of, feeds_opened, first_refusal, horizon_of, horizon_tests, le-ltb, legal_allowed, live_feeds, protections_made, tests_past, undecided_timestamps, version_at, versions_of}
 use Rattle.std.proofs.Common.{◌≡◌, ℕ, suc, ◌+◌, ◌-◌, ◌^◌, ◌<◌, ◌≤◌, List, ◌∷◌, length, None, ◌∙◌, ap, arith}
 use Rattle.std.specs.Prelude.{min}
-use Rattle.std.proofs.lemmas.Bool.{le-ltb}
-use Rattle.timestamps.specs.declared.ts.TheConstants.{MAX}
-use Rattle.spans.specs.declared.calls.commands.Cmd.TheVariants.{Protect, Collect, Stats}
-use Rattle.spans.specs.declared.calls.replies.Reply.TheVariants.{Protected, Collected, Opened}
 use Rattle.spans.specs.declared.calls.replies.Reply.TheVariants as replies
-use Rattle.spans.specs.declared.calls.events.Event.{Event}
-use Rattle.spans.specs.Effects.{Collects, effects_of}
-use Rattle.spans.specs.Answer.{first_refusal, horizon_tests, answer_of}
-use Rattle.spans.specs.Collection.{versions_of, dead_of, horizon_of, protections_made, collection_horizon, live_feeds}
-use Rattle.spans.specs.Feeds.{feeds_opened}
-use Rattle.spans.specs.Legal.{IsLegal}
-use Rattle.spans.specs.Transactions.{undecided_timestamps}
-use Rattle.spans.proofs.Legal.{legal_allowed}
 use Rattle.spans.proofs.Histories.{made_at_most, opened_at_most, effect_count}
-use Rattle.spans.proofs.Refusals.{tests_past}
-use Rattle.plain_versions.specs.Chains.{version_at}
-use Rattle.plain_versions.specs.Dying.{IsDeathCount}
 use Rattle.plain_database.specs.declared.database.PlainDatabase.{PlainDatabase}
 use Rattle.plain_database.specs.Tied.{StandsFor}
 use Rattle.plain_database.proofs.Collecting.{died_between}

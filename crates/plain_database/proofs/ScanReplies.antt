@@ -1,14 +1,7 @@
 -- Why the answers to scans are those of the definitions.
-use Rattle.std.proofs.lemmas.Grind.{common_steps}
+use Rattle.plain_database.proofs.Common.{Blocked, Effect, Refused, Rows, Scan, Span, answer_of, common_steps, first_met, first_refusal, none_met, tests_past, transaction_tests}
 use Rattle.std.proofs.Common.{arith}
 use Rattle.std.proofs.Common.{◌≡◌, ℕ, List, Some, None}
-use Rattle.spans.specs.declared.span.Span.{Span}
-use Rattle.spans.specs.declared.calls.commands.Cmd.TheVariants.{Scan}
-use Rattle.spans.specs.declared.calls.replies.Reply.TheVariants.{Rows, Refused}
-use Rattle.spans.specs.declared.calls.replies.Refusal.TheVariants.{Blocked}
-use Rattle.spans.specs.Answer.{first_refusal, transaction_tests, answer_of}
-use Rattle.spans.specs.Effects.{Effect}
-use Rattle.spans.proofs.Refusals.{tests_past, none_met, first_met}
 use Rattle.plain_database.specs.Replies.{block_tests, rows_seen}
 
 -- the first test of a key that applies is the answer

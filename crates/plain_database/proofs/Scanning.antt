@@ -1,20 +1,9 @@
 -- What the chains say of a span is what the definitions say.
-use Rattle.std.proofs.lemmas.Grind.{common_steps}
+use Rattle.plain_database.proofs.Common.{AllAllowed, Blocked, Effect, Refusal, Span, committed_at, committed_value, committed_version_of, common_steps, first_refusal, in_span, is_blocked, is_committed, newest, newest_same, not_both, pairs_of, version_at, version_of, visible, write_of, written_keys}
 use Rattle.std.proofs.Common.{arith}
 use Rattle.std.proofs.Common.{◌≡◌, ℕ, ◌==◌, Bool, true, false, cond, not, ◌&&◌, List, [], ◌∷◌, map, Option, Some, None, refl, sym, ◌∙◌, ap}
 use Rattle.std.specs.Prelude.{option_map, filter}
-use Rattle.spans.specs.declared.span.Span.{Span}
-use Rattle.spans.specs.declared.calls.replies.Refusal.{Refusal}
-use Rattle.spans.specs.declared.calls.replies.Refusal.TheVariants.{Blocked}
-use Rattle.spans.specs.Answer.{first_refusal}
-use Rattle.spans.specs.Effects.{Effect}
-use Rattle.spans.specs.Keys.{in_span, pairs_of}
-use Rattle.spans.specs.Newest.{Version as Seen, newest}
-use Rattle.spans.specs.Transactions.{is_committed}
-use Rattle.spans.specs.Versions.{version_of, committed_version_of, committed_value, visible, is_blocked, written_keys, write_of}
-use Rattle.spans.proofs.Copies.{AllAllowed, not_both}
-use Rattle.spans.proofs.Steps.{newest_same}
-use Rattle.plain_versions.specs.Chains.{version_at, committed_at}
+use Rattle.spans.specs.Newest.{Version as Seen}
 use Rattle.plain_versions.specs.Scans.{is_anothers, or_else, blocker_of, first_of, first_blocker, rows_seen, rows_settled}
 use Rattle.plain_database.specs.declared.database.PlainDatabase.{PlainDatabase}
 use Rattle.plain_database.specs.Tied.{IsTied}

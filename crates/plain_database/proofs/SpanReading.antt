@@ -1,16 +1,8 @@
 -- What the scans of all readers say after one more.
 use Rattle.std.proofs.Common.{◌≡◌, ℕ, Bool, true, false, cond, ◌&&◌, ◌||◌, List, [], ◌∷◌, ◌++◌, Some, None, refl, ◌∙◌, ap}
 use Rattle.std.specs.Prelude.{filter, nat_lt}
-use Rattle.std.specs.List.{list_any}
-use Rattle.std.specs.Map.{lookup, set_value}
-use Rattle.std.specs.BTreeMap.{is_at, insert_entry}
-use Rattle.std.specs.BTreeMap.Range.{range_contains}
-use Rattle.std.specs.Ordering.{nat_cmp}
-use Rattle.std.specs.declared.cmp.Ordering.{Ordering}
-use Rattle.std.specs.declared.cmp.Ordering.TheVariants.{Less, Equal, Greater}
-use Rattle.std.specs.declared.ops.Bound.TheVariants.{Excluded, Unbounded}
+use Rattle.plain_database.proofs.Common.{Equal, Excluded, Greater, Less, Ordering, Unbounded, by_test, insert_entry, is_at, list_any, lookup, nat_cmp, range_contains, set_value}
 use Rattle.std.proofs.lemmas.List.Folds.{list_any-append}
-use Rattle.spans.proofs.Steps.{by_test}
 use Rattle.spans.proofs.Sets.{is_found}
 use Rattle.plain_database.specs.declared.span_reads.Scan.{Scan}
 use Rattle.plain_database.specs.SpanReads.{is_scan_across, scan_goes_across}

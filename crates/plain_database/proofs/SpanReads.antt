@@ -1,13 +1,8 @@
 -- What a scan was given is what the definitions say.
 use Rattle.std.proofs.Common.{◌≡◌, ℕ, true, List, ◌∙◌, ap}
-use Rattle.spans.specs.declared.span.Span.{Span}
-use Rattle.spans.specs.Effects.{Effect}
-use Rattle.spans.specs.Keys.{in_span}
+use Rattle.plain_database.proofs.Common.{AreSources, Effect, Span, in_span, newest_same, source_at, visible}
 use Rattle.spans.specs.Newest.{Version as Seen}
-use Rattle.spans.specs.Versions.{visible}
-use Rattle.spans.proofs.Steps.{newest_same}
 use Rattle.plain_database.specs.declared.database.PlainDatabase.{PlainDatabase}
-use Rattle.plain_versions.specs.Sources.{source_at, AreSources}
 use Rattle.plain_database.specs.Tied.{IsTied}
 
 -- a scan was given of each key of its span the version that its reader sees

@@ -1,34 +1,16 @@
 -- What a database holds after one more event.
-use Rattle.std.proofs.lemmas.Grind.{common_steps}
+use Rattle.plain_database.proofs.Common.{Aborts, After, AllAllowed, Begins, Cancels, Commits, Effect, FeedRecord, FeedsTied, HardCloses, IsActive, IsCleared, IsSetAt, IsWritten, NoEffect, Opens, Polls, Reads, Scans, SnapshotReads, SnapshotScans, Span, State, Stored, Table, Transaction, Writes, begun, by_test, closed_of, committed_in, common_steps, decided, eqb-true, false_from_ne_true, feeds_kept, hard_closed, in_span, is_aborted, is_aborted_state, is_committed, is_committed_state, is_undecided, is_undecided_at, ltb-false, open_above, owner_of, protections_kept, source_at, state_closed, transaction_at, visible, write_of}
 use Rattle.std.proofs.Common.{◌≡◌, ℕ, ◌<◌, ◌==◌, Bool, true, false, cond, not, ◌&&◌, ◌||◌, List, ◌∷◌, Option, Some, None, refl, sym, ◌∙◌, ap, subst, arith}
 use Rattle.std.specs.Prelude.{option_map, is_some, nat_le, nat_lt}
-use Rattle.std.proofs.lemmas.Bool.{eqb-true, false_from_ne_true, ltb-false}
-use Rattle.spans.specs.Effects.{After, Effect, Begins, Reads, Scans, Writes, Commits, Aborts, HardCloses, SnapshotReads, SnapshotScans, Opens, Polls, Cancels, NoEffect}
-use Rattle.spans.specs.Transactions.{owner_of, closed_of, is_committed, is_aborted, is_undecided}
-use Rattle.spans.specs.Versions.{visible, write_of}
-use Rattle.spans.specs.declared.span.Span.{Span}
-use Rattle.spans.specs.Keys.{in_span}
 use Rattle.spans.specs.Reads.{too_late}
-use Rattle.spans.proofs.Steps.{by_test}
-use Rattle.spans.proofs.Copies.{IsActive, AllAllowed}
-use Rattle.spans.proofs.Open.{open_above}
-use Rattle.plain_versions.specs.declared.transactions.Transaction.{Transaction}
-use Rattle.spans.specs.declared.state.State.{State}
 use Rattle.spans.specs.declared.state.State.TheVariants as states
 use Rattle.plain_database.specs.declared.database.PlainDatabase.{PlainDatabase}
 use Rattle.plain_versions.specs.declared.transactions.Decision.{Decision}
 use Rattle.plain_versions.specs.declared.transactions.Decision.TheVariants as decisions
-use Rattle.plain_versions.specs.Transactions.{Table, transaction_at, begun, decided, is_committed_state, is_aborted_state, state_closed, hard_closed, is_undecided_at, committed_in, IsSetAt}
-use Rattle.plain_versions.specs.Chains.{Stored, IsWritten, IsCleared}
 use Rattle.plain_database.specs.Reads.{KeyReads, goes_across, HasReadToo}
-use Rattle.plain_versions.specs.Sources.{source_at}
 use Rattle.plain_database.specs.declared.span_reads.Scan.{Scan}
 use Rattle.plain_database.specs.SpanReads.{scan_of, is_scan_across, scan_goes_across, HasScanToo}
 use Rattle.plain_database.specs.Tied.{owner_in, aborted_in, IsTied}
-use Rattle.plain_feeds.specs.declared.record.FeedRecord.{FeedRecord}
-use Rattle.plain_feeds.specs.FeedTie.{FeedsTied}
-use Rattle.plain_feeds.proofs.FeedTies.{feeds_kept}
-use Rattle.plain_feeds.proofs.ProtectionTies.{protections_kept}
 use Rattle.plain_database.proofs.Undecided.{open_at}
 use Rattle.plain_database.proofs.Reading.{turn}
 

@@ -1,19 +1,9 @@
 -- The undecided transactions are those of the history.
 use Rattle.std.proofs.Common.{◌≡◌, ℕ, ◌≤◌, ◌-◌, ◌⊎◌, true, not, ◌&&◌, List, [], ◌∷◌, length, map, Option, Some, None, refl, sym, ◌∙◌, inl, inr, arith}
 use Rattle.std.specs.Prelude.{filter, is_some, nat_le}
-use Rattle.std.proofs.lemmas.Bool.{and_parts, and_from}
-use Rattle.spans.specs.Effects.{Effect}
-use Rattle.spans.specs.Transactions.{is_undecided, undecided_timestamps, least_of, decided_through}
-use Rattle.spans.proofs.Copies.{AllAllowed}
-use Rattle.spans.proofs.Members.{Has, same_length, distinct_filter, has_filter, open_distinct}
-use Rattle.spans.proofs.Horizon.{least_low}
-use Rattle.kept.proofs.Counts.{has_undecided}
-use Rattle.plain_versions.specs.declared.transactions.Transaction.{Transaction}
-use Rattle.spans.specs.declared.state.State.{State}
+use Rattle.plain_database.proofs.Common.{AllAllowed, Effect, Has, IsCountOf, IsDecidedThrough, State, Transaction, and_from, and_parts, committed_in, decided_through, distinct_filter, has_filter, has_undecided, is_aborted_state, is_committed_state, is_open_state, is_undecided, is_undecided_through, least_low, least_of, open_distinct, open_in, same_length, transaction_at, undecided_timestamps}
 use Rattle.spans.specs.declared.state.State.TheVariants as states
 use Rattle.plain_database.specs.declared.database.PlainDatabase.{PlainDatabase}
-use Rattle.plain_versions.specs.Counting.{IsCountOf}
-use Rattle.plain_versions.specs.Transactions.{transaction_at, is_open_state, is_committed_state, is_aborted_state, open_in, committed_in, is_undecided_through, IsDecidedThrough}
 use Rattle.plain_database.specs.Tied.{owner_in, aborted_in, IsTied}
 use Rattle.plain_database.proofs.Limits.{least_over}
 

@@ -1,13 +1,8 @@
 -- What the contracts are said with: what holds after each history, the answer there, and what stands after one more event.
 use Rattle.std.specs.Prelude.{ℕ, List, ◌∷◌, ◌≡◌, ◌<◌, Some, length, true}
 use Rattle.spans.specs.declared.calls.commands.Cmd.{Cmd}
-use Rattle.spans.specs.declared.calls.events.Event.{Event}
+use Rattle.plain_database.specs.Prelude.{Effect, Event, Feed, IsRightEvent, Reply, answer_of, effects_of, event, feed_of, is_accepted, may_lack_memory, next_messages}
 use Rattle.spans.specs.declared.calls.messages.Message.{Message}
-use Rattle.spans.specs.declared.calls.replies.Reply.{Reply}
-use Rattle.spans.specs.Answer.{answer_of}
-use Rattle.spans.specs.Effects.{Effect, effects_of, event}
-use Rattle.spans.specs.Feeds.{Feed, feed_of, next_messages}
-use Rattle.spans.specs.Legal.{IsRightEvent, is_accepted, may_lack_memory}
 use Rattle.plain_database.specs.declared.database.PlainDatabase.{PlainDatabase}
 use Rattle.plain_database.specs.Tied.{StandsFor}
 

@@ -1,10 +1,6 @@
 -- What a dump writes, by the rows of the database.
 use Rattle.std.specs.Prelude.{ℕ, List, [], ◌∷◌, ◌≡◌, Bool, Some, filter}
-use Rattle.timestamps.specs.declared.row.Row.{Row}
-use Rattle.spans.specs.Collection.{horizon_of}
-use Rattle.spans.specs.Effects.{Effect}
-use Rattle.spans.specs.Versions.{committed_version_of}
-use Rattle.restarts.specs.Rows.{is_left, left_rows}
+use Rattle.plain_database.specs.Prelude.{Effect, Row, committed_version_of, horizon_of, is_left, left_rows}
 use Rattle.plain_database.specs.declared.database.PlainDatabase.{PlainDatabase}
 use Rattle.plain_database.specs.declared.dump.Dump.{Dump}
 use Rattle.plain_database.specs.Answering.{AfterEach}

@@ -1,7 +1,6 @@
 -- How many versions the last collection left dead. (No other event changes how many are dead.)
 use Rattle.std.specs.Prelude.{ℕ, List, [], ◌∷◌, length}
-use Rattle.spans.specs.Collection.{dead_of}
-use Rattle.spans.specs.Effects.{Effect, Collects}
+use Rattle.plain_database.specs.Prelude.{Collects, Effect, dead_of}
 
 abbrev pub dead_then : List Effect → ℕ
 dead_then [] = 0

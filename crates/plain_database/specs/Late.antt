@@ -1,8 +1,6 @@
 -- The refusal that ends a transaction.
 use Rattle.std.specs.Prelude.{Bool, true, false}
-use Rattle.spans.specs.declared.calls.replies.Reply.{Reply}
-use Rattle.spans.specs.declared.calls.replies.Reply.TheVariants.{Refused}
-use Rattle.spans.specs.declared.calls.replies.Refusal.TheVariants.{TooLate}
+use Rattle.plain_database.specs.Prelude.{Refused, Reply, TooLate}
 
 -- the reply is that refusal
 abbrev pub is_late : Reply → Bool

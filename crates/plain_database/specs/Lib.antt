@@ -1,3 +1,4 @@
+pub mod Prelude
 pub mod Reads
 pub mod SpanReads
 pub mod Dying

@@ -1,10 +1,8 @@
 -- What the reads of keys say.
 use Rattle.std.specs.Prelude.{ℕ, List, Bool, false, ◌&&◌, ◌||◌, ◌≡◌, Option, Some, None, bytes_eq, min, nat_lt}
-use Rattle.std.specs.List.{list_any}
-use Rattle.std.specs.Map.{lookup}
+use Rattle.plain_database.specs.Prelude.{key_cmp, list_any, lookup}
 use Rattle.std.specs.BTreeMap.{is_at}
 use Rattle.std.specs.Ordering.{nat_cmp}
-use Rattle.timestamps.specs.Bytes.{key_cmp}
 
 -- i is above the version k and below its reader j
 abbrev pub lies_between : ℕ → ℕ → ℕ → Bool

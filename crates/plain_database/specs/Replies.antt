@@ -1,15 +1,7 @@
 -- Parts of the answers: the tests of a scan, the rows that it finds, and the answer to a write.
 use Rattle.std.specs.Prelude.{ℕ, Bool, List, [], ◌∷◌, ◌++◌, filter, map}
-use Rattle.spans.specs.declared.span.Span.{Span}
-use Rattle.spans.specs.declared.calls.replies.Reply.{Reply}
-use Rattle.spans.specs.declared.calls.replies.Reply.TheVariants.{Written}
+use Rattle.plain_database.specs.Prelude.{Blocked, Effect, Reply, Span, TooLate, Written, committed_value, first_refusal_or, in_span, is_blocked, pairs_of, too_late, transaction_tests, visible, written_keys}
 use Rattle.spans.specs.declared.calls.replies.Refusal.{Refusal}
-use Rattle.spans.specs.declared.calls.replies.Refusal.TheVariants.{Blocked, TooLate}
-use Rattle.spans.specs.Answer.{first_refusal_or, transaction_tests}
-use Rattle.spans.specs.Effects.{Effect}
-use Rattle.spans.specs.Keys.{in_span, pairs_of}
-use Rattle.spans.specs.Reads.{too_late}
-use Rattle.spans.specs.Versions.{written_keys, visible, committed_value, is_blocked}
 
 -- the tests of a scan, key by key
 abbrev pub block_tests : List Effect → Span → ℕ → List (Bool × Refusal)

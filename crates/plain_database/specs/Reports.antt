@@ -1,11 +1,7 @@
 -- What a whole report of the feeds has beside a live one.
 use Rattle.std.specs.Prelude.{ℕ, List, ◌≡◌, Some, true, false, length}
-use Rattle.std.specs.List.{AllZip}
-use Rattle.spans.specs.declared.calls.events.Event.{Event}
+use Rattle.plain_database.specs.Prelude.{AllZip, Event, Feed, IsFeedReport, effects_of, feed_of, untold_rows}
 use Rattle.spans.specs.declared.report.FeedReport.{FeedReport}
-use Rattle.spans.specs.Effects.{effects_of}
-use Rattle.spans.specs.Feeds.{Feed, feed_of, untold_rows}
-use Rattle.spans.specs.Report.{IsFeedReport}
 use Rattle.plain_database.specs.declared.database.PlainDatabase.{PlainDatabase}
 use Rattle.plain_database.specs.Answering.{AfterEach}
 use Rattle.plain_database.specs.Tied.{StandsFor}

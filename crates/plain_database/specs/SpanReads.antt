@@ -1,8 +1,6 @@
 -- What the reads of spans say.
 use Rattle.std.specs.Prelude.{ℕ, List, Bool, ◌&&◌, ◌||◌, ◌≡◌, nat_lt}
-use Rattle.std.specs.List.{list_any}
-use Rattle.spans.specs.declared.span.Span.{Span}
-use Rattle.spans.specs.Keys.{in_span}
+use Rattle.plain_database.specs.Prelude.{Span, in_span, list_any}
 use Rattle.plain_versions.specs.Sources.{source_at}
 use Rattle.plain_database.specs.declared.span_reads.Scan.{Scan}
 

@@ -1,16 +1,10 @@
 -- The rows that a feed was not told.
 use Rattle.std.specs.Prelude.{ℕ, List, ◌≡◌, ◌≤◌, true, take, Option, Some}
-use Rattle.timestamps.specs.declared.row.Row.{Row}
-use Rattle.timestamps.specs.declared.ts.TheConstants.{MAX}
-use Rattle.spans.specs.Effects.{Effect}
-use Rattle.spans.specs.Feeds.{feed_of, told_to, untold_rows}
-use Rattle.spans.specs.Transactions.{closed_of}
-use Rattle.spans.specs.Versions.{committed_version_of}
+use Rattle.plain_database.specs.Prelude.{Effect, MAX, Row, closed_of, committed_at, committed_version_of, feed_of, told_to, untold_rows}
 use Rattle.spans.proofs.Copies.{AllAllowed}
 use Rattle.plain_feeds.specs.declared.record.FeedRecord.{FeedRecord}
 use Rattle.plain_feeds.specs.Records.{IsToldIn, feed_part}
 use Rattle.plain_feeds.specs.Places.{key_above, tells_snapshot}
-use Rattle.plain_versions.specs.Chains.{committed_at}
 use Rattle.plain_database.specs.declared.database.PlainDatabase.{PlainDatabase}
 
 -- the chains have the committed versions of p

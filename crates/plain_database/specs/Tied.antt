@@ -1,19 +1,9 @@
 -- What a database holds of a history.
 use Rattle.std.specs.Prelude.{ℕ, List, ◌≡◌, ◌-◌, ◌^◌, ◌||◌, false, option_map, Option, Some, None, Bool, min}
-use Rattle.std.specs.Map.{keys_of}
-use Rattle.spans.specs.declared.calls.events.Event.{Event}
-use Rattle.spans.specs.Effects.{Effect, effects_of}
-use Rattle.spans.specs.Transactions.{owner_of, closed_of, is_committed, is_aborted}
-use Rattle.spans.specs.Versions.{version_of, written_keys}
-use Rattle.spans.specs.Reads.{too_late}
-use Rattle.spans.specs.Collection.{horizon_of}
-use Rattle.spans.specs.Legal.{IsLegal}
-use Rattle.plain_feeds.specs.FeedTie.{FeedsTied}
+use Rattle.plain_database.specs.Prelude.{Effect, Event, FeedsTied, IsLegal, closed_of, committed_in, effects_of, has_aborted, horizon_of, is_aborted, is_committed, keys_of, owner_of, too_late, transaction_at, version_at, version_of, written_keys}
 use Rattle.plain_feeds.specs.ProtectionTie.{ProtectionsTied}
 use Rattle.plain_versions.specs.declared.transactions.Transaction.{Transaction}
 use Rattle.plain_database.specs.declared.database.PlainDatabase.{PlainDatabase}
-use Rattle.plain_versions.specs.Transactions.{transaction_at, committed_in, has_aborted}
-use Rattle.plain_versions.specs.Chains.{version_at}
 use Rattle.plain_database.specs.Dying.{dead_then}
 use Rattle.plain_database.specs.Reads.{goes_across}
 use Rattle.plain_database.specs.SpanReads.{scan_goes_across}

@@ -1,4 +1,4 @@
-//! Closings, and hard closings, which abort what is undecided.
+//! The checker's closings, and hard closings, which abort what is undecided.
 ghost use Rattle.std.specs.Prelude.{ℕ};
 ghost use Rattle.spans.specs.declared.calls.commands.Cmd.TheVariants.{Close, CloseHard};
 ghost use Rattle.plain_database.specs.Answering.{Answers, Records};

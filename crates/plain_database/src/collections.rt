@@ -1,4 +1,4 @@
-//! Collections: where the horizon goes, and how many versions that leaves dead.
+//! The checker's collections: where the horizon goes, and how many versions that leaves dead.
 ghost use Rattle.std.specs.Prelude.{ℕ};
 ghost use Rattle.spans.specs.declared.calls.commands.Cmd.TheVariants.{Collect};
 ghost use Rattle.plain_database.specs.Answering.{AnswersCounted, Records};

@@ -1,4 +1,4 @@
-//! The database: a map for each thing that a history is asked about.
+//! The checker's database: a map for each thing that a history is asked about.
 ghost use Rattle.std.specs.Prelude.{◌≡◌, IfOk, OnErr, OnOk, [], true};
 
 use crate::feeds::kind_of;

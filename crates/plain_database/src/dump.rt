@@ -1,8 +1,7 @@
-//! What a dump writes: the versions that are left, where it closes, and the horizon.
+//! What a dump writes, as the checker finds it: the versions that are left, where it closes, and the horizon.
 ghost use Rattle.std.specs.Prelude.{◌≡◌, ◌≤◌, IfOk};
-ghost use Rattle.timestamps.specs.declared.ts.TheConstants.{MAX};
+ghost use Rattle.plain_database.specs.Prelude.{MAX, left_rows};
 ghost use Rattle.restarts.specs.Dump.{mark_of};
-ghost use Rattle.restarts.specs.Rows.{left_rows};
 ghost use Rattle.plain_database.specs.Answering.{AfterEach};
 ghost use Rattle.plain_database.specs.Dumps.{AreLeftOf, IsDump, Tells};
 

@@ -1,12 +1,6 @@
-//! Feeds: openings, polls and cancels.
+//! The checker's openings, polls and cancels of feeds.
 ghost use Rattle.std.specs.Prelude.{◌≡◌, IfOk, OnErr, OnOk, suc, true, ℕ};
-ghost use Rattle.spans.specs.declared.calls.commands.Cmd.TheVariants.{Cancel, Poll};
-ghost use Rattle.spans.specs.declared.calls.replies.Reply.TheVariants.{Opened};
-ghost use Rattle.spans.specs.Answer.{is_gap, opening_answer};
-ghost use Rattle.spans.specs.Effects.{kind_of, open_cmd};
-ghost use Rattle.spans.specs.Feeds.{feeds_opened};
-ghost use Rattle.spans.specs.Legal.{is_accepted};
-ghost use Rattle.plain_feeds.specs.FeedTie.{IsOpened};
+ghost use Rattle.plain_database.specs.Prelude.{Cancel, IsOpened, Opened, Poll, feeds_opened, is_accepted, is_gap, kind_of, open_cmd, opening_answer};
 ghost use Rattle.plain_database.specs.Answering.{Accepts, AfterCounted, Answers, AreNext, Records};
 
 use crate::database::PlainDatabase;

@@ -1,11 +1,6 @@
 //! The law of limits: the limit that a report names is how far a collection goes, as the contract of one function.
 ghost use Rattle.std.specs.Prelude.{List, ◌≡◌};
-ghost use Rattle.spans.specs.declared.calls.events.Event.{Event};
-ghost use Rattle.spans.specs.Collection.{collection_horizon};
-ghost use Rattle.spans.specs.Effects.{effects_of};
-ghost use Rattle.spans.specs.Legal.{IsLegal};
-ghost use Rattle.spans.specs.Report.{limit_of};
-ghost use Rattle.spans.specs.Transactions.{closed_of};
+ghost use Rattle.plain_database.specs.Prelude.{Event, IsLegal, closed_of, collection_horizon, effects_of, limit_of};
 
 /// After a legal history a collection up to closed, or to anything above, goes to the limit: what a report names holds it, and
 /// nothing else.

@@ -1,8 +1,6 @@
-//! Protections, which hold the horizon back.
+//! The checker's answers to protections, which hold the horizon back.
 ghost use Rattle.std.specs.Prelude.{◌≡◌, OnErr, OnOk, true, ℕ};
-ghost use Rattle.spans.specs.declared.calls.commands.Cmd.TheVariants.{Protect, Release};
-ghost use Rattle.spans.specs.Answer.{first_refusal, horizon_tests};
-ghost use Rattle.spans.specs.Legal.{is_accepted};
+ghost use Rattle.plain_database.specs.Prelude.{Protect, Release, first_refusal, horizon_tests, is_accepted};
 ghost use Rattle.plain_database.specs.Answering.{AfterEach, Answers, AnswersCounted, Records};
 
 use crate::database::PlainDatabase;

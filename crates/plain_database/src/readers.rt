@@ -1,4 +1,4 @@
-//! The readers of one key.
+//! The readers of one key that the checker keeps.
 ghost use Rattle.std.specs.Prelude.{◌≡◌, ◌||◌, ℕ, [], OnOk, OnErr, min};
 ghost use Rattle.plain_database.specs.Reads.{is_read_across, lies_between, least_source};
 

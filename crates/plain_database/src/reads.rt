@@ -1,4 +1,4 @@
-//! The reads of single keys.
+//! The reads of single keys that the checker keeps.
 //!
 //! They are kept by key and by reader, so that a write asks no other key's, and of its own key those of the
 //! readers above it alone.

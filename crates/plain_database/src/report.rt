@@ -1,7 +1,6 @@
 //! What an operator may ask of the database.
 ghost use Rattle.std.specs.Prelude.{◌≡◌, IfOk};
-ghost use Rattle.spans.specs.Report.{AreFeeds, IsReport, in_whole, removable_of};
-ghost use Rattle.plain_feeds.specs.FeedTie.{IsOpened};
+ghost use Rattle.plain_database.specs.Prelude.{AreFeeds, IsOpened, IsReport, in_whole, removable_of};
 ghost use Rattle.plain_feeds.specs.Reports.{AreOpened};
 ghost use Rattle.plain_database.specs.Answering.{AfterCounted, AfterEach};
 ghost use Rattle.plain_database.specs.Reports.{AreCounted, IsCounted, IsUntoldCount};

@@ -1,9 +1,6 @@
-//! Scans in a transaction.
+//! The checker's scans in a transaction.
 ghost use Rattle.std.specs.Prelude.{◌≡◌, IfOk, OnErr, OnOk, option_map, true, ℕ};
-ghost use Rattle.spans.specs.declared.calls.commands.Cmd.TheVariants.{Scan};
-ghost use Rattle.spans.specs.declared.calls.replies.Refusal.TheVariants.{Blocked};
-ghost use Rattle.spans.specs.Answer.{first_refusal};
-ghost use Rattle.spans.specs.Legal.{is_accepted};
+ghost use Rattle.plain_database.specs.Prelude.{Blocked, Scan, first_refusal, is_accepted};
 ghost use Rattle.plain_database.specs.Answering.{Accepts, AfterEach, Answers, Records};
 ghost use Rattle.plain_database.specs.Replies.{block_tests, rows_seen};
 

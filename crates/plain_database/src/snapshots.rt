@@ -1,7 +1,6 @@
 //! Reads at a closed timestamp, of a key and of a span. They change nothing, so there is nothing to record.
 ghost use Rattle.std.specs.Prelude.{◌≡◌, IfOk, OnErr, ℕ};
-ghost use Rattle.spans.specs.declared.calls.commands.Cmd.TheVariants.{ReadAt, ScanAt};
-ghost use Rattle.spans.specs.Answer.{first_refusal, snapshot_tests};
+ghost use Rattle.plain_database.specs.Prelude.{ReadAt, ScanAt, first_refusal, snapshot_tests};
 ghost use Rattle.plain_database.specs.Answering.{Accepts, AfterEach, Answers};
 ghost use Rattle.plain_database.specs.Replies.{rows_committed};
 

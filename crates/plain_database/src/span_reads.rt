@@ -1,4 +1,4 @@
-//! The reads of spans.
+//! The reads of spans that the checker keeps.
 //!
 //! A scan reads every key of its span, also a key that no one has written yet. A write of such a key below
 //! the scan would change what the scan has seen. They are kept by reader: a write asks those of the readers

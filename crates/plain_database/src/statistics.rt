@@ -1,8 +1,6 @@
-//! Statistics: how many transactions are undecided, and how many versions there are and are dead.
+//! The checker's statistics: how many transactions are undecided, and how many versions there are and are dead.
 ghost use Rattle.std.specs.Prelude.{◌≡◌, ◌-◌, length, ℕ};
-ghost use Rattle.spans.specs.declared.calls.commands.Cmd.TheVariants.{Stats};
-ghost use Rattle.spans.specs.Collection.{dead_of, versions_of};
-ghost use Rattle.spans.specs.Transactions.{undecided_timestamps};
+ghost use Rattle.plain_database.specs.Prelude.{Stats, dead_of, undecided_timestamps, versions_of};
 ghost use Rattle.plain_database.specs.Answering.{AfterCounted, AfterEach, AnswersCounted};
 
 use crate::database::PlainDatabase;

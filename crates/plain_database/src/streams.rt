@@ -1,4 +1,4 @@
-//! The rows that a feed was not told, from its place on.
+//! The rows that a feed was not told, from its place on, with those of its snapshot first: the checker's.
 ghost use Rattle.std.specs.Prelude.{◌≤◌, length, IfOk};
 ghost use Rattle.std.specs.Option.{option_copied};
 ghost use Rattle.timestamps.specs.declared.ts.TheConstants.{MAX};

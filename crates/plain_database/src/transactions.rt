@@ -1,11 +1,6 @@
-//! Transactions: begin, get, put, del, commit and abort. A command's answer stands beside its record.
+//! The checker's begin, get, put, del, commit and abort. A command's answer stands beside its record.
 ghost use Rattle.std.specs.Prelude.{◌==◌, ◌||◌, ◌≡◌, IfOk, OnErr, OnOk, option_map, true, ℕ};
-ghost use Rattle.spans.specs.declared.calls.commands.Cmd.TheVariants.{Abort, Begin, Commit, Del, Get, Put};
-ghost use Rattle.spans.specs.Answer.{first_refusal, transaction_tests};
-ghost use Rattle.spans.specs.Legal.{is_accepted};
-ghost use Rattle.spans.specs.Versions.{visible};
-ghost use Rattle.plain_versions.specs.Chains.{IsCleared};
-ghost use Rattle.plain_versions.specs.Transactions.{committed_in, decided, transaction_at, IsSetAt};
+ghost use Rattle.plain_database.specs.Prelude.{Abort, Begin, Commit, Del, Get, IsCleared, IsSetAt, Put, committed_in, decided, first_refusal, is_accepted, transaction_at, transaction_tests, visible};
 ghost use Rattle.plain_versions.specs.declared.transactions.Decision.TheVariants as decisions;
 ghost use Rattle.plain_database.specs.Answering.{Accepts, AfterEach, Answers, Records};
 ghost use Rattle.plain_database.specs.Late.{is_late};

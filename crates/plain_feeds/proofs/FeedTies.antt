@@ -1,18 +1,8 @@
 -- The tie of a book of feeds is kept: by each call, and by every effect of no feed.
-use Rattle.std.proofs.lemmas.Grind.{common_steps}
+use Rattle.plain_feeds.proofs.Common.{Cancels, Effect, Feed, Message, Opens, Polls, Row, by_test, closed_of, common_steps, eqb-true, feed_of, floor_after, floor_from, floor_of, length_push, live_feeds, next_messages, told_to, untold_rows}
 use Rattle.std.proofs.Common.{◌≡◌, ℕ, zero, suc, ◌+◌, ◌<◌, ◌==◌, true, List, [], ◌∷◌, ◌++◌, map, length, take, max, Option, Some, None, refl, sym, ◌∙◌, ap, subst, arith}
 use Rattle.std.specs.Prelude.{slice_get, option_map, count_by}
-use Rattle.std.proofs.lemmas.List.{length_push}
-use Rattle.std.proofs.lemmas.Bool.{eqb-true}
-use Rattle.spans.specs.declared.calls.messages.Message.{Message}
-use Rattle.spans.specs.Effects.{Effect, Opens, Polls, Cancels}
-use Rattle.spans.specs.Transactions.{closed_of}
-use Rattle.spans.specs.Feeds.{Feed, feed_of, told_to, untold_rows, next_messages}
-use Rattle.spans.specs.Collection.{floor_after, floor_of, live_feeds}
 use Rattle.spans.proofs.Listing.{start_low}
-use Rattle.spans.proofs.Steps.{by_test}
-use Rattle.spans.proofs.FeedFloors.{floor_from}
-use Rattle.timestamps.specs.declared.row.Row.{Row}
 use Rattle.plain_feeds.specs.declared.record.FeedRecord.{FeedRecord}
 use Rattle.plain_feeds.specs.Records.{telling, cancelled, changed_at, record_at, feed_part, fresh_told, told_more, IsToldIn, is_live, is_cancelled_in, floor_in, floors_in, next_in}
 use Rattle.plain_feeds.specs.FeedTie.{FeedsTied, IsOfNoFeed}

@@ -1,3 +1,4 @@
+pub mod Common
 pub mod RecordLists
 pub mod Telling
 pub mod FeedTies

@@ -1,15 +1,8 @@
 -- The tie of the protections is kept: by each call, and by every effect of no protection.
-use Rattle.std.proofs.lemmas.Grind.{common_steps}
+use Rattle.plain_feeds.proofs.Common.{Effect, Protects, Releases, at_drop_more, common_steps, is_protected, least_join, least_of, list_any, map-append, protection_report, protections_of}
 use Rattle.std.proofs.Common.{◌≡◌, ◌<◌, ◌+◌, ℕ, suc, length, drop, get_or, ◌==◌, not, List, [], ◌∷◌, ◌++◌, map, reverse, refl, sym, ◌∙◌, ap, arith}
 use Rattle.std.specs.Prelude.{filter, min}
-use Rattle.std.specs.List.{list_any}
-use Rattle.std.proofs.lemmas.List.{map-append, at_drop_more}
-use Rattle.spans.specs.Effects.{Effect, Protects, Releases}
-use Rattle.spans.specs.Transactions.{least_of}
 use Rattle.spans.specs.Collection as collection
-use Rattle.spans.specs.Collection.{protections_of, is_protected}
-use Rattle.spans.specs.Report.{protection_report}
-use Rattle.spans.proofs.Horizon.{least_join}
 use Rattle.plain_feeds.specs.declared.protections.Protection.{Protection}
 use Rattle.plain_feeds.specs.Reports.{standing_report}
 use Rattle.plain_feeds.specs.ProtectionTie.{Standing, protection, released, newest_first, ProtectionsTied, IsOfNoProtection}

@@ -1,19 +1,8 @@
 -- Lists of feed records: one more at the end, and one of them changed.
-use Rattle.std.proofs.lemmas.Grind.{common_steps}
+use Rattle.plain_feeds.proofs.Common.{Effect, LiveFeed, Message, append-nil, at_drop_more, by_test, common_steps, eq-eqb, eqb-false, eqb-true, filter-append, floor_after, floor_of, least_join, least_of, map-append, ne_eqb, slice_get_past, told_to}
 use Rattle.std.proofs.Common.{◌≡◌, ◌≢◌, ℕ, zero, suc, ◌+◌, drop, ◌<◌, ◌==◌, true, false, not, cond, List, [], ◌∷◌, ◌++◌, map, length, get_or, set, Some, None, refl, sym, ◌∙◌, ap, arith, add-zero, max}
 use Rattle.std.specs.Prelude.{filter, min, count_by, slice_get, option_map}
-use Rattle.std.proofs.lemmas.List.{append-nil, map-append, at_drop_more}
-use Rattle.std.proofs.lemmas.List.Elements.{filter-append}
 use Rattle.std.proofs.lemmas.List.Recursion.{is_count_by}
-use Rattle.std.proofs.lemmas.Option.{slice_get_past}
-use Rattle.std.proofs.lemmas.Bool.{eq-eqb, eqb-true, ne_eqb, eqb-false}
-use Rattle.spans.specs.declared.calls.messages.Message.{Message}
-use Rattle.spans.specs.Effects.{Effect}
-use Rattle.spans.specs.Transactions.{least_of}
-use Rattle.spans.specs.Feeds.{told_to}
-use Rattle.spans.specs.Collection.{LiveFeed, floor_after, floor_of}
-use Rattle.spans.proofs.Steps.{by_test}
-use Rattle.spans.proofs.Horizon.{least_join}
 use Rattle.plain_feeds.specs.declared.record.FeedRecord.{FeedRecord}
 use Rattle.plain_feeds.specs.Records.{telling, cancelled, changed_at, record_at, is_live, live_one, live_in, floor_in, floor_one, floors_in}
 

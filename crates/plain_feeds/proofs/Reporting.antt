@@ -1,15 +1,8 @@
 -- What is told of the records of feeds is the report of the feeds that live.
-use Rattle.std.proofs.lemmas.Grind.{common_steps}
+use Rattle.plain_feeds.proofs.Common.{All-append, All-cons, All-nil, AreFeeds, Effect, IsFeedReport, LiveFeed, append-nil, by_test, common_steps, length-take-le, map-append, reverse-append, slice_get_within, take_more}
 use Rattle.std.proofs.Common.{◌≡◌, ◌<◌, ℕ, suc, ◌+◌, true, false, List, [], ◌∷◌, ◌++◌, map, reverse, length, take, get_or, Some, refl, sym, ◌∙◌, ap, subst, arith, add-zero}
 use Rattle.std.specs.Prelude.{All, slice_get}
-use Rattle.std.proofs.lemmas.List.{append-nil, length-take-le, map-append, reverse-append, take_more}
-use Rattle.std.proofs.lemmas.List.Elements.{All-append, All-cons, All-nil}
-use Rattle.std.proofs.lemmas.Option.{slice_get_within}
 use Rattle.spans.specs.declared.report.FeedReport.{FeedReport}
-use Rattle.spans.specs.Collection.{LiveFeed}
-use Rattle.spans.specs.Effects.{Effect}
-use Rattle.spans.specs.Report.{AreFeeds, IsFeedReport}
-use Rattle.spans.proofs.Steps.{by_test}
 use Rattle.plain_feeds.specs.declared.record.FeedRecord.{FeedRecord}
 use Rattle.plain_feeds.specs.Records.{is_live, live_in, live_one, record_at}
 use Rattle.plain_feeds.specs.FeedTie.{FeedsTied, IsOpened}

@@ -1,20 +1,9 @@
 -- What a feed is told next, and what its last message says.
-use Rattle.std.proofs.lemmas.Grind.{common_steps}
+use Rattle.plain_feeds.proofs.Common.{Effect, Feed, Message, Row, VersionName, closed_of, common_steps, due_message, floor_after, floor_append, is_due, last_name, last_resolved, last_told, name_of, next_messages, start_of, take_more, told_to, untold_rows}
 use Rattle.std.proofs.Common.{◌≡◌, ℕ, zero, suc, ◌+◌, ◌-◌, ◌<◌, ◌≤◌, List, [], ◌∷◌, ◌++◌, map, length, take, get_or, max, Option, Some, None, refl, sym, ◌∙◌, ap, arith}
 use Rattle.std.specs.Prelude.{slice_get, if◌then◌else◌}
-use Rattle.std.proofs.lemmas.List.{take_more}
-use Rattle.timestamps.specs.declared.row.Row.{Row}
-use Rattle.spans.specs.declared.calls.messages.Message.{Message}
 use Rattle.spans.specs.declared.calls.messages.Message.TheVariants as messages
-use Rattle.spans.specs.Effects.{Effect}
-use Rattle.spans.specs.Transactions.{closed_of}
-use Rattle.spans.specs.Feeds.{Feed, told_to, last_resolved, start_of, is_due, due_message, untold_rows, next_messages}
-use Rattle.spans.specs.Collection.{VersionName, floor_after}
-use Rattle.spans.specs.Consumer.{name_of}
-use Rattle.spans.specs.Kept.{last_name}
-use Rattle.spans.specs.Report.{last_told}
 use Rattle.spans.proofs.Feeding.{last_join, resolved_join}
-use Rattle.spans.proofs.FeedFloors.{floor_append}
 use Rattle.plain_feeds.specs.declared.told.Told.{Told}
 use Rattle.plain_feeds.specs.declared.record.FeedRecord.{FeedRecord}
 use Rattle.plain_feeds.specs.Records.{due_at, due_in, feed_part, next_in, told_more, IsToldIn}

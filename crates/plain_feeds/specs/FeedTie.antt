@@ -2,12 +2,7 @@
 use Rattle.std.specs.Prelude.{ℕ, List, [], ◌∷◌, ◌≡◌, ◌≤◌, length, take, not, ◌==◌, Option, Some, None, option_map, is_some}
 use Rattle.spans.specs.declared.calls.replies.Refusal.{Refusal}
 use Rattle.spans.specs.declared.calls.replies.Refusal.TheVariants.{NoFeed, FeedCancelled, NotOwner}
-use Rattle.timestamps.specs.declared.row.Row.{Row}
-use Rattle.spans.specs.declared.calls.messages.Message.{Message}
-use Rattle.spans.specs.Effects.{Effect, Opens, Polls, Cancels}
-use Rattle.spans.specs.Transactions.{closed_of}
-use Rattle.spans.specs.Feeds.{Feed, feed_of, feeds_opened, is_cancelled, next_messages, told_to, untold_rows}
-use Rattle.spans.specs.Collection.{live_feeds}
+use Rattle.plain_feeds.specs.Prelude.{Cancels, Effect, Feed, Message, Opens, Polls, Row, closed_of, feed_of, feeds_opened, is_cancelled, live_feeds, next_messages, told_to, untold_rows}
 use Rattle.spans.specs.Answer.{first_refusal}
 use Rattle.plain_feeds.specs.declared.record.FeedRecord.{FeedRecord}
 use Rattle.plain_feeds.specs.Records.{record_at, feed_part, IsToldIn, is_cancelled_in, live_in}

@@ -1,8 +1,6 @@
 -- The horizon that a collection reaches, as the feeds and the protections say it.
 use Rattle.std.specs.Prelude.{ℕ, List, ◌≡◌}
-use Rattle.spans.specs.Effects.{Effect}
-use Rattle.spans.specs.Transactions.{closed_of}
-use Rattle.spans.specs.Collection.{horizon_of, collection_horizon}
+use Rattle.plain_feeds.specs.Prelude.{Effect, closed_of, collection_horizon, horizon_of}
 use Rattle.plain_feeds.specs.declared.record.FeedRecord.{FeedRecord}
 use Rattle.plain_feeds.specs.FeedTie.{FeedsTied}
 use Rattle.plain_feeds.specs.ProtectionTie.{ProtectionsTied, Standing}

@@ -1,3 +1,4 @@
+pub mod Prelude
 pub mod Records
 pub mod Places
 pub mod FeedTie

@@ -1,8 +1,7 @@
 -- How the protections that are kept are tied to the effects of a history.
 use Rattle.std.specs.Prelude.{ℕ, List, [], ◌∷◌, ◌++◌, ◌≡◌, filter, map, not, ◌==◌}
-use Rattle.spans.specs.Effects.{Effect, Protects, Releases}
+use Rattle.plain_feeds.specs.Prelude.{Effect, Protects, Releases, protections_made, protections_of}
 use Rattle.spans.specs.Collection as collection
-use Rattle.spans.specs.Collection.{protections_made, protections_of}
 use Rattle.plain_feeds.specs.declared.protections.Protection.{Protection}
 
 -- what is kept: how many protections were made, and those that stand, the oldest first

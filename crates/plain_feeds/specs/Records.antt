@@ -1,14 +1,9 @@
 -- What a list of feed records says: feed n is the record at place n - 1.
 use Rattle.std.specs.Prelude.{ℕ, zero, suc, ◌≡◌, List, [], ◌∷◌, ◌++◌, map, take, max, Bool, true, false, if◌then◌else◌, Option, Some, None, slice_get}
-use Rattle.timestamps.specs.declared.row.Row.{Row}
+use Rattle.plain_feeds.specs.Prelude.{Feed, LiveFeed, Message, Row, floor_after, is_due, last_name, last_resolved, last_told, start_at}
 use Rattle.spans.specs.declared.kind.Kind.{Kind}
 use Rattle.spans.specs.declared.span.Span.{Span}
-use Rattle.spans.specs.declared.calls.messages.Message.{Message}
 use Rattle.spans.specs.declared.calls.messages.Message.TheVariants as messages
-use Rattle.spans.specs.Feeds.{Feed, last_resolved, start_at, is_due}
-use Rattle.spans.specs.Collection.{LiveFeed, floor_after}
-use Rattle.spans.specs.Kept.{last_name}
-use Rattle.spans.specs.Report.{last_told}
 use Rattle.plain_feeds.specs.declared.record.FeedRecord.{FeedRecord}
 use Rattle.plain_feeds.specs.declared.told.Told.{Told}
 use Rattle.plain_feeds.specs.declared.record.FeedState.{FeedState}

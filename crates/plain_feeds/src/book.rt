@@ -1,12 +1,7 @@
-//! The book of all feeds that were opened.
+//! The checker's book of all feeds that were opened.
 ghost use Rattle.std.specs.Prelude.{◌≡◌, ◌<◌, ◌≤◌, [], ℕ, suc, map, length, count_by, Some, IfOk, IfErr, OnOk, OnErr, IfNone, true, false, vec_len};
 ghost use Rattle.std.specs.Option.{option_copied};
-ghost use Rattle.timestamps.specs.declared.ts.TheConstants.{MAX};
-ghost use Rattle.spans.specs.Effects.{Opens, Cancels, Polls};
-ghost use Rattle.spans.specs.Transactions.{least_of};
-ghost use Rattle.spans.specs.Feeds.{feed_of, feeds_opened};
-ghost use Rattle.spans.specs.Collection.{floor_of, live_feeds};
-ghost use Rattle.spans.specs.Report.{AreFeeds};
+ghost use Rattle.plain_feeds.specs.Prelude.{AreFeeds, Cancels, MAX, Opens, Polls, feed_of, feeds_opened, floor_of, least_of, live_feeds};
 ghost use Rattle.plain_feeds.specs.Records.{feed_part, floors_in, telling, cancelled, changed_at, record_at, is_live};
 ghost use Rattle.plain_feeds.specs.FeedTie.{FeedsTied, IsOpened, Says, LeadsTo, AreNext, refusal_of_poll, refusal_of_cancel, refusal_of_record};
 ghost use Rattle.plain_feeds.specs.Reports.{AreOpened};

@@ -1,4 +1,4 @@
-//! The horizon that a collection reaches.
+//! The horizon that a collection reaches, as the checker finds it.
 ghost use Rattle.plain_feeds.specs.Horizon.{IsReached};
 
 use crate::book::FeedBook;

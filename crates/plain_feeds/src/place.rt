@@ -1,4 +1,4 @@
-//! Where the rows begin that a feed was not told.
+//! Where the rows begin that one of the checker's feeds was not told.
 ghost use Rattle.std.specs.Prelude.{◌≡◌};
 ghost use Rattle.std.specs.Option.{option_copied};
 ghost use Rattle.plain_feeds.specs.Places.{IsPlace, key_above, row_ts, tells_snapshot};

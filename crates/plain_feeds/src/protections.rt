@@ -1,10 +1,7 @@
-//! The protections that stand.
+//! The checker's list of the protections that stand.
 ghost use Rattle.std.specs.Prelude.{◌≡◌, ◌==◌, ◌<◌, [], map, reverse, suc, IfOk, OnErr};
 ghost use Rattle.std.specs.List.{list_any};
-ghost use Rattle.spans.specs.Effects.{Protects, Releases};
-ghost use Rattle.spans.specs.Transactions.{least_of};
-ghost use Rattle.spans.specs.Collection.{protections_made, protections_of, is_protected};
-ghost use Rattle.spans.specs.Report.{protection_report};
+ghost use Rattle.plain_feeds.specs.Prelude.{Protects, Releases, is_protected, least_of, protection_report, protections_made, protections_of};
 ghost use Rattle.plain_feeds.specs.declared.protections.Protection.{Protection};
 ghost use Rattle.plain_feeds.specs.ProtectionTie.{ProtectionsTied, Says, LeadsTo, newest_first, timestamps_of};
 

@@ -1,4 +1,4 @@
-//! One feed: whose it is, what it watches, what it was told, and whether it lives.
+//! One of the checker's feeds: whose it is, what it watches, what it was told, its next messages, and whether it lives.
 ghost use Rattle.std.specs.Prelude.{◌≡◌, ◌≤◌, length, map, IfOk};
 ghost use Rattle.timestamps.specs.declared.ts.TheConstants.{MAX};
 ghost use Rattle.plain_feeds.specs.Records.{new_record, is_live, floor_in, due_at, due_in, next_in};

@@ -1,4 +1,4 @@
-//! What a report tells of the protections that stand and the feeds that live.
+//! What the checker's report tells of the protections that stand and the feeds that live.
 ghost use Rattle.std.specs.Prelude.{◌≡◌, IfOk, map};
 ghost use Rattle.plain_feeds.specs.Reports.{complete_in, record_report, reports_in, standing_report};
 

@@ -1,11 +1,8 @@
-//! What is kept of the messages that a feed was told.
+//! What the checker keeps of the messages that a feed was told.
 ghost use Rattle.std.specs.Prelude.{◌≡◌, None, IfOk, OnOk, OnErr, option_map};
 ghost use Rattle.std.specs.Option.{option_copied};
-ghost use Rattle.spans.specs.Collection.{floor_after};
+ghost use Rattle.plain_feeds.specs.Prelude.{floor_after, last_name, last_resolved, last_told};
 ghost use Rattle.spans.specs.Consumer.{name_of};
-ghost use Rattle.spans.specs.Feeds.{last_resolved};
-ghost use Rattle.spans.specs.Kept.{last_name};
-ghost use Rattle.spans.specs.Report.{last_told};
 ghost use Rattle.plain_feeds.specs.Records.{fresh_told, told_more};
 
 use spans::calls::Message;

@@ -1,25 +1,8 @@
 -- Rows that are added up to a number.
-use Rattle.std.proofs.lemmas.Grind.{common_steps}
+use Rattle.plain_versions.proofs.Common.{After, BTreeSet, Excluded, IsOrdered, RisingKeys, Row, Span, Unbounded, VersionName, all_within, and_from, and_parts, append-nil, common_steps, contains, eq-eqb, filter, filter_rises, has_filter, in_append, key_cmp, key_lt, or_left, or_right, range_contains, rises_append, rising_keys, take_all, version_name}
 use Rattle.std.proofs.Common.{◌≡◌, ℕ, ◌<◌, ◌≤◌, ◌⊎◌, Bool, true, false, cond, List, [], ◌∷◌, ◌++◌, length, take, Option, Some, None, refl, sym, ◌∙◌, ap, subst, inl, inr, append_assoc, arith}
 use Rattle.std.specs.Prelude.{is_some, min}
-use Rattle.std.specs.BTreeSet.{BTreeSet, IsOrdered, contains}
-use Rattle.std.specs.BTreeMap.Range.{range_contains}
-use Rattle.std.specs.List.{filter}
-use Rattle.std.specs.declared.ops.Bound.TheVariants.{Excluded, Unbounded}
-use Rattle.std.proofs.lemmas.Bool.{and_from, and_parts, eq-eqb, or_left, or_right}
-use Rattle.std.proofs.lemmas.List.{take_all, append-nil}
-use Rattle.timestamps.specs.Bytes.{key_cmp}
-use Rattle.timestamps.specs.declared.row.Row.{Row}
-use Rattle.spans.specs.declared.span.Span.{Span}
-use Rattle.spans.specs.Collection.{VersionName, version_name}
-use Rattle.spans.specs.Effects.{After}
-use Rattle.spans.specs.KeyOrder.{key_lt}
-use Rattle.spans.proofs.Ascending.{rising_keys}
-use Rattle.spans.proofs.Keyed.{RisingKeys, filter_rises}
-use Rattle.spans.proofs.Members.{has_filter}
-use Rattle.spans.proofs.StreamOrder.{in_append, rises_append}
 use Rattle.spans.proofs.Lists.{take_again, take_few}
-use Rattle.spans.proofs.Sets.{all_within}
 use Rattle.plain_versions.specs.declared.written.Written.{Written}
 use Rattle.plain_versions.specs.Transactions.{Table, transaction_at, committed_in}
 use Rattle.plain_versions.specs.Chains.{Stored, version_at}

@@ -1,21 +1,9 @@
 -- What a walk over chains gives is what their keys give.
-use Rattle.std.proofs.lemmas.Grind.{common_steps}
+use Rattle.plain_versions.proofs.Common.{After, IsIn, Less, RisingKeys, Span, by_test, common_steps, in_span, is_at, is_eq, is_eq-slice_cmp, key_cmp, key_itself, keys_of, lookup, nat_list_cmp_total, newest, newest_only, ordering_reverse, pairs_of, same_key, with_value}
 use Rattle.std.proofs.Common.{rules}
 use Rattle.std.proofs.Common.{◌≡◌, ℕ, true, false, cond, List, [], ◌∷◌, Option, Some, None, refl, sym, ◌∙◌, ap, inl, inr, arith}
 use Rattle.std.specs.Prelude.{bytes_eq, filter, unwrap_or}
-use Rattle.std.specs.Map.{lookup, keys_of}
-use Rattle.std.specs.BTreeMap.{is_at}
-use Rattle.std.specs.Ordering.{is_eq, ordering_reverse}
-use Rattle.std.specs.declared.cmp.Ordering.TheVariants.{Less}
-use Rattle.std.proofs.lemmas.Cmp.{nat_list_cmp_total}
-use Rattle.std.proofs.lemmas.Map.Text.{is_eq-slice_cmp}
-use Rattle.timestamps.specs.Bytes.{key_cmp}
-use Rattle.spans.specs.Effects.{After}
-use Rattle.spans.specs.Keys.{in_span, with_value, pairs_of}
-use Rattle.spans.specs.Newest.{Version as Seen, newest}
-use Rattle.spans.specs.declared.span.Span.{Span}
-use Rattle.spans.proofs.Keyed.{IsIn, RisingKeys}
-use Rattle.spans.proofs.Steps.{by_test, same_key, key_itself, newest_only}
+use Rattle.spans.specs.Newest.{Version as Seen}
 use Rattle.plain_versions.specs.Versions.{Chain, version_in}
 use Rattle.plain_versions.specs.Chains.{Stored, or_none, versions_at, version_at}
 use Rattle.plain_versions.specs.InSpans.{within}

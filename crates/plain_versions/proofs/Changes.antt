@@ -1,21 +1,9 @@
 -- What is stored after the chain of one key changed.
-use Rattle.std.proofs.lemmas.Grind.{common_steps}
+use Rattle.plain_versions.proofs.Common.{After, Equal, Greater, IsIn, Less, RisingKeys, by_test, common_steps, false_from_ne_true, insert_entry, insert_key, insert_where, is_at, is_eq-slice_cmp, key_cmp, key_itself, keys_of, lookup, match_ordering, nat_cmp, nat_list_cmp_total, same_key, tied_itself}
 use Rattle.std.proofs.Common.{rules}
 use Rattle.std.proofs.Common.{◌≡◌, ℕ, ◌==◌, Bool, true, false, cond, ◌&&◌, ◌||◌, List, [], ◌∷◌, Option, Some, None, refl, sym, ◌∙◌, ap, subst, arith}
 use Rattle.std.specs.Prelude.{bytes_eq}
-use Rattle.std.specs.Map.{lookup, keys_of}
-use Rattle.std.specs.BTreeMap.{is_at, insert_entry}
-use Rattle.std.specs.Ordering.{match_ordering, nat_cmp}
 use Rattle.std.specs.declared.cmp.Ordering.{Ordering}
-use Rattle.std.specs.declared.cmp.Ordering.TheVariants.{Less, Equal, Greater}
-use Rattle.std.proofs.lemmas.Bool.{false_from_ne_true}
-use Rattle.std.proofs.lemmas.Cmp.{nat_list_cmp_total, tied_itself}
-use Rattle.std.proofs.lemmas.Map.Text.{is_eq-slice_cmp}
-use Rattle.timestamps.specs.Bytes.{key_cmp}
-use Rattle.spans.specs.Effects.{After}
-use Rattle.spans.specs.Keys.{insert_key, insert_where}
-use Rattle.spans.proofs.Keyed.{IsIn, RisingKeys}
-use Rattle.spans.proofs.Steps.{by_test, same_key, key_itself}
 use Rattle.plain_versions.specs.Versions.{Chain, IsVersionSet}
 use Rattle.plain_versions.specs.Chains.{Stored, or_none, versions_at, version_at, IsWritten}
 

@@ -1,20 +1,8 @@
 -- The index and the count after versions came or went.
-use Rattle.std.proofs.lemmas.Grind.{common_steps}
+use Rattle.plain_versions.proofs.Common.{After, AreDistinct, BTreeSet, Has, IsOrdered, VersionName, and_from, and_parts, both_ways, by_test, common_steps, contains, distinct_filter, eq-eqb, eqb-true, has_filter, is_at, key_cmp, key_itself, keys_of, length-map, list_any, or_cases, or_left, or_right, rising_distinct, rising_keys, same_key, same_length, version_name}
 use Rattle.std.proofs.Common.{◌≡◌, ℕ, ◌+◌, ◌-◌, ◌≤◌, ◌==◌, Bool, true, false, cond, ◌&&◌, ◌||◌, ◌⊎◌, List, [], ◌∷◌, length, map, Option, Some, None, refl, sym, ◌∙◌, ap, subst, inl, inr, arith}
 use Rattle.std.specs.Prelude.{◌↔◌, bytes_eq, filter, is_some, not}
-use Rattle.std.specs.BTreeMap.{is_at}
-use Rattle.std.specs.BTreeSet.{BTreeSet, IsOrdered, contains}
-use Rattle.std.specs.List.{list_any}
-use Rattle.std.specs.Map.{keys_of}
-use Rattle.std.proofs.lemmas.Bool.{and_parts, and_from, both_ways, eqb-true, eq-eqb, or_cases, or_left, or_right}
-use Rattle.std.proofs.lemmas.List.{length-map}
 use Rattle.std.proofs.lemmas.List.Filters.{length-filter_both}
-use Rattle.timestamps.specs.Bytes.{key_cmp}
-use Rattle.spans.specs.Collection.{VersionName, version_name}
-use Rattle.spans.specs.Effects.{After}
-use Rattle.spans.proofs.Ascending.{rising_keys}
-use Rattle.spans.proofs.Members.{Has, AreDistinct, distinct_filter, has_filter, same_length, rising_distinct}
-use Rattle.spans.proofs.Steps.{by_test, same_key, key_itself}
 use Rattle.plain_versions.specs.Chains.{Stored, version_at, wrote, IsCleared, IsWritten}
 use Rattle.plain_versions.specs.Counting.{IsCountOf}
 use Rattle.plain_versions.specs.declared.written.Written.{Written}

@@ -1,21 +1,8 @@
 -- What a walk of the index counts.
-use Rattle.std.proofs.lemmas.Grind.{common_steps}
+use Rattle.plain_versions.proofs.Common.{After, AreDistinct, BTreeSet, Has, IsOrdered, VersionName, and_from, and_parts, both_ways, by_test, common_steps, contains, distinct_append, distinct_filter, eqb-true, has_append, has_filter, is_at, is_delete, key_cmp, le-leb, leb-true, length-append, length-map, lt-ltb, ltb-true, nat_cmp, nat_tests, newest, none_of, rising_distinct, rising_keys, version_name}
 use Rattle.std.proofs.Common.{rules}
 use Rattle.std.proofs.Common.{◌≡◌, ℕ, ◌+◌, ◌-◌, ◌^◌, ◌<◌, ◌≤◌, ◌==◌, Bool, true, false, ◌&&◌, List, [], ◌∷◌, ◌++◌, length, map, Option, Some, None, refl, sym, ◌∙◌, ap, subst, inl, inr, arith}
 use Rattle.std.specs.Prelude.{◌↔◌, filter, is_some, min, nat_le, nat_lt}
-use Rattle.std.specs.BTreeMap.{is_at}
-use Rattle.std.specs.BTreeSet.{BTreeSet, IsOrdered, contains}
-use Rattle.std.specs.Ordering.{nat_cmp}
-use Rattle.std.proofs.lemmas.Bool.{and_from, and_parts, both_ways, eqb-true, leb-true, le-leb, lt-ltb, ltb-true}
-use Rattle.std.proofs.lemmas.Bool.Decides.{nat_tests}
-use Rattle.std.proofs.lemmas.List.{length-append, length-map}
-use Rattle.timestamps.specs.Bytes.{key_cmp}
-use Rattle.spans.specs.Collection.{VersionName, version_name, is_delete}
-use Rattle.spans.specs.Effects.{After}
-use Rattle.spans.specs.Newest.{newest}
-use Rattle.spans.proofs.Ascending.{rising_keys}
-use Rattle.spans.proofs.Members.{Has, AreDistinct, distinct_append, distinct_filter, has_append, has_filter, rising_distinct}
-use Rattle.spans.proofs.Steps.{by_test, none_of}
 use Rattle.plain_versions.specs.Chains.{Stored, version_at}
 use Rattle.plain_versions.specs.Counting.{IsCountOf}
 use Rattle.plain_versions.specs.Dying.{ByKey, IsDeathCount, IsDeathCountAt, deletes, is_between, replaces}

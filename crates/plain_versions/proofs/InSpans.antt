@@ -1,21 +1,9 @@
 -- The chains of a span are those of a range, up to the first key that isn't below its end.
-use Rattle.std.proofs.lemmas.Grind.{common_steps}
+use Rattle.plain_versions.proofs.Common.{IsIn, Less, RisingKeys, Span, Unbounded, and-false, and-true, and_parts, below_high, by_test, common_steps, entries_between, key_cmp, keys_of, range_contains, start_of}
 use Rattle.std.proofs.Common.{arith}
 use Rattle.std.proofs.Common.{rules}
 use Rattle.timestamps.specs.declared.key.TheConstants.{MAX_KEY_BYTES}
 use Rattle.std.proofs.Common.{◌≡◌, ℕ, ◌≤◌, Bool, true, false, List, [], ◌∷◌, length, Option, refl, sym, ◌∙◌}
-use Rattle.std.specs.Map.{keys_of}
-use Rattle.std.specs.BTreeMap.Range.{range_contains, entries_between}
-use Rattle.std.specs.declared.ops.Bound.TheVariants.{Unbounded}
-use Rattle.std.specs.declared.cmp.Ordering.TheVariants.{Less}
-use Rattle.std.proofs.lemmas.Bool.{and_parts}
-use Rattle.std.proofs.Math.Bool.{and-true, and-false}
-use Rattle.timestamps.specs.Bytes.{key_cmp}
-use Rattle.spans.specs.KeyOrder.{below_high}
-use Rattle.spans.specs.Starting.{start_of}
-use Rattle.spans.specs.declared.span.Span.{Span}
-use Rattle.spans.proofs.Keyed.{IsIn, RisingKeys}
-use Rattle.spans.proofs.Steps.{by_test}
 use Rattle.spans.proofs.KeyOrder.{starts_before, starts_at, stays_above}
 use Rattle.plain_versions.specs.Versions.{Chain}
 use Rattle.plain_versions.specs.Chains.{Stored}

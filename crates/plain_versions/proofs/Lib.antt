@@ -1,3 +1,4 @@
+pub mod Common
 pub mod UndecidedSet
 pub mod Newest
 pub mod Changes

@@ -1,12 +1,7 @@
 -- The versions that an index lists between two timestamps.
-use Rattle.std.proofs.lemmas.Grind.{common_steps}
+use Rattle.plain_versions.proofs.Common.{Has, VersionName, by_test, common_steps, eqb-true, has_append, number_at}
 use Rattle.std.proofs.Common.{◌≡◌, ℕ, ◌<◌, ◌≤◌, ◌==◌, true, List, [], ◌∷◌, ◌++◌, sym, inl, inr, arith}
 use Rattle.std.specs.Prelude.{◌↔◌}
-use Rattle.std.proofs.lemmas.Bool.{eqb-true}
-use Rattle.spans.specs.Collection.{VersionName}
-use Rattle.spans.proofs.Members.{Has, has_append}
-use Rattle.spans.proofs.Steps.{by_test}
-use Rattle.spans.proofs.Sets.{number_at}
 use Rattle.plain_versions.specs.declared.written.Written.{Written}
 use Rattle.plain_versions.specs.Chains.{Stored}
 use Rattle.plain_versions.specs.Streams.{names_at}

@@ -1,20 +1,8 @@
 -- What is listed after the keys of one transaction changed.
-use Rattle.std.proofs.lemmas.Grind.{common_steps}
+use Rattle.plain_versions.proofs.Common.{AllByRecursion, BTreeMap, BTreeSet, Excluded, Included, Less, by_test, common_steps, eqb-true, filter, is_at, keys_of, lookup, nat_cmp, nat_tests, number_at, range_contains}
 use Rattle.std.proofs.Common.{◌≡◌, ℕ, ◌<◌, ◌≤◌, ◌==◌, Bool, true, false, cond, ◌&&◌, ◌||◌, List, [], ◌∷◌, Option, refl, sym, ◌∙◌, ap, subst, arith}
 use Rattle.std.specs.Prelude.{bytes_eq}
-use Rattle.std.specs.List.{filter, AllByRecursion}
 use Rattle.std.specs.List.Sorted.{IsStrictlySortedBy}
-use Rattle.std.specs.Map.{lookup, keys_of}
-use Rattle.std.specs.BTreeMap.{BTreeMap, is_at}
-use Rattle.std.specs.BTreeMap.Range.{range_contains}
-use Rattle.std.specs.declared.ops.Bound.TheVariants.{Excluded, Included}
-use Rattle.std.specs.BTreeSet.{BTreeSet}
-use Rattle.std.specs.Ordering.{nat_cmp}
-use Rattle.std.specs.declared.cmp.Ordering.TheVariants.{Less}
-use Rattle.std.proofs.lemmas.Bool.{eqb-true}
-use Rattle.std.proofs.lemmas.Bool.Decides.{nat_tests}
-use Rattle.spans.proofs.Steps.{by_test}
-use Rattle.spans.proofs.Sets.{number_at}
 use Rattle.plain_versions.specs.Written.{Listed, is_among, listed_in, AreBetween}
 
 -- the look-ups after the keys of t became w

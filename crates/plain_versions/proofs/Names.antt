@@ -1,19 +1,8 @@
 -- Names of versions in the order of streams, and the rows that they give.
-use Rattle.std.proofs.lemmas.Grind.{common_steps}
+use Rattle.plain_versions.proofs.Common.{After, Has, IsRowIn, RisingKeys, RisingRows, Row, Span, VersionName, add_rises, added_in, and_from, by_test, common_steps, eq-eqb, has_append, has_is, in_append, in_has, insert_key, key_lt, lt-ltb, only_in, or_left, or_right, rises_append, stays_in, version_name}
 use Rattle.std.proofs.Common.{arith}
 use Rattle.std.proofs.Common.{◌≡◌, ℕ, ◌<◌, ◌==◌, Bool, true, ◌&&◌, ◌||◌, List, [], ◌∷◌, ◌++◌, Option, Some, None, refl, ◌∙◌, ap, subst, inl, inr}
 use Rattle.std.specs.Prelude.{◌↔◌, nat_lt}
-use Rattle.std.proofs.lemmas.Bool.{and_from, eq-eqb, lt-ltb, or_left, or_right}
-use Rattle.timestamps.specs.declared.row.Row.{Row}
-use Rattle.spans.specs.declared.span.Span.{Span}
-use Rattle.spans.specs.Collection.{VersionName, version_name}
-use Rattle.spans.specs.Effects.{After}
-use Rattle.spans.specs.KeyOrder.{key_lt}
-use Rattle.spans.specs.Keys.{insert_key}
-use Rattle.spans.proofs.Keyed.{RisingKeys, add_rises, added_in, only_in, stays_in}
-use Rattle.spans.proofs.Members.{Has, has_append, has_is, in_has}
-use Rattle.spans.proofs.Steps.{by_test}
-use Rattle.spans.proofs.StreamOrder.{IsRowIn, RisingRows, in_append, rises_append}
 use Rattle.plain_versions.specs.Transactions.{Table}
 use Rattle.plain_versions.specs.Chains.{Stored, version_at}
 use Rattle.plain_versions.specs.Streams.{names_at, row_with, row_of, is_wanted, rows_of}

@@ -1,12 +1,8 @@
 -- The newest version that a search of a chain finds.
 use Rattle.std.proofs.Common.{◌≡◌, ℕ, ◌<◌, ◌≤◌, ◌==◌, ◌&&◌, Bool, false, cond, not, Option, Some, None, refl, inl, inr, arith}
 use Rattle.std.specs.Prelude.{IsSome}
-use Rattle.std.specs.Ordering.{is_gt, is_lt, nat_cmp}
-use Rattle.std.proofs.lemmas.Bool.{ne_eqb}
-use Rattle.std.proofs.lemmas.Bool.Decides.{nat_tests}
-use Rattle.spans.specs.Effects.{After}
-use Rattle.spans.specs.Newest.{Version as Seen, version_at as seen_at, newest, IsNewest}
-use Rattle.spans.proofs.Steps.{newest_only}
+use Rattle.plain_versions.proofs.Common.{After, IsNewest, is_gt, is_lt, nat_cmp, nat_tests, ne_eqb, newest, newest_only}
+use Rattle.spans.specs.Newest.{Version as Seen, version_at as seen_at}
 use Rattle.plain_versions.specs.declared.versions.LentVersion.{LentVersion}
 use Rattle.plain_versions.specs.Scans.{stopped_by}
 use Rattle.plain_versions.specs.Transactions.{Table, transaction_at, committed_in}

@@ -1,12 +1,10 @@
 -- The undecided transactions are told one by one.
-use Rattle.std.proofs.lemmas.Grind.{common_steps}
+use Rattle.plain_versions.proofs.Common.{common_steps, has_append, map-append}
 use Rattle.std.proofs.Common.{arith}
 use Rattle.std.proofs.Common.{◌≡◌, ℕ, true, List, [], ◌∷◌, ◌++◌, map, Some, None, refl, sym, ◌∙◌, ap, subst, inl, inr, append_assoc}
 use Rattle.std.specs.Prelude.{All}
-use Rattle.std.proofs.lemmas.List.{map-append}
 use Rattle.std.proofs.lemmas.List.Elements.{All-append, All-cons, All-nil}
 use Rattle.spans.specs.declared.report.TransactionReport.{TransactionReport}
-use Rattle.spans.proofs.Members.{has_append}
 use Rattle.plain_versions.specs.declared.transactions.Transaction.{Transaction}
 use Rattle.spans.specs.declared.state.State.{State}
 use Rattle.spans.specs.declared.state.State.TheVariants.{Undecided, Committed, Aborted}

@@ -1,18 +1,8 @@
 -- The set of the undecided timestamps as a list that counts them.
-use Rattle.std.proofs.lemmas.Grind.{common_steps}
+use Rattle.plain_versions.proofs.Common.{BTreeSet, Excluded, Has, Included, IsOrdered, Unbounded, all_within, and_assoc, common_steps, distinct_filter, distinct_times, has_any, has_filter, is_at, list_any, nat_cmp, nat_tests, range_contains}
 use Rattle.std.proofs.Common.{Bool, List, arith, false, refl, sym, true, ℕ, ◌&&◌, ◌≡◌, ◌∷◌, ◌∙◌, [], length}
 use Rattle.std.specs.Prelude.{filter, nat_le, nat_lt, ◌↔◌}
-use Rattle.std.specs.List.{list_any}
-use Rattle.std.specs.Ordering.{nat_cmp}
-use Rattle.std.specs.BTreeMap.{is_at}
-use Rattle.std.specs.BTreeMap.Range.{range_contains}
-use Rattle.std.specs.BTreeSet.{BTreeSet, IsOrdered}
-use Rattle.std.specs.declared.ops.Bound.TheVariants.{Excluded, Included, Unbounded}
-use Rattle.std.proofs.lemmas.Bool.Decides.{nat_tests}
 use Rattle.std.proofs.lemmas.Map.Keys.{IsStrictlyIncreasing-from_sorted}
-use Rattle.std.proofs.Math.Bool.{and_assoc}
-use Rattle.spans.proofs.Members.{Has, distinct_filter, has_filter}
-use Rattle.spans.proofs.Sets.{has_any, distinct_times, all_within}
 use Rattle.plain_versions.specs.Counting.{IsCountOf}
 use Rattle.plain_versions.specs.Reports.{AreAllOpen}
 use Rattle.plain_versions.specs.Transactions.{Table, transaction_at, open_in, is_undecided_through}

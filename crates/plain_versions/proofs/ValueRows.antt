@@ -1,21 +1,8 @@
 -- The rows of what a span holds at a timestamp.
-use Rattle.std.proofs.lemmas.Grind.{common_steps}
+use Rattle.plain_versions.proofs.Common.{After, IsIn, IsRowIn, Less, RisingKeys, RisingRows, Row, Span, and_from, both_ways, by_test, common_steps, eq-eqb, in_append, in_span, is_at, is_lt, key_cmp, keys_of, lookup, newest, newest_only, or_right, rises_append}
 use Rattle.std.proofs.Common.{◌≡◌, ℕ, ◌≤◌, Bool, true, false, cond, List, [], ◌∷◌, ◌++◌, length, take, Option, Some, None, refl, sym, ◌∙◌, ap, subst, inl, inr, arith}
 use Rattle.std.specs.Prelude.{◌↔◌, is_some, nat_lt}
-use Rattle.std.specs.Map.{lookup, keys_of}
-use Rattle.std.specs.BTreeMap.{is_at}
-use Rattle.std.specs.Ordering.{is_lt}
-use Rattle.std.specs.declared.cmp.Ordering.TheVariants.{Less}
-use Rattle.std.proofs.lemmas.Bool.{and_from, both_ways, eq-eqb, or_right}
-use Rattle.timestamps.specs.Bytes.{key_cmp}
-use Rattle.timestamps.specs.declared.row.Row.{Row}
-use Rattle.spans.specs.declared.span.Span.{Span}
-use Rattle.spans.specs.Effects.{After}
-use Rattle.spans.specs.Keys.{in_span}
-use Rattle.spans.specs.Newest.{Version as Seen, newest}
-use Rattle.spans.proofs.Keyed.{IsIn, RisingKeys}
-use Rattle.spans.proofs.Steps.{by_test, newest_only}
-use Rattle.spans.proofs.StreamOrder.{IsRowIn, RisingRows, in_append, rises_append}
+use Rattle.spans.specs.Newest.{Version as Seen}
 use Rattle.plain_versions.specs.Transactions.{Table, transaction_at, committed_in}
 use Rattle.plain_versions.specs.Versions.{Chain, version_in, settled}
 use Rattle.plain_versions.specs.Chains.{Stored, or_none, versions_at}

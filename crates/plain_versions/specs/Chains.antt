@@ -1,10 +1,6 @@
 -- What the chains of versions say.
 use Rattle.std.specs.Prelude.{ℕ, List, [], ◌≡◌, ◌==◌, ◌&&◌, Bool, if◌then◌else◌, Option, Some, None, bytes_eq, is_some}
-use Rattle.std.specs.Map.{lookup, keys_of}
-use Rattle.std.specs.BTreeMap.{is_at}
-use Rattle.timestamps.specs.Bytes.{key_cmp}
-use Rattle.spans.specs.Effects.{After}
-use Rattle.spans.specs.Keys.{insert_key}
+use Rattle.plain_versions.specs.Prelude.{After, insert_key, is_at, key_cmp, keys_of, lookup}
 use Rattle.plain_versions.specs.Transactions.{Table, transaction_at, committed_in}
 use Rattle.plain_versions.specs.Versions.{Chain, version_in}
 

@@ -1,10 +1,6 @@
 -- Which versions make one dead as a horizon goes up: a delete itself, and what comes after a value that value.
 use Rattle.std.specs.Prelude.{ℕ, List, Bool, Option, ◌≡◌, ◌+◌, ◌-◌, ◌^◌, ◌&&◌, cond, is_some, min, nat_le, nat_lt}
-use Rattle.std.specs.BTreeSet.{BTreeSet, contains}
-use Rattle.timestamps.specs.Bytes.{key_cmp}
-use Rattle.spans.specs.Collection.{VersionName, is_delete}
-use Rattle.spans.specs.Effects.{After}
-use Rattle.spans.specs.Newest.{newest}
+use Rattle.plain_versions.specs.Prelude.{After, BTreeSet, VersionName, contains, is_delete, key_cmp, newest}
 use Rattle.plain_versions.specs.Counting.{IsCountOf}
 
 -- the versions of each key by their timestamps

@@ -1,12 +1,6 @@
 -- The chains of the keys of a span.
-use Rattle.timestamps.specs.declared.key.TheConstants.{MAX_KEY_BYTES}
+use Rattle.plain_versions.specs.Prelude.{MAX_KEY_BYTES, RisingKeys, Span, filter, from_low, in_span, keys_of}
 use Rattle.std.specs.Prelude.{ℕ, List, [], ◌∷◌, true, ◌≡◌, ◌≤◌, length, Option}
-use Rattle.std.specs.List.{filter}
-use Rattle.std.specs.Map.{keys_of}
-use Rattle.spans.specs.declared.span.Span.{Span}
-use Rattle.spans.specs.KeyOrder.{from_low}
-use Rattle.spans.specs.Keys.{in_span}
-use Rattle.spans.proofs.Keyed.{RisingKeys}
 use Rattle.plain_versions.specs.Chains.{Stored}
 use Rattle.plain_versions.specs.Versions.{Chain}
 

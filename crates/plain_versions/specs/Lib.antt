@@ -1,3 +1,4 @@
+pub mod Prelude
 pub mod Counting
 pub mod Transactions
 pub mod Undecided

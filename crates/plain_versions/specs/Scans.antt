@@ -1,9 +1,6 @@
 -- What the chains say of a span.
 use Rattle.std.specs.Prelude.{ℕ, List, [], ◌∷◌, Bool, not, ◌&&◌, ◌==◌, if◌then◌else◌, Option, Some, None, filter}
-use Rattle.std.specs.Map.{keys_of}
-use Rattle.spans.specs.declared.span.Span.{Span}
-use Rattle.spans.specs.Keys.{in_span, pairs_of}
-use Rattle.spans.specs.Newest.{newest}
+use Rattle.plain_versions.specs.Prelude.{Span, in_span, keys_of, newest, pairs_of}
 use Rattle.plain_versions.specs.Transactions.{Table, transaction_at, committed_in}
 use Rattle.plain_versions.specs.Chains.{Stored, version_at, committed_at}
 

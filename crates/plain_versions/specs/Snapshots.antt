@@ -1,12 +1,6 @@
 -- What a span holds at a timestamp, as rows at that timestamp, after a key.
 use Rattle.std.specs.Prelude.{ℕ, List, [], ◌∷◌, ◌++◌, Bool, true, ◌≡◌, ◌↔◌, take, if◌then◌else◌, Option, Some, None, is_some}
-use Rattle.timestamps.specs.declared.row.Row.{Row}
-use Rattle.spans.specs.declared.span.Span.{Span}
-use Rattle.spans.specs.Effects.{After}
-use Rattle.spans.specs.KeyOrder.{key_lt}
-use Rattle.spans.specs.Keys.{in_span}
-use Rattle.spans.specs.Newest.{newest}
-use Rattle.spans.proofs.StreamOrder.{IsRowIn, RisingRows}
+use Rattle.plain_versions.specs.Prelude.{After, IsRowIn, RisingRows, Row, Span, in_span, key_lt, newest}
 use Rattle.plain_versions.specs.Transactions.{Table}
 use Rattle.plain_versions.specs.Chains.{Stored, committed_at}
 use Rattle.plain_versions.specs.Versions.{settled}

@@ -1,11 +1,6 @@
 -- What a scan was given of each key.
 use Rattle.std.specs.Prelude.{ℕ, List, ◌≡◌, true, unwrap_or}
-use Rattle.std.specs.Map.{lookup}
-use Rattle.std.specs.BTreeMap.{is_at}
-use Rattle.timestamps.specs.Bytes.{key_cmp}
-use Rattle.spans.specs.declared.span.Span.{Span}
-use Rattle.spans.specs.Keys.{in_span}
-use Rattle.spans.specs.Newest.{newest}
+use Rattle.plain_versions.specs.Prelude.{Span, in_span, is_at, key_cmp, lookup, newest}
 use Rattle.plain_versions.specs.Chains.{Stored, version_at}
 
 -- the timestamp of the version that was given of x: 0 where x wasn't found

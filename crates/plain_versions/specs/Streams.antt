@@ -1,12 +1,6 @@
 -- The committed rows of a span after a place.
 use Rattle.std.specs.Prelude.{ℕ, List, [], ◌∷◌, ◌++◌, Bool, true, ◌≡◌, ◌≤◌, ◌==◌, ◌&&◌, ◌||◌, ◌↔◌, nat_lt, take, map, if◌then◌else◌, Option, Some, None}
-use Rattle.timestamps.specs.declared.row.Row.{Row}
-use Rattle.spans.specs.declared.span.Span.{Span}
-use Rattle.spans.specs.Collection.{VersionName, version_name}
-use Rattle.spans.specs.Effects.{After}
-use Rattle.spans.specs.KeyOrder.{key_lt}
-use Rattle.spans.specs.Keys.{in_span}
-use Rattle.spans.proofs.StreamOrder.{IsRowIn, RisingRows}
+use Rattle.plain_versions.specs.Prelude.{After, IsRowIn, RisingRows, Row, Span, VersionName, in_span, key_lt, version_name}
 use Rattle.plain_versions.specs.Transactions.{Table, transaction_at, committed_in}
 use Rattle.plain_versions.specs.Chains.{Stored, version_at, committed_at}
 

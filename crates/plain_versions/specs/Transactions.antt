@@ -1,8 +1,6 @@
 -- What a table of transactions says.
 use Rattle.std.specs.Prelude.{ℕ, List, ◌≡◌, ◌≤◌, ◌⊎◌, Bool, true, false, ◌==◌, ◌&&◌, ◌-◌, nat_lt, nat_le, if◌then◌else◌, Option, Some, None, is_some, unwrap_or}
-use Rattle.std.specs.Map.{lookup}
-use Rattle.std.specs.BTreeMap.{is_at}
-use Rattle.std.specs.Ordering.{nat_cmp}
+use Rattle.plain_versions.specs.Prelude.{is_at, lookup, nat_cmp}
 use Rattle.plain_versions.specs.declared.transactions.Transaction.{Transaction}
 use Rattle.spans.specs.declared.state.State.{State}
 use Rattle.spans.specs.declared.state.State.TheVariants.{Undecided, Committed, Aborted}

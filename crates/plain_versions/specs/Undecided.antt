@@ -1,9 +1,6 @@
 -- The undecided timestamps, as a set and as a part of it.
 use Rattle.std.specs.Prelude.{ℕ, List, ◌≡◌}
-use Rattle.std.specs.List.{list_any}
-use Rattle.std.specs.BTreeMap.{is_at}
-use Rattle.std.specs.BTreeSet.{BTreeSet, contains}
-use Rattle.std.specs.Ordering.{nat_cmp}
+use Rattle.plain_versions.specs.Prelude.{BTreeSet, contains, is_at, list_any, nat_cmp}
 use Rattle.plain_versions.specs.Transactions.{Table, transaction_at, open_in, is_undecided_at}
 
 -- the set has exactly the undecided

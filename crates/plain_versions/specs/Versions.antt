@@ -1,10 +1,6 @@
 -- What the versions of a key say.
 use Rattle.std.specs.Prelude.{ℕ, List, ◌≡◌, ◌==◌, ◌<◌, if◌then◌else◌, Option, Some, None}
-use Rattle.std.specs.Map.{lookup}
-use Rattle.std.specs.BTreeMap.{is_at}
-use Rattle.std.specs.Ordering.{nat_cmp}
-use Rattle.spans.specs.Effects.{After}
-use Rattle.spans.specs.Newest.{IsNewest}
+use Rattle.plain_versions.specs.Prelude.{After, IsNewest, is_at, lookup, nat_cmp}
 use Rattle.plain_versions.specs.declared.versions.LentVersion.{LentVersion}
 use Rattle.plain_versions.specs.Transactions.{Table, transaction_at, committed_in}
 

@@ -1,11 +1,6 @@
 -- Which keys each transaction wrote, and how the index of them is tied to the chains.
 use Rattle.std.specs.Prelude.{ℕ, List, [], ◌∷◌, Bool, false, bytes_eq, if◌then◌else◌, ◌&&◌, ◌||◌, ◌==◌, ◌≡◌, ◌<◌, ◌≤◌, Option, Some, None, is_some}
-use Rattle.std.specs.Map.{lookup}
-use Rattle.std.specs.BTreeMap.{is_at}
-use Rattle.std.specs.BTreeSet.{BTreeSet, contains}
-use Rattle.std.specs.Ordering.{nat_cmp}
-use Rattle.timestamps.specs.Bytes.{key_cmp}
-use Rattle.spans.specs.Collection.{VersionName}
+use Rattle.plain_versions.specs.Prelude.{BTreeSet, VersionName, contains, is_at, key_cmp, lookup, nat_cmp}
 use Rattle.plain_versions.specs.declared.written.Written.{Written}
 use Rattle.plain_versions.specs.Counting.{IsCountOf}
 use Rattle.plain_versions.specs.Chains.{Stored, version_at}

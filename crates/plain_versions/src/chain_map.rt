@@ -1,9 +1,8 @@
-//! The versions of each key.
+//! The checker's versions in a map, a chain for each key: written, looked up by key or span, dropped.
 ghost use Rattle.std.specs.Prelude.{◌≡◌, ◌==◌, ◌&&◌, ℕ, List, [], Some, None, MatchOption, OnOk, OnErr, bytes_eq, if◌then◌else◌};
 ghost use Rattle.std.specs.BTreeSet.{contains};
 ghost use Rattle.std.specs.Map.{keys_of};
-ghost use Rattle.timestamps.specs.Bytes.{key_cmp};
-ghost use Rattle.spans.proofs.Keyed.{RisingKeys};
+ghost use Rattle.plain_versions.specs.Prelude.{RisingKeys, key_cmp};
 ghost use Rattle.plain_versions.specs.Chains.{versions_at, version_at, IsWritten};
 ghost use Rattle.plain_versions.specs.InSpans.{within, AreAheadOf};
 

@@ -1,4 +1,4 @@
-//! The versions of all keys, and which keys each transaction wrote.
+//! The checker's versions of all keys, and which keys each transaction wrote.
 ghost use Rattle.std.specs.Prelude.{◌≡◌, ◌==◌, [], OnOk, OnErr, is_some};
 ghost use Rattle.std.specs.Map.{keys_of};
 ghost use Rattle.spans.proofs.Keyed.{RisingKeys};

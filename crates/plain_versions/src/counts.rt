@@ -1,4 +1,4 @@
-//! How many versions become dead as a horizon goes up.
+//! How many of the checker's versions become dead as a horizon goes up.
 //!
 //! A delete is dead as soon as a horizon reaches it, and a value as soon as one reaches the next version of its
 //! key. So only the versions between the old horizon and the new one are looked at.

@@ -1,4 +1,4 @@
-//! How transactions end, in the map and the set that a table is made of.
+//! How the checker's transactions end, in the map and the set that its table is made of.
 ghost use Rattle.std.specs.Prelude.{◌≡◌, ℕ, nat_le, option_map};
 ghost use Rattle.plain_versions.specs.Transactions.{decided, hard_closed, transaction_at, IsSetAt};
 ghost use Rattle.plain_versions.specs.Undecided.{AreUndecided};

@@ -1,10 +1,9 @@
-//! The chains of the keys of a span.
-ghost use Rattle.timestamps.specs.declared.key.TheConstants.{MAX_KEY_BYTES};
+//! The checker's chains of the keys of a span, in turn.
+ghost use Rattle.plain_versions.specs.Prelude.{MAX_KEY_BYTES, below_high};
 ghost use Rattle.std.specs.Prelude.{◌≡◌, ◌≤◌, length};
 ghost use Rattle.std.specs.Map.Iter.{TakesFirst, deref_pair};
 ghost use Rattle.std.specs.Iterator.{at_most};
 ghost use Rattle.std.specs.Range.Bound.{bound_map};
-ghost use Rattle.spans.specs.KeyOrder.{below_high};
 ghost use Rattle.spans.specs.Starting.{start_of};
 ghost use Rattle.plain_versions.specs.InSpans.{AreAhead, within};
 

@@ -1,4 +1,4 @@
-//! What a report tells of the undecided transactions.
+//! What the checker's report tells of the undecided transactions.
 ghost use Rattle.std.specs.Prelude.{IfOk};
 ghost use Rattle.plain_versions.specs.Reports.{AreOpen};
 

@@ -1,8 +1,7 @@
-//! What the chains say of a span: who stops a scan, and the rows that one finds.
+//! What the checker's chains say of a span: who stops a scan, and the rows that one finds.
 ghost use Rattle.std.specs.Prelude.{◌≡◌, ◌++◌, [], ◌==◌, not, ◌&&◌, IfOk, OnOk};
 ghost use Rattle.std.specs.Option.{option_copied};
-ghost use Rattle.spans.specs.Keys.{with_value};
-ghost use Rattle.spans.specs.Newest.{newest};
+ghost use Rattle.plain_versions.specs.Prelude.{newest, with_value};
 ghost use Rattle.plain_versions.specs.Scans.{first_blocker, rows_seen, rows_settled, stopped_by};
 ghost use Rattle.plain_versions.specs.Transactions.{transaction_at, committed_in};
 ghost use Rattle.plain_versions.specs.Versions.{settled, version_in};

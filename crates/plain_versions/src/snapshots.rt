@@ -1,9 +1,8 @@
-//! What a span holds at a timestamp, as rows of it.
+//! What the checker's chains hold in a span at a timestamp, as rows of it.
 ghost use Rattle.std.specs.Prelude.{◌≡◌, ◌++◌, ℕ, List, true, take, IfOk, OnOk};
 ghost use Rattle.std.specs.Option.{option_copied};
 ghost use Rattle.std.specs.Map.{keys_of};
-ghost use Rattle.spans.proofs.Keyed.{RisingKeys};
-ghost use Rattle.spans.specs.Keys.{in_span};
+ghost use Rattle.plain_versions.specs.Prelude.{RisingKeys, in_span};
 ghost use Rattle.plain_versions.specs.InSpans.{within};
 ghost use Rattle.plain_versions.specs.Snapshots.{AreNextValues, is_past, value_row, value_rows};
 

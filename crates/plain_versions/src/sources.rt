@@ -1,4 +1,4 @@
-//! What a scan is given, key by key.
+//! The keys that a scan found, each with the timestamp of the version that it was given: for the checker.
 ghost use Rattle.std.specs.Prelude.{◌≡◌, ℕ, List, [], if◌then◌else◌, bytes_eq, IfOk, OnOk};
 ghost use Rattle.spans.specs.Newest.{newest};
 ghost use Rattle.plain_versions.specs.Sources.{source_at, AreSources};

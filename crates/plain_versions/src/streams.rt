@@ -1,4 +1,4 @@
-//! The committed rows of a span after a place.
+//! The committed rows of a span after a place, collected from the checker's chains.
 ghost use Rattle.std.specs.Prelude.{◌≡◌, ◌++◌, ◌<◌, ◌≤◌, Some, None, IfOk, OnOk, length, min, take};
 ghost use Rattle.timestamps.specs.declared.ts.TheConstants.{MAX};
 ghost use Rattle.std.specs.Option.{option_copied};

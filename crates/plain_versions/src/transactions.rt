@@ -1,4 +1,4 @@
-//! Which transactions began, whose they are and how far they are.
+//! The checker's table of transactions: which began, whose they are, how far they are, and which are undecided.
 ghost use Rattle.std.specs.Prelude.{◌≡◌, ◌<◌, ℕ, [], OnOk, OnErr, nat_le, option_map};
 ghost use Rattle.plain_versions.specs.Counting.{IsCountOf};
 ghost use Rattle.plain_versions.specs.Reports.{AreAllOpen};

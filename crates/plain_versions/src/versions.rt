@@ -1,4 +1,4 @@
-//! The versions of one key.
+//! The checker's versions of one key.
 ghost use Rattle.std.specs.Prelude.{◌≡◌, [], Some, None, OnOk, OnErr, is_some};
 ghost use Rattle.std.specs.Option.{option_copied};
 ghost use Rattle.plain_versions.specs.Versions.{IsBest, IsBestOf, IsVersionSet, settled, version_in};

@@ -1,4 +1,4 @@
-//! Which keys each transaction wrote.
+//! Which keys each of the checker's transactions wrote.
 ghost use Rattle.std.specs.Prelude.{◌≡◌, ℕ, List, false, if◌then◌else◌, ◌==◌, OnOk, OnErr, ◌<◌, ◌≤◌};
 ghost use Rattle.std.specs.Option.{option_copied};
 ghost use Rattle.plain_versions.specs.Written.{is_among, is_listed, listed_in, AreBetween, IsListedToo, IsUnlisted};

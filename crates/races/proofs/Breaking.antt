@@ -1,12 +1,8 @@
 -- Where sorted events first break.
 use Rattle.std.proofs.Common.{◌≡◌, ℕ, suc, ◌+◌, ◌-◌, ◌<◌, ◌≤◌, List, [], ◌∷◌, ◌++◌, length, get_or, take, drop, refl, sym, ap, ◌∙◌, subst, arith}
-use Rattle.std.specs.List.Sorted.{IsNonDecreasingBy}
+use Rattle.races.proofs.Common.{Event, IsGapless, IsNonDecreasingBy, get_or_default, last_stands, length-take-le, take-append-drop}
 use Rattle.std.proofs.Math.Seq.{drop-cons, take-suc}
-use Rattle.std.proofs.lemmas.List.{get_or_default, length-take-le, take-append-drop}
-use Rattle.spans.specs.declared.calls.events.Event.{Event}
-use Rattle.spans.specs.Legal.{IsGapless}
 use Rattle.spans.proofs.Histories.{gapless_more}
-use Rattle.trace_check.proofs.TraceSteps.{last_stands}
 use Rattle.races.specs.Merging.{position_of, start_of, IsUnbroken, Breaks}
 
 module _ {A : Type 0} where

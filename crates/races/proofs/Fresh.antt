@@ -4,16 +4,9 @@ use Rattle.std.specs.Prelude.{Vec}
 use Rattle.std.proofs.lemmas.Bool.{false_from_ne_true}
 use mathlib.Core.Option.{some}
 use lib.ListN.{get_elem?, get_or}
-use Rattle.spans.specs.declared.calls.commands.Cmd.{Cmd}
-use Rattle.spans.specs.declared.calls.events.Event.{Event}
-use Rattle.spans.specs.Legal.{IsGapless}
+use Rattle.races.proofs.Common.{Cmd, Db, Engine, Event, IsGapless, IsOf, number, of_seat}
 use Rattle.timestamps.specs.declared.oracle.OraclePass.{OraclePass}
-use Rattle.engine.specs.declared.Engine.{Engine}
-use Rattle.ticket_lock.specs.Lists.{of_seat}
-use Rattle.ticket_lock.specs.Seats.{number}
 use Rattle.shared_db.specs.declared.config.Config.{Config}
-use Rattle.shared_db.specs.declared.db.Db.{Db}
-use Rattle.shared_db.specs.Seats.{IsOf}
 use Rattle.shared_db.specs.Opening.{IsOpened}
 use Rattle.races.specs.declared.ended.Ended.{Ended}
 use Rattle.races.specs.Calls.{AreLists, IsRaceOf}

@@ -3,8 +3,7 @@ use Rattle.std.proofs.Common.{◌≡◌, ◌≢◌, ℕ, ◌+◌, ◌==◌, Bool
 use Rattle.std.specs.Prelude.{Vec}
 use mathlib.Core.Option.{some, some-injective}
 use lib.ListN.{get_elem?, get_or}
-use Rattle.spans.specs.declared.calls.commands.Cmd.{Cmd}
-use Rattle.ticket_lock.proofs.ListFacts.{each_set}
+use Rattle.races.proofs.Common.{Cmd, each_set}
 use Rattle.races.specs.Calls.{commands_by, AreLists}
 use Rattle.races.proofs.Promised.{there_at}
 use Rattle.races.proofs.Shares.{elem_at}

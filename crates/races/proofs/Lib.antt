@@ -1,3 +1,4 @@
+pub mod Common
 mod Breaking
 mod Refusing
 mod Promised

@@ -1,11 +1,7 @@
 -- Events in the order of their positions, which weigh as a history without a gap and are its events, are that history.
 use Rattle.std.proofs.Common.{◌≡◌, ℕ, zero, suc, ◌+◌, ◌<◌, ◌≤◌, cond, List, [], ◌∷◌, ◌++◌, length, get_or, sym, refl, ap, ◌∙◌, subst, arith, eq-eqb, ne_eqb, ⊎_elim, All}
 use Rattle.std.specs.Prelude.{◌==◌, sum_by, IsPermutation}
-use Rattle.std.specs.List.Sorted.{IsNonDecreasingBy}
-use Rattle.std.proofs.lemmas.List.Sums.{sum_by-cons}
-use Rattle.std.proofs.lemmas.List.Sorted.{All-permutation, sum_by-IsPermutation}
-use Rattle.spans.specs.declared.calls.events.Event.{Event}
-use Rattle.spans.specs.Legal.{IsGapless}
+use Rattle.races.proofs.Common.{All-permutation, Event, IsGapless, IsNonDecreasingBy, sum_by-IsPermutation, sum_by-cons}
 use Rattle.races.specs.declared.merging.MergeError.TheVariants as errors
 use Rattle.races.specs.Merging.{position_of, start_of, IsMerged, Breaks, IsReason}
 use Rattle.races.proofs.Weighing.{Has, Among}

@@ -1,9 +1,7 @@
 -- What the threads of a race promised, at their places.
 use Rattle.std.proofs.Common.{◌≡◌, ℕ, zero, suc, ◌<◌, List, [], ◌∷◌, length, map, get_or, Ok, Global, sym, ap, ◌∙◌, subst, arith}
 use Rattle.std.specs.Prelude.{Result, Vec, vec_len, IfOk}
-use Rattle.std.proofs.lemmas.List.{length-map}
-use Rattle.spans.specs.declared.calls.commands.Cmd.{Cmd}
-use Rattle.shared_db.specs.declared.db.Db.{Db}
+use Rattle.races.proofs.Common.{Cmd, Db, length-map}
 use Rattle.races.specs.declared.ended.Ended.{Ended}
 use Rattle.races.specs.declared.racing.Plays.{Plays}
 use Rattle.races.specs.Playing.{IsPlayed}

@@ -1,8 +1,7 @@
 -- Why a merge is refused.
 use Rattle.std.proofs.Common.{List}
 use Rattle.std.specs.Prelude.{IsPermutation}
-use Rattle.std.specs.List.Sorted.{IsNonDecreasingBy}
-use Rattle.spans.specs.declared.calls.events.Event.{Event}
+use Rattle.races.proofs.Common.{Event, IsNonDecreasingBy}
 use Rattle.races.specs.declared.merging.MergeError.{MergeError}
 use Rattle.races.specs.declared.merging.MergeError.TheVariants as errors
 use Rattle.races.specs.Merging.{position_of, IsBreak, IsReason}

@@ -4,19 +4,12 @@ use Rattle.std.specs.Prelude.{◌==◌, sum_by, count_by, flat_map, Vec, IsPermu
 use Rattle.std.proofs.lemmas.List.Folds.{flat_map-map}
 use mathlib.Core.Option.{some, some-injective, some-ne-none}
 use lib.ListN.{get_elem?}
-use Rattle.spans.specs.declared.calls.events.Event.{Event}
-use Rattle.spans.specs.Legal.{IsLegal, IsGapless}
-use Rattle.engine.specs.declared.Engine.{Engine}
+use Rattle.races.proofs.Common.{AllNew, AllOf, Db, Engine, Event, IsGapless, IsLegal, IsOf, first_of, gapless_from_first, most, number, of_seat, seat_count}
 use Rattle.engine.specs.Engine.{StandsFor}
 use Rattle.ticket_lock.specs.declared.chronicle.Chronicle.{Ghosts}
 use Rattle.ticket_lock.specs.declared.lock.Seat.{Seat}
 use Rattle.shared_db.specs.declared.served.Served.{Served}
-use Rattle.ticket_lock.specs.Lists.{most, of_seat}
-use Rattle.ticket_lock.specs.Seats.{number}
-use Rattle.shared_db.specs.declared.db.Db.{Db}
-use Rattle.shared_db.specs.Seats.{IsOf, AllOf, AllNew, first_of, seat_count}
 use Rattle.shared_db.specs.Whole.{IsWhole}
-use Rattle.trace_check.proofs.TraceSteps.{gapless_from_first}
 use Rattle.races.specs.declared.ended.Ended.{Ended}
 use Rattle.races.specs.declared.merging.MergeError.TheVariants as errors
 use Rattle.races.specs.Playing.{IsIdle}

@@ -1,14 +1,12 @@
 -- What the events of all sessions weigh, and that each is one of the history's.
 use Rattle.std.proofs.Common.{◌≡◌, ℕ, suc, ◌+◌, ◌<◌, Bool, true, false, cond, List, [], ◌∷◌, ◌++◌, map, filter, sym, refl, ap, ◌∙◌, subst, arith, eq-eqb, ne_eqb, inl, inr}
 use Rattle.std.specs.Prelude.{◌==◌, ◌⊎◌, sum_by, count_by, flat_map}
-use Rattle.std.proofs.lemmas.List.Sums.{sum_by-cons, sum_by-append}
+use Rattle.races.proofs.Common.{Event, of_seat, sum_by-append, sum_by-cons}
 use mathlib.Core.Option.{some}
 use mathlib.Core.Logic.{dite}
 use native.Mathlib.Decide.{ℕ_discrete}
 use lib.ListN.{get_elem?}
-use Rattle.spans.specs.declared.calls.events.Event.{Event}
 use Rattle.spans.proofs.Steps.{by_test}
-use Rattle.ticket_lock.specs.Lists.{of_seat}
 
 -- the event is one of these
 abbrev pub Has : Event → List Event → Type 0

@@ -2,13 +2,9 @@
 use Rattle.std.specs.Prelude.{◌≡◌, ℕ, ◌<◌, ◌==◌, List, filter, map, Vec}
 use mathlib.Core.Option.{some}
 use lib.ListN.{get_elem?}
-use Rattle.spans.specs.declared.calls.commands.Cmd.{Cmd}
-use Rattle.spans.specs.declared.calls.events.Event.{Event}
-use Rattle.spans.specs.Legal.{IsGapless}
-use Rattle.ticket_lock.specs.Lists.{of_seat}
+use Rattle.races.specs.Prelude.{Cmd, Event, IsGapless, IsTrace, of_seat}
 use Rattle.shared_db.specs.declared.config.Config.{Config}
 use Rattle.shared_db.specs.Opening.{IsReason}
-use Rattle.trace_check.specs.Traces.{IsTrace}
 use Rattle.races.specs.declared.calls.FreshError.{FreshError}
 use Rattle.races.specs.declared.calls.FreshError.TheVariants as errors
 use Rattle.races.specs.Playing.{commands_of}

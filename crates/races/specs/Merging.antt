@@ -1,8 +1,7 @@
 -- Lists of events put together in the order of their positions.
 use Rattle.std.specs.Prelude.{◌≡◌, ℕ, ◌+◌, ◌<◌, List, [], ◌∷◌, ◌++◌, flat_map, Vec, IsPermutation}
 use Rattle.std.specs.List.Sorted.{IsNonDecreasingBy}
-use Rattle.spans.specs.declared.calls.events.Event.{Event}
-use Rattle.spans.specs.Legal.{IsGapless}
+use Rattle.races.specs.Prelude.{Event, IsGapless}
 use Rattle.races.specs.declared.merging.MergeError.{MergeError}
 use Rattle.races.specs.declared.merging.MergeError.TheVariants as errors
 

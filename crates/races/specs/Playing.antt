@@ -2,15 +2,10 @@
 use Rattle.std.specs.Prelude.{◌≡◌, ℕ, List, [], map, Bool, false, Vec}
 use mathlib.Core.Option.{some}
 use lib.ListN.{get_elem?}
-use Rattle.spans.specs.declared.calls.commands.Cmd.{Cmd}
-use Rattle.spans.specs.declared.calls.events.Event.{Event}
+use Rattle.races.specs.Prelude.{Cmd, Db, Event, IsOf, IsSame, StartsWith, mine, seen}
 use Rattle.ticket_lock.specs.declared.chronicle.Chronicle.{Ghosts}
 use Rattle.ticket_lock.specs.declared.lock.Seat.{Seat}
-use Rattle.ticket_lock.specs.Lists.{StartsWith}
-use Rattle.ticket_lock.specs.Seats.{seen, mine, IsSame}
 use Rattle.shared_db.specs.declared.served.Served.{Served}
-use Rattle.shared_db.specs.declared.db.Db.{Db}
-use Rattle.shared_db.specs.Seats.{IsOf}
 
 -- the commands of events, in their order
 abbrev pub commands_of : List Event → List Cmd

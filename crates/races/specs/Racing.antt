@@ -2,8 +2,7 @@
 use Rattle.std.specs.Prelude.{◌≡◌, ℕ, List, map, length, Vec, vec_len, Result, Ok, All}
 use mathlib.Core.Option.{some}
 use lib.ListN.{get_elem?}
-use Rattle.spans.specs.declared.calls.commands.Cmd.{Cmd}
-use Rattle.shared_db.specs.declared.db.Db.{Db}
+use Rattle.races.specs.Prelude.{Cmd, Db}
 use Rattle.races.specs.declared.ended.Ended.{Ended}
 use Rattle.races.specs.declared.racing.Plays.{Plays}
 use Rattle.races.specs.Playing.{HasEnded}

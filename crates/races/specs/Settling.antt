@@ -2,15 +2,9 @@
 use Rattle.std.specs.Prelude.{◌≡◌, ℕ, ◌+◌, ◌<◌, List, reverse, length, flat_map, IsPermutation, true}
 use mathlib.Core.Option.{some}
 use lib.ListN.{get_elem?}
-use Rattle.spans.specs.declared.calls.events.Event.{Event}
-use Rattle.spans.specs.Legal.{IsGapless}
+use Rattle.races.specs.Prelude.{Db, Event, IsGapless, IsTrace, first_of, most, number, of_seat, seat_count}
 use Rattle.engine.specs.declared.Engine.{Engine}
 use Rattle.engine.specs.Engine.{StandsFor, steps_of}
-use Rattle.ticket_lock.specs.Lists.{most, of_seat}
-use Rattle.ticket_lock.specs.Seats.{number}
-use Rattle.shared_db.specs.declared.db.Db.{Db}
-use Rattle.shared_db.specs.Seats.{first_of, seat_count}
-use Rattle.trace_check.specs.Traces.{IsTrace}
 use Rattle.races.specs.declared.ended.Ended.{Ended}
 
 -- what one session has is all that its seat has in the history, in order; where a call of it was refused, all positions are used

@@ -1,8 +1,6 @@
 //! Sessions that race: a thread for each.
 ghost use Rattle.std.specs.Prelude.{◌≡◌, ◌≢◌, ◌↔◌, ◌<◌, vec_len, true, IfOk, IfErr, All};
-ghost use Rattle.spans.specs.declared.calls.commands.Cmd.{Cmd};
-ghost use Rattle.ticket_lock.specs.Seats.{number};
-ghost use Rattle.shared_db.specs.Seats.{IsOf};
+ghost use Rattle.races.specs.Prelude.{Cmd, IsOf, number};
 ghost use Rattle.races.specs.Playing.{IsIdle, IsPlayed};
 ghost use Rattle.races.specs.declared.racing.RaceError.TheVariants.{Counts};
 ghost use Rattle.races.specs.Racing.{AreStarted, AreOk, AllEnded};

@@ -1,10 +1,7 @@
 -- Readers between two bounds, by the place where those above the lower one begin.
-use Rattle.std.proofs.lemmas.Grind.{common_steps}
+use Rattle.read_marks.proofs.Common.{AtMost, IsBetween, IsNonDecreasing, common_steps, get_or_default}
 use Rattle.std.proofs.Common.{ℕ, List, Bool, true, false, not, ◌&&◌, ◌≡◌, ◌<◌, ◌≤◌, ◌-◌, ◌↔◌, length, get_or, arith, Option, None, Some, refl, ◌∙◌, slice_get}
-use Rattle.std.specs.List.Sorted.{IsNonDecreasing}
-use Rattle.std.proofs.lemmas.List.{get_or_default}
 use Rattle.std.proofs.lemmas.Option.{get_or_from_slice_get, slice_get_within}
-use Rattle.kept.specs.Marks.{AtMost, IsBetween}
 use Rattle.read_marks.specs.Readers.{SplitsAt, is_kept, is_reader}
 use Rattle.read_marks.proofs.Splitting.{from_place, reader_is}
 

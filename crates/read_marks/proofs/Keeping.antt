@@ -1,9 +1,6 @@
 -- Readers of which some are forgotten.
 use Rattle.std.proofs.Common.{ℕ, List, Bool, true, ◌&&◌, ◌≡◌, ◌<◌, ◌≤◌, ◌⊎◌, inl, inr, ap, ◌∙◌, arith, nat_lt, lt-ltb}
-use Rattle.std.proofs.Math.Bool.{and_self_left}
-use Rattle.std.proofs.lemmas.Bool.{and_parts}
-use Rattle.std.specs.List.{filter}
-use Rattle.kept.specs.Marks.{IsPiece}
+use Rattle.read_marks.proofs.Common.{IsPiece, and_parts, and_self_left, filter}
 use Rattle.read_marks.specs.Readers.{is_kept, is_reader}
 use Rattle.read_marks.proofs.Splitting.{filtered_reader}
 

@@ -1,3 +1,4 @@
+pub mod Common
 pub mod Splitting
 pub mod Between
 pub mod Merging

@@ -1,13 +1,9 @@
 -- The readers of one segment, where those of a gap become one.
-use Rattle.std.proofs.lemmas.Grind.{common_steps}
+use Rattle.read_marks.proofs.Common.{Contains, IsNonDecreasing, IsPiece, common_steps, drop-set-lt, get_or-append_right, get_or_append_left, get_or_default, insert, length-set, refill, take_more_set}
 use Rattle.std.proofs.Common.{ℕ, List, [], ◌∷◌, ◌++◌, Bool, true, false, ◌≡◌, ◌<◌, ◌≤◌, ◌-◌, ◌+◌, ◌⊎◌, inl, inr, length, get_or, take, drop, leb, leb-true, leb-false, arith, refl, ap, sym, length-append, append_assoc, max, set, subst, ◌∙◌, Err, Ok, OnErr, OnOk, Result}
-use Rattle.std.specs.List.{Contains, insert, refill}
-use Rattle.std.specs.List.Sorted.{IsNonDecreasing}
 use Rattle.std.proofs.Math.Seq.{take-append_seam}
-use Rattle.std.proofs.lemmas.List.{length-set, get_or_default, get_or-append_right, get_or_append_left, take_more_set, drop-set-lt}
 use Rattle.std.proofs.lemmas.List.Sorted.{IsNonDecreasingBy-push, IsNonDecreasingBy-take, IsNonDecreasingBy-drop}
 use Rattle.std.proofs.lemmas.List.Elements.{Contains-get_or, Contains-append_left, Contains-append_right, Contains-append_cases, Contains-push, Contains-push_cases}
-use Rattle.kept.specs.Marks.{IsPiece}
 use Rattle.read_marks.specs.Readers.{is_reader, SplitsAt}
 use Rattle.read_marks.proofs.Splitting.{reader_is, in_front, in_back, to_front, to_back}
 

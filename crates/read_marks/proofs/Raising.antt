@@ -1,20 +1,9 @@
 -- The readers between two starts have risen, and those that are forgotten have gone.
 use Rattle.std.proofs.Common.{ℕ, List, [], ◌∷◌, Bool, true, false, cond, not, ◌&&◌, ◌≡◌, refl, sym, ap, ◌∙◌, map, Option, Some, None, IsSome, nat_le, unwrap_or}
-use Rattle.std.specs.List.{AllByRecursion}
-use Rattle.std.specs.List.Sorted.{IsStrictlySortedBy}
-use Rattle.std.specs.Map.{keys_of, lookup}
-use Rattle.std.specs.Ordering.{ordering_reverse, is_eq, is_le, is_lt}
-use Rattle.std.specs.BTreeMap.{IsOrdered, is_at}
+use Rattle.read_marks.proofs.Common.{AllByRecursion, Equal, Greater, IsOrdered, IsStrictlySortedBy, Less, Ordering, alike_right, in_span, is_at, is_eq, is_le, is_lt, key_cmp, keys_of, lookup, nat_list_cmp_total, not-not, ordering_reverse}
 use Rattle.std.specs.BTreeMap.Range.{range_contains}
-use Rattle.std.specs.declared.cmp.Ordering.{Ordering}
-use Rattle.std.specs.declared.cmp.Ordering.TheVariants.{Less, Equal, Greater}
 use Rattle.std.specs.declared.ops.Bound.TheVariants.{Included}
-use Rattle.std.specs.Cmp.{alike_right}
-use Rattle.std.specs.Cmp.Lexicographic.{nat_list_cmp_total}
-use Rattle.std.proofs.Math.Bool.{not-not}
-use Rattle.timestamps.specs.Bytes.{key_cmp}
 use Rattle.spans.specs.KeyOrder.{below_high, from_low}
-use Rattle.spans.specs.Keys.{in_span}
 use Rattle.spans.specs.declared.span.Span.{Span}
 use Rattle.read_marks.specs.Spans.{IsEnd, IsStart, end_at, is_between, latest_in, reaches, step_at}
 use Rattle.read_marks.specs.declared.span_marks.SpanMarks.{SpanMarks}

@@ -1,19 +1,8 @@
 -- The latest readers of some starts rise, one start after another.
-use Rattle.std.proofs.lemmas.Grind.{common_steps}
+use Rattle.read_marks.proofs.Common.{AllByRecursion, IsStrictlySortedBy, Less, by_test, common_steps, filter, has, has_filtered, is_at, is_eq, key_cmp, key_itself, keys_of, lookup, or_right, same_key, set_value, take_more}
 use Rattle.std.proofs.Common.{ℕ, List, [], ◌∷◌, ◌++◌, Bool, true, false, cond, ◌||◌, ◌&&◌, ◌≡◌, ◌<◌, ◌+◌, refl, sym, ap, ◌∙◌, length, take, get_or, arith, subst, max, Option, Some, None}
 use Rattle.std.specs.Prelude.{bytes_eq}
-use Rattle.std.specs.List.{AllByRecursion, filter}
-use Rattle.std.specs.List.Sorted.{IsStrictlySortedBy}
-use Rattle.std.specs.Map.{keys_of, lookup, set_value}
-use Rattle.std.specs.Ordering.{is_eq}
-use Rattle.std.specs.BTreeMap.{is_at}
-use Rattle.std.specs.declared.cmp.Ordering.TheVariants.{Less}
 use Rattle.std.proofs.lemmas.Map.Text.{is_eq-slice_cmp}
-use Rattle.std.proofs.lemmas.Bool.{or_right}
-use Rattle.std.proofs.lemmas.List.{take_more}
-use Rattle.timestamps.specs.Bytes.{key_cmp}
-use Rattle.spans.proofs.Steps.{by_test, key_itself, same_key}
-use Rattle.spans.proofs.WriteSets.{has, has_filtered}
 use Rattle.read_marks.specs.Spans.{raised, starts_in}
 use Rattle.read_marks.proofs.Raising.{Entries, picks}
 

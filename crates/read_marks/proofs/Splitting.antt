@@ -1,11 +1,6 @@
 -- A rising list of readers, divided at a number.
-use Rattle.std.proofs.lemmas.Grind.{common_steps}
+use Rattle.read_marks.proofs.Common.{Contains, common_steps, eqb-true, filter, get_or-drop, is_member-Decides, is_member-filter, le-ltb, nat_eq_equiv, unsigned_Decides}
 use Rattle.std.proofs.Common.{ℕ, zero, suc, List, [], ◌∷◌, Bool, true, false, ◌&&◌, cond, nat_lt, refl, lt-ltb, ◌≡◌, ◌<◌, ◌≤◌, ◌+◌, ◌-◌, length, get_or, take, drop, leb-true, leb-false, arith, ap, ◌∙◌, Decides, length-drop}
-use Rattle.std.specs.Cmp.{unsigned_Decides, nat_eq_equiv}
-use Rattle.std.specs.List.{Contains, filter}
-use Rattle.std.proofs.lemmas.Bool.{le-ltb, eqb-true}
-use Rattle.std.proofs.lemmas.List.{get_or-drop}
-use Rattle.std.proofs.lemmas.Map.Made.{is_member-Decides, is_member-filter}
 use Rattle.read_marks.specs.Readers.{is_reader, SplitsAt}
 
 pub reader_is : (xs : List ℕ) (j : ℕ) → Decides (is_reader xs j) (Contains xs j)

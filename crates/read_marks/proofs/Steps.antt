@@ -1,13 +1,6 @@
 -- Step functions over entries that are sorted by an order.
 use Rattle.std.proofs.Common.{List, [], ◌∷◌, ◌++◌, Bool, true, false, cond, not, ◌≡◌, refl, sym, ap, ◌∙◌, Option, Some, None}
-use Rattle.std.specs.List.{filter, AllByRecursion}
-use Rattle.std.specs.List.Sorted.{IsStrictlySortedBy}
-use Rattle.std.specs.Map.{keys_of, lookup, remove_entry}
-use Rattle.std.specs.Cmp.{IsTotalOrder}
-use Rattle.std.specs.Ordering.{is_lt, is_le, is_eq, match_ordering}
-use Rattle.std.specs.BTreeMap.{insert_entry, is_at}
-use Rattle.std.specs.declared.cmp.Ordering.{Ordering}
-use Rattle.std.specs.declared.cmp.Ordering.TheVariants.{Less, Equal, Greater}
+use Rattle.read_marks.proofs.Common.{AllByRecursion, Equal, Greater, IsStrictlySortedBy, IsTotalOrder, Less, Ordering, filter, insert_entry, is_at, is_eq, is_le, is_lt, keys_of, lookup, match_ordering, remove_entry}
 use Rattle.read_marks.specs.Spans.{step_at}
 
 -- the value of the last entry

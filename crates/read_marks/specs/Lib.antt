@@ -1,3 +1,4 @@
+pub mod Prelude
 pub mod Readers
 pub mod Starts
 pub mod Spans

@@ -1,28 +1,14 @@
 -- What a consumer has that goes on with rows of which some are told again: the map, before the first row of each later timestamp.
-use Rattle.std.proofs.lemmas.Grind.{common_steps}
+use Rattle.replica.proofs.Common.{AllTaken, Effect, Feed, FeedIsRight, GoesOn, Map, Message, Row, Span, by_rows, by_rows_join, by_test, common_steps, floor_join, high_rows, is_new, list_of, list_views, low_rows, low_then_high, ltb-true, map_at, put, ready_view, row_near_floor, rows_in, seed_of, seen_after, span_part, split_list, start_of, streamed, taken_before, told_low, told_to, view_of, view_rows}
 use Rattle.std.proofs.Common.{◌≡◌, ℕ, suc, ◌-◌, ◌<◌, ◌≤◌, ◌⊎◌, inl, inr, Bool, true, false, List, [], ◌∷◌, ◌++◌, refl, sym, ◌∙◌, ap, subst, append_assoc, arith}
 use Rattle.std.specs.Prelude.{bytes_eq, filter, max, nat_lt}
-use Rattle.std.proofs.lemmas.Bool.{ltb-true}
 use Rattle.std.proofs.lemmas.List.Elements.{filter_map-append}
-use Rattle.timestamps.specs.declared.row.Row.{Row}
-use Rattle.spans.specs.declared.span.Span.{Span}
-use Rattle.spans.specs.declared.calls.messages.Message.{Message}
 use Rattle.spans.specs.declared.calls.messages.Message.TheVariants as messages
-use Rattle.spans.specs.Effects.{Effect}
 use Rattle.spans.specs.Transactions.{closed_of}
-use Rattle.spans.specs.Serial.{Map, put, map_at, span_part}
 use Rattle.spans.specs.Streams.{stream_of}
-use Rattle.spans.specs.Feeds.{Feed, told_to, rows_in, list_of, start_of}
 use Rattle.spans.specs.Collection.{floor_after}
-use Rattle.spans.specs.FeedRight.{FeedIsRight}
-use Rattle.spans.specs.Consumer.{view_of, seed_of, AllTaken}
-use Rattle.spans.specs.Completeness.{GoesOn, seen_after, is_new}
-use Rattle.spans.proofs.Steps.{by_test}
 use Rattle.spans.proofs.StreamOrder.{IsRowIn, RisingRows, IsStreamed, in_append, in_stream, rises_parts}
 use Rattle.spans.proofs.Listing.{in_list, list_rises}
-use Rattle.spans.proofs.Viewing.{by_rows, by_rows_join, view_rows, list_views, streamed}
-use Rattle.spans.proofs.Floors.{floor_join, row_near_floor, taken_before}
-use Rattle.spans.proofs.Complete.{high_rows, low_rows, low_then_high, split_list, told_low, ready_view}
 
 -- a timestamp that is new above one cursor is new above each lower one
 pub new_above : (c d t : ℕ) (taken : List Message) → is_new c taken t ≡ true → d < t → is_new d taken t ≡ true

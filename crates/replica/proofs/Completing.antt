@@ -1,18 +1,8 @@
 -- A replica of a feed is complete at each resolved timestamp.
-use Rattle.std.proofs.lemmas.Grind.{common_steps}
+use Rattle.replica.proofs.Common.{AllAbove, AllTaken, AreRows, CompleteIsRight, ConsumerIsRight, Effect, Feed, FeedIsRight, Map, Message, all_above_floor, common_steps, complete_for, complete_is, feed_of, is_new, map_at, put, seed_of, seen_after, span_part, start_of, taken_after, told_to, view_of}
 use Rattle.std.proofs.Common.{◌≡◌, ℕ, ◌-◌, ◌<◌, Bool, true, false, cond, List, [], ◌∷◌, ◌++◌, Some, None, sym, ◌∙◌, ap, subst, arith}
 use Rattle.std.specs.Prelude.{bytes_eq}
-use Rattle.spans.specs.declared.calls.messages.Message.{Message}
 use Rattle.spans.specs.declared.calls.messages.Message.TheVariants as messages
-use Rattle.spans.specs.Effects.{Effect}
-use Rattle.spans.specs.Keys.{AreRows}
-use Rattle.spans.specs.Serial.{Map, put, map_at, span_part}
-use Rattle.spans.specs.Feeds.{Feed, feed_of, told_to, start_of}
-use Rattle.spans.specs.FeedRight.{FeedIsRight}
-use Rattle.spans.specs.Consumer.{view_of, seed_of, AllTaken, ConsumerIsRight}
-use Rattle.spans.specs.Completeness.{AllAbove, complete_for, seen_after, is_new, CompleteIsRight}
-use Rattle.spans.proofs.Floors.{all_above_floor, taken_after}
-use Rattle.spans.proofs.Complete.{complete_is}
 use Rattle.replica.specs.declared.replica.Replica.{Replica}
 use Rattle.replica.specs.Replicas.{view_in, through_in, Follows}
 use Rattle.replica.specs.Starts.{Start, seeded_start, initial_start, IsStartOf}

@@ -1,20 +1,10 @@
 -- A replica after one message more.
-use Rattle.std.proofs.lemmas.Grind.{common_steps}
+use Rattle.replica.proofs.Common.{ApplyFault, Map, Message, Row, Span, apply_fault, common_steps, complete_after, floor_join, in_span, is_after, is_new, is_row_of, last_resolved, last_row, put, reaches, ready_after, resolved_join, view_of}
 use Rattle.std.proofs.Common.{◌≡◌, ℕ, ◌-◌, ◌<◌, Bool, true, false, cond, not, ◌&&◌, List, [], ◌∷◌, ◌++◌, Option, Some, None, refl, sym, ◌∙◌, ap, subst, arith}
 use Rattle.std.specs.Prelude.{nat_lt, max, option_map, is_none}
 use Rattle.std.proofs.lemmas.Bool.Decides.{nat_tests}
-use Rattle.timestamps.specs.declared.row.Row.{Row}
-use Rattle.spans.specs.declared.span.Span.{Span}
-use Rattle.spans.specs.declared.calls.messages.Message.{Message}
 use Rattle.spans.specs.declared.calls.messages.Message.TheVariants as messages
-use Rattle.spans.specs.Keys.{in_span}
-use Rattle.spans.specs.Serial.{Map, put}
-use Rattle.spans.specs.Feeds.{last_resolved}
 use Rattle.spans.specs.Consumer as consumer
-use Rattle.spans.specs.Consumer.{view_of, last_row, is_after, reaches, apply_fault, ApplyFault}
-use Rattle.spans.specs.Completeness.{ready_after, complete_after, is_row_of, is_new}
-use Rattle.spans.proofs.Feeding.{resolved_join}
-use Rattle.spans.proofs.Floors.{floor_join}
 use Rattle.replica.specs.declared.replica.Replica.{Replica}
 use Rattle.replica.specs.declared.fault.Fault.{Fault}
 use Rattle.replica.specs.declared.fault.Fault.TheVariants as faults

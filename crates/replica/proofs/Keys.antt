@@ -1,11 +1,8 @@
 -- The keys of a value, as they are copied.
-use Rattle.std.proofs.lemmas.Grind.{common_steps}
+use Rattle.replica.proofs.Common.{BTreeSet, IsIn, RisingKeys, append-nil, common_steps}
 use Rattle.std.proofs.Common.{arith}
 use Rattle.std.proofs.Common.{◌≡◌, ℕ, true, List, [], ◌∷◌, ◌++◌, Option, Some, Result, Ok, Err, sym, ◌∙◌, ap, subst}
 use Rattle.std.specs.Prelude.{IfOk, ◌↔◌}
-use Rattle.std.specs.BTreeSet.{BTreeSet}
-use Rattle.std.proofs.lemmas.List.{append-nil}
-use Rattle.spans.proofs.Keyed.{IsIn, RisingKeys}
 use Rattle.replica.specs.Indexes.{Keyed, is_among, is_listed, IsIndexOf}
 use Rattle.replica.specs.Rows.{value_at, AreKeysWith}
 use Rattle.replica.proofs.Rising.{is_in_set}

@@ -1,3 +1,4 @@
+pub mod Common
 pub mod Listed
 pub mod Tied
 pub mod Rising

@@ -1,15 +1,10 @@
 -- What is listed after the keys of one value changed.
-use Rattle.std.proofs.lemmas.Grind.{common_steps}
+use Rattle.replica.proofs.Common.{BTreeMap, BTreeSet, by_test, common_steps, is_at, key_cmp, lookup, same_key}
 use Rattle.std.proofs.Common.{arith}
 use Rattle.std.proofs.Common.{rules}
 use Rattle.std.proofs.Common.{◌≡◌, ℕ, false, cond, ◌&&◌, ◌||◌, List, Option, sym, subst}
 use Rattle.std.specs.Prelude.{bytes_eq}
-use Rattle.std.specs.Map.{lookup}
-use Rattle.std.specs.BTreeMap.{BTreeMap, is_at}
-use Rattle.std.specs.BTreeSet.{BTreeSet}
 use Rattle.std.proofs.lemmas.Map.Text.{is_eq-slice_cmp}
-use Rattle.timestamps.specs.Bytes.{key_cmp}
-use Rattle.spans.proofs.Steps.{by_test, same_key}
 use Rattle.replica.specs.Indexes.{Keyed, is_among, is_listed}
 
 pub at_bytes : (v u : List ℕ) → is_at (key_cmp v) u ≡ bytes_eq v u

@@ -1,9 +1,7 @@
 -- A value that was put at a key of a map.
 use Rattle.std.proofs.Common.{◌≡◌, ℕ, false, cond, List, Option, Some, None, sym, ◌∙◌, ap, subst}
 use Rattle.std.specs.Prelude.{bytes_eq}
-use Rattle.std.specs.Map.{lookup}
-use Rattle.std.specs.BTreeMap.{is_at}
-use Rattle.timestamps.specs.Bytes.{key_cmp}
+use Rattle.replica.proofs.Common.{is_at, key_cmp, lookup}
 use Rattle.replica.specs.Rows.{value_at}
 use Rattle.replica.specs.Values.{has_value}
 use Rattle.replica.proofs.Tied.{Lists, AreTied, IsMore, IsLess, IsPut, put_at, tied_new, tied_other}

@@ -1,19 +1,9 @@
 -- Rows and keys that rise, and what they say of a map.
-use Rattle.std.proofs.lemmas.Grind.{common_steps}
+use Rattle.replica.proofs.Common.{AllByRecursion, IsIn, IsPairIn, KeysRise, Less, Span, by_test, common_steps, false_from_ne_true, in_span, is_at, key_clash, key_cmp, key_itself, keys_of, list_any, or_cases, or_left, or_right, same_key}
 use Rattle.std.proofs.Common.{rules}
 use Rattle.std.proofs.Common.{◌≡◌, ℕ, zero, suc, ◌+◌, ◌<◌, true, List, [], ◌∷◌, length, get_or, Some, refl, subst, inl, inr, arith}
 use Rattle.std.specs.Prelude.{◌↔◌}
-use Rattle.std.specs.List.{AllByRecursion, list_any}
 use Rattle.std.specs.List.Sorted.{IsStrictlySortedBy}
-use Rattle.std.specs.Map.{keys_of}
-use Rattle.std.specs.BTreeMap.{is_at}
-use Rattle.std.specs.declared.cmp.Ordering.TheVariants.{Less}
-use Rattle.std.proofs.lemmas.Bool.{false_from_ne_true, or_cases, or_left, or_right}
-use Rattle.timestamps.specs.Bytes.{key_cmp}
-use Rattle.spans.specs.declared.span.Span.{Span}
-use Rattle.spans.specs.Keys.{in_span, IsPairIn, KeysRise}
-use Rattle.spans.proofs.Keyed.{IsIn, key_clash}
-use Rattle.spans.proofs.Steps.{by_test, same_key, key_itself}
 use Rattle.replica.specs.Rows.{value_at, AreRowsOf}
 use Rattle.replica.specs.Starts.{AreInside}
 use Rattle.replica.proofs.Listed.{at_bytes}

@@ -3,14 +3,7 @@ use Rattle.std.proofs.Common.{arith}
 use Rattle.std.proofs.Common.{rules}
 use Rattle.std.proofs.Common.{◌≡◌, ℕ, false, cond, List, [], ◌∷◌, ◌++◌, map, Option, Some, None, refl, sym, ◌∙◌, ap}
 use Rattle.std.specs.Prelude.{bytes_eq}
-use Rattle.std.specs.declared.cmp.Ordering.TheVariants.{Less}
-use Rattle.std.proofs.lemmas.Bool.{both_ways}
-use Rattle.timestamps.specs.Bytes.{key_cmp}
-use Rattle.spans.specs.declared.span.Span.{Span}
-use Rattle.spans.specs.Keys.{in_span, IsPairIn, KeysRise, AreRows, value_among}
-use Rattle.spans.specs.Serial.{Map, put, span_part}
-use Rattle.spans.proofs.Keyed.{pair_among, among_rows, key_clash}
-use Rattle.spans.proofs.Steps.{by_test, same_key}
+use Rattle.replica.proofs.Common.{AreRows, IsPairIn, KeysRise, Less, Map, Span, among_rows, both_ways, by_test, in_span, key_clash, key_cmp, pair_among, put, same_key, span_part, value_among}
 
 abbrev Pairs : Type 0
 Pairs = List (List ℕ × List ℕ)

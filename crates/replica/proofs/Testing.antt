@@ -1,14 +1,9 @@
 -- The tests of the rows that a replica begins with.
-use Rattle.std.proofs.lemmas.Grind.{common_steps}
+use Rattle.replica.proofs.Common.{KeysRise, Less, Span, common_steps, in_span, key_cmp, keys_of}
 use Rattle.std.proofs.Common.{◌≡◌, ℕ, zero, suc, ◌+◌, ◌-◌, ◌<◌, ◌≤◌, true, false, List, [], ◌∷◌, length, get_or, refl, sym, ◌∙◌, ap, arith}
-use Rattle.std.specs.Map.{keys_of}
-use Rattle.std.specs.declared.cmp.Ordering.TheVariants.{Less}
 use Rattle.std.proofs.lemmas.Cmp.{nat_list_cmp_total}
 use Rattle.std.proofs.lemmas.Map.Keys.{sorted_from_all_adjacent}
 use Rattle.std.proofs.lemmas.Map.Entries.{length-keys_of}
-use Rattle.timestamps.specs.Bytes.{key_cmp}
-use Rattle.spans.specs.declared.span.Span.{Span}
-use Rattle.spans.specs.Keys.{in_span, KeysRise}
 use Rattle.replica.proofs.Rising.{rows_rise, rise_at, keys_at}
 
 abbrev Pairs : Type 0

@@ -1,15 +1,10 @@
 -- The tie of an index to its rows, after a change of both.
-use Rattle.std.proofs.lemmas.Grind.{common_steps}
+use Rattle.replica.proofs.Common.{Map, both_ways, by_test, common_steps, false_from_ne_true, is_at, key_cmp, key_itself, put, same_key}
 use Rattle.std.proofs.Common.{arith}
 use Rattle.std.proofs.Common.{rules}
 use Rattle.std.proofs.Common.{◌≡◌, ℕ, Bool, true, false, cond, ◌&&◌, ◌||◌, List, Option, Some, None, refl, sym, ◌∙◌, ap}
 use Rattle.std.specs.Prelude.{bytes_eq, ◌↔◌}
-use Rattle.std.proofs.lemmas.Bool.{false_from_ne_true, both_ways}
 use Rattle.std.proofs.Math.Bool.{and-true, and-false, or-false}
-use Rattle.std.specs.BTreeMap.{is_at}
-use Rattle.timestamps.specs.Bytes.{key_cmp}
-use Rattle.spans.specs.Serial.{Map, put}
-use Rattle.spans.proofs.Steps.{by_test, same_key, key_itself}
 use Rattle.replica.specs.Values.{has_value}
 use Rattle.replica.proofs.Listed.{at_bytes}
 

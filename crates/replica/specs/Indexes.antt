@@ -1,9 +1,7 @@
 -- Which keys an index has under each value.
 use Rattle.std.specs.Prelude.{ℕ, List, [], Bool, false, ◌≡◌, ◌≢◌, Option, Some, None}
-use Rattle.std.specs.Map.{lookup}
-use Rattle.std.specs.BTreeMap.{is_at}
+use Rattle.replica.specs.Prelude.{is_at, key_cmp, lookup}
 use Rattle.std.specs.BTreeSet.{BTreeSet, contains}
-use Rattle.timestamps.specs.Bytes.{key_cmp}
 use Rattle.replica.specs.Rows.{value_at}
 use Rattle.replica.specs.Values.{has_value}
 

@@ -1,3 +1,4 @@
+pub mod Prelude
 pub mod Rows
 pub mod Values
 pub mod Indexes

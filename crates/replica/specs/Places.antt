@@ -1,7 +1,6 @@
 -- What comes after a place among rows.
 use Rattle.std.specs.Prelude.{ℕ, Bool, true, false, ◌&&◌, ◌||◌, ◌==◌, nat_lt, nat_le, Option, Some, None}
-use Rattle.timestamps.specs.declared.row.Row.{Row}
-use Rattle.spans.specs.KeyOrder.{key_lt}
+use Rattle.replica.specs.Prelude.{Row, key_lt}
 use Rattle.replica.specs.declared.place.Place.{Place}
 
 -- where a row stands

@@ -1,12 +1,8 @@
 -- What a replica holds, and what it has taken.
 use Rattle.std.specs.Prelude.{ℕ, List, [], ◌∷◌, ◌++◌, ◌≡◌, nat_lt, if◌then◌else◌, Option, Some, None, option_map}
-use Rattle.spans.specs.declared.calls.messages.Message.{Message}
-use Rattle.spans.specs.declared.span.Span.{Span}
-use Rattle.spans.specs.Serial.{Map}
-use Rattle.spans.specs.Feeds.{last_resolved}
+use Rattle.replica.specs.Prelude.{ApplyFault, Map, Message, Span, apply_fault, last_resolved, last_row, view_of}
 use Rattle.spans.specs.Collection.{floor_after}
 use Rattle.spans.specs.Consumer as consumer
-use Rattle.spans.specs.Consumer.{view_of, last_row, apply_fault, ApplyFault}
 use Rattle.replica.specs.declared.fault.Fault.{Fault}
 use Rattle.replica.specs.declared.fault.Fault.TheVariants as faults
 use Rattle.replica.specs.declared.replica.Replica.{Replica}

@@ -1,11 +1,7 @@
 -- When replicas of a feed are right.
 use Rattle.std.specs.Prelude.{ℕ, ◌<◌, List, [], ◌∷◌, ◌++◌, ◌≡◌, Some}
 use Rattle.spans.specs.declared.calls.messages.Message.TheVariants as messages
-use Rattle.spans.specs.declared.calls.messages.Message.{Message}
-use Rattle.spans.specs.Effects.{Effect}
-use Rattle.spans.specs.Serial.{map_at, span_part}
-use Rattle.spans.specs.Feeds.{Feed, feed_of, told_to}
-use Rattle.spans.specs.Consumer.{AllTaken}
+use Rattle.replica.specs.Prelude.{AllTaken, Effect, Feed, Message, feed_of, map_at, span_part, told_to}
 use Rattle.spans.specs.Completeness.{AllAbove, GoesOn}
 use Rattle.replica.specs.declared.replica.Replica.{Replica}
 use Rattle.replica.specs.Starts.{Start, IsStartOf}

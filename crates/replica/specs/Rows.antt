@@ -1,11 +1,6 @@
 -- Rows as a map, and lists of rows and of keys that say what a map has.
 use Rattle.std.specs.Prelude.{ℕ, List, ◌≡◌, ◌↔◌, Some, length}
-use Rattle.std.specs.Map.{lookup}
-use Rattle.std.specs.BTreeMap.{is_at}
-use Rattle.timestamps.specs.Bytes.{key_cmp}
-use Rattle.spans.specs.Serial.{Map}
-use Rattle.spans.specs.Keys.{IsPairIn, KeysRise}
-use Rattle.spans.proofs.Keyed.{IsIn, RisingKeys}
+use Rattle.replica.specs.Prelude.{IsIn, IsPairIn, KeysRise, Map, RisingKeys, is_at, key_cmp, lookup}
 
 -- what the entries of a map have at a key
 abbrev pub value_at : List (List ℕ × List ℕ) → Map

@@ -1,13 +1,7 @@
 -- Where a replica begins, and which rows it may begin with.
 use Rattle.std.specs.Prelude.{ℕ, List, [], ◌∷◌, true, false, ◌≡◌, Option, Some, None, if◌then◌else◌}
-use Rattle.spans.specs.declared.span.Span.{Span}
-use Rattle.spans.specs.declared.calls.messages.Message.{Message}
+use Rattle.replica.specs.Prelude.{AreRows, Effect, Feed, IsPairIn, KeysRise, Map, Message, Span, in_span, kind_of, map_at, seed_of, start_at, start_of, value_among}
 use Rattle.spans.specs.declared.calls.messages.Message.TheVariants as messages
-use Rattle.spans.specs.Keys.{in_span, AreRows, IsPairIn, KeysRise, value_among}
-use Rattle.spans.specs.Effects.{Effect, kind_of}
-use Rattle.spans.specs.Serial.{Map, map_at}
-use Rattle.spans.specs.Feeds.{Feed, start_at, start_of}
-use Rattle.spans.specs.Consumer.{seed_of}
 use Rattle.replica.specs.declared.fault.Fault.{Fault}
 use Rattle.replica.specs.declared.fault.Fault.TheVariants as faults
 

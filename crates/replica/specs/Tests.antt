@@ -1,9 +1,7 @@
 -- The tests of a message by what a replica holds.
 use Rattle.std.specs.Prelude.{ℕ, Bool, not, ◌&&◌, ◌-◌, nat_lt, Option, Some, None, is_none, if◌then◌else◌}
-use Rattle.timestamps.specs.declared.row.Row.{Row}
-use Rattle.spans.specs.declared.calls.messages.Message.{Message}
+use Rattle.replica.specs.Prelude.{Message, Row, in_span}
 use Rattle.spans.specs.declared.calls.messages.Message.TheVariants as messages
-use Rattle.spans.specs.Keys.{in_span}
 use Rattle.replica.specs.declared.fault.Fault.{Fault}
 use Rattle.replica.specs.declared.fault.Fault.TheVariants as faults
 use Rattle.replica.specs.declared.replica.Replica.{Replica}

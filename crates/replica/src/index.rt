@@ -1,4 +1,4 @@
-//! Which keys have each value.
+//! The index by value beneath the rows: which keys have each value.
 ghost use Rattle.std.specs.Prelude.{◌≡◌, ◌&&◌, ◌||◌, ◌↔◌, ℕ, List, false, true, bytes_eq, if◌then◌else◌, OnOk, OnErr, IfOk};
 ghost use Rattle.spans.proofs.Keyed.{IsIn, RisingKeys};
 ghost use Rattle.replica.specs.Indexes.{is_listed};

@@ -1,12 +1,8 @@
 //! The law of replicas: what holds of the replicas of every legal history's feeds, as the contract of one function.
 ghost use Rattle.std.specs.Prelude.{List, ℕ, true, ◌≡◌};
 ghost use Rattle.spans.specs.declared.calls.events.Event.{Event};
-ghost use Rattle.spans.specs.declared.span.Span.{Span};
-ghost use Rattle.spans.specs.Effects.{Effect, effects_of};
+ghost use Rattle.replica.specs.Prelude.{AreRows, Effect, Feed, Map, Span, effects_of};
 ghost use Rattle.spans.specs.Legal.{IsLegal};
-ghost use Rattle.spans.specs.Keys.{AreRows};
-ghost use Rattle.spans.specs.Serial.{Map};
-ghost use Rattle.spans.specs.Feeds.{Feed};
 ghost use Rattle.replica.specs.Starts.{Pairs, seeded_by, initial_start, MayBegin, IsSeedAt, IsStartOf};
 ghost use Rattle.replica.specs.Right.{ReplicasAreRight};
 

@@ -1,4 +1,5 @@
-//! Replicas of a span.
+//! A replica of a span, as its user calls it: it takes messages in, and answers what is there and which keys have a
+//! value.
 ghost use Rattle.std.specs.Prelude.{◌≡◌, ◌==◌, ℕ, List, [], None, Some, OnOk, OnErr, IfOk, IfErr};
 ghost use Rattle.std.specs.Option.{option_copied};
 ghost use Rattle.spans.specs.declared.calls.messages.Message.TheVariants as messages;

@@ -1,7 +1,6 @@
 //! What a replica begins with.
 ghost use Rattle.std.specs.Prelude.{◌≡◌, ◌↔◌, ℕ, List, Some, IfOk, true};
-ghost use Rattle.spans.specs.Keys.{KeysRise, value_among};
-ghost use Rattle.spans.specs.KeyOrder.{key_lt};
+ghost use Rattle.replica.specs.Prelude.{KeysRise, key_lt, value_among};
 ghost use Rattle.replica.specs.Rows.{value_at};
 ghost use Rattle.replica.specs.Starts.{AreInside};
 

@@ -1,4 +1,4 @@
-//! Rows with an index by value.
+//! The rows beneath a replica, by key and with an index by value in step.
 ghost use Rattle.std.specs.Prelude.{◌≡◌, ℕ, List, [], None, Some, IsSome, OnOk, OnErr, IfOk, length};
 ghost use Rattle.std.specs.Option.{option_copied};
 ghost use Rattle.spans.specs.Serial.{put};

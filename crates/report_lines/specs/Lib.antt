@@ -1,2 +1,3 @@
+pub mod Prelude
 pub mod Lines
 pub mod Members

@@ -1,8 +1,7 @@
 //! The lines of a report.
 ghost use Rattle.std.specs.Prelude.{◌≡◌, ◌++◌, codes, option_map, OnOk, OnErr};
 ghost use Rattle.std.specs.List.{flat_map};
-ghost use Rattle.json_lines.specs.Writing.{Keeps};
-ghost use Rattle.spans.specs.Collection.{VersionName};
+ghost use Rattle.report_lines.specs.Prelude.{Keeps, VersionName};
 ghost use Rattle.report_lines.specs.Lines.{holder_word, holder_number, member, number_or_null, oldest_members, database_line, transaction_line, protection_line, feed_line};
 
 use crate::members::Member::{Bytes, Number, NumberIfAny, Truth, Word};

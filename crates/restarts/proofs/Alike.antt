@@ -1,25 +1,9 @@
 -- The maps and the streams of a database that was rebuilt.
-use Rattle.std.proofs.lemmas.Grind.{common_steps}
+use Rattle.restarts.proofs.Common.{After, AllAllowed, Begins, Commits, Effect, IsKeptOf, IsStreamed, LiveFeed, Row, Span, Version, by_test, committed_version_of, common_steps, feeds_count, high_live, horizon_of, in_stream, is_committed, kept_version, left_version_of, live_feeds, map_at_is, nat_tests, newest_same, not_both, owner_of, stream_of, stream_rises}
 use Rattle.std.proofs.Common.{◌≡◌, ℕ, ◌<◌, ◌≤◌, true, false, List, [], ◌∷◌, length, Option, Some, None, refl, sym, ◌∙◌, ap, arith}
-use Rattle.std.proofs.lemmas.Bool.Decides.{nat_tests}
 use Rattle.std.specs.Prelude.{is_some, nat_le}
-use Rattle.timestamps.specs.declared.row.Row.{Row}
-use Rattle.spans.specs.Collection.{LiveFeed, horizon_of, live_feeds}
-use Rattle.spans.specs.Effects.{After, Begins, Commits, Effect}
-use Rattle.spans.specs.Kept.{IsKeptOf, kept_version}
-use Rattle.spans.specs.Newest.{Version}
-use Rattle.spans.specs.Promises.{left_version_of}
 use Rattle.spans.specs.Serial.{map_at}
-use Rattle.spans.specs.Streams.{stream_of}
-use Rattle.spans.specs.Transactions.{is_committed, owner_of}
-use Rattle.spans.specs.Versions.{committed_version_of}
-use Rattle.spans.specs.declared.span.Span.{Span}
-use Rattle.spans.proofs.Copies.{AllAllowed, not_both}
 use Rattle.spans.proofs.Dead.{left_newest}
-use Rattle.spans.proofs.Steps.{by_test, map_at_is, newest_same}
-use Rattle.spans.proofs.StreamOrder.{IsStreamed, in_stream, stream_rises}
-use Rattle.kept.proofs.Counts.{feeds_count}
-use Rattle.kept.proofs.Dead.{high_live}
 use Rattle.kept.proofs.Untold.{only_rows}
 use Rattle.restarts.proofs.Rebuilding.{left_kept, none_left}
 

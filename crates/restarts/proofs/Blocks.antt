@@ -1,23 +1,8 @@
 -- A transaction that is written again, step by step, in what is kept.
-use Rattle.std.proofs.lemmas.Grind.{common_steps}
+use Rattle.restarts.proofs.Common.{After, AreThose, Begin, Commit, Committed, Del, Event, Kept, MAX, Put, RisingKeys, StandsFor, Started, Transaction, Written, by_test, common_steps, event, has, has_in, has_is, in_has, nat_tests, new_transaction, refusal, rising_distinct, same_key, step_stands}
 use Rattle.std.proofs.Common.{◌≡◌, ℕ, ◌<◌, ◌≤◌, ◌==◌, Bool, true, false, cond, ◌&&◌, ◌||◌, List, [], ◌∷◌, ◌++◌, length, map, Some, None, refl, sym, ◌∙◌, ap, inl, arith}
-use Rattle.std.proofs.lemmas.Bool.Decides.{nat_tests}
 use Rattle.std.specs.Prelude.{bytes_eq, is_some, nat_le, option_map}
-use Rattle.spans.specs.Effects.{After, event}
-use Rattle.spans.specs.Kept.{Kept, Transaction}
-use Rattle.spans.specs.declared.calls.commands.Cmd.TheVariants.{Begin, Commit, Del, Put}
-use Rattle.spans.specs.declared.calls.events.Event.{Event}
-use Rattle.spans.specs.declared.calls.replies.Reply.TheVariants.{Committed, Started, Written}
 use Rattle.spans.specs.declared.state.State.TheVariants as states
-use Rattle.spans.proofs.Keyed.{RisingKeys}
-use Rattle.spans.proofs.Steps.{by_test, same_key}
-use Rattle.spans.proofs.Members.{has_is, in_has, rising_distinct}
-use Rattle.spans.proofs.WriteSets.{has, has_in}
-use Rattle.timestamps.specs.declared.ts.TheConstants.{MAX}
-use Rattle.kept.specs.StandsFor.{StandsFor}
-use Rattle.kept.specs.Lists.{AreThose}
-use Rattle.kept.specs.Table.{new_transaction, refusal}
-use Rattle.kept.proofs.Answering.{step_stands}
 use Rattle.restarts.specs.Dump.{write_step}
 use Rattle.restarts.specs.Running.{Step, with_steps}
 

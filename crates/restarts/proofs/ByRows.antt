@@ -1,24 +1,9 @@
 -- The commands of a dump are those of its rows, one after the other.
-use Rattle.std.proofs.lemmas.Grind.{common_steps}
+use Rattle.restarts.proofs.Common.{After, Close, Cmd, Collect, Commit, Effect, IsIn, IsRowIn, Row, by_test, common_steps, has_in, has_written, horizon_of, in_span, in_stream, is_committed, is_dead, left_version_of, nat_tests, rows_of, stream_of, version_name, write_of, write_set, written_value}
 use Rattle.std.proofs.Common.{◌≡◌, ℕ, zero, suc, ◌<◌, Bool, true, false, not, cond, ◌&&◌, List, [], ◌∷◌, ◌++◌, map, Option, Some, None, refl, sym, ◌∙◌, ap, inl, inr, arith, append_assoc}
-use Rattle.std.proofs.lemmas.Bool.Decides.{nat_tests}
 use Rattle.std.proofs.lemmas.List.Elements.{filter-append}
 use Rattle.std.proofs.lemmas.List.{append-nil}
 use Rattle.std.specs.Prelude.{filter, is_some, nat_lt}
-use Rattle.timestamps.specs.declared.row.Row.{Row}
-use Rattle.spans.specs.Collection.{horizon_of, is_dead, version_name}
-use Rattle.spans.specs.Effects.{After, Effect}
-use Rattle.spans.specs.Keys.{in_span}
-use Rattle.spans.specs.Promises.{left_version_of}
-use Rattle.spans.specs.Streams.{rows_of, stream_of, written_value}
-use Rattle.spans.specs.Transactions.{is_committed}
-use Rattle.spans.specs.Versions.{write_of, write_set}
-use Rattle.spans.specs.declared.calls.commands.Cmd.{Cmd}
-use Rattle.spans.specs.declared.calls.commands.Cmd.TheVariants.{Close, Collect, Commit}
-use Rattle.spans.proofs.Keyed.{IsIn}
-use Rattle.spans.proofs.Steps.{by_test}
-use Rattle.spans.proofs.StreamOrder.{IsRowIn, in_stream}
-use Rattle.spans.proofs.WriteSets.{has_in, has_written}
 use Rattle.restarts.specs.Dump.{end_steps, left_keys, transaction_steps, versions_through, write_step, write_steps}
 use Rattle.restarts.specs.Rows.{all_keys, commands_by_row, dump_commands, ended, is_left, is_open, left_rows, row_commands, started}
 use Rattle.restarts.specs.Running.{Step}

@@ -1,39 +1,8 @@
 -- What is kept of a crash: the versions that are left, and how many feeds and protections there have been.
-use Rattle.std.proofs.lemmas.Grind.{common_steps}
+use Rattle.restarts.proofs.Common.{After, AllAllowed, Begins, Cancel, Cancelled, CloseHard, Cmd, Effect, Event, HardCloses, Has, IsAlike, IsChangedBy, IsCrossed, IsKeptOf, IsReplyOf, Kept, LiveFeed, MAX, NoProtection, Place, Protection, Reads, Refused, Release, Released, Reply, Scans, StandsFor, alike_stands, answer_of, both_ways, by_test, cancel_reply, closed_of, common_steps, effect, effect_of, effects_of, event, feed_refusal, feeds_opened, has_filter, has_live, is_aborted, is_committed, left_version_of, legal_allowed, list_any, live_feeds, nat_tests, no_kept, none_of, not_both, or_parts, owner_of, place_of, protections_made, protections_of, release_reply, reply_is_answer, step_stands, too_late, version_of, write_of}
 use Rattle.std.proofs.Common.{◌≡◌, ℕ, ◌<◌, ◌≤◌, ◌==◌, Bool, true, false, not, cond, ◌&&◌, ◌||◌, List, [], ◌∷◌, ◌++◌, length, map, Option, Some, None, refl, sym, ◌∙◌, ap, subst, inl, inr, arith}
-use Rattle.std.proofs.lemmas.Bool.Decides.{nat_tests}
-use Rattle.std.proofs.lemmas.Bool.{both_ways, or_parts}
-use Rattle.std.specs.List.{list_any}
 use Rattle.std.specs.Prelude.{filter, is_some, max, nat_le, nat_lt, ◌⊎◌}
-use Rattle.timestamps.specs.declared.ts.TheConstants.{MAX}
-use Rattle.spans.specs.Answer.{answer_of}
-use Rattle.spans.specs.Collection.{LiveFeed, Protection, live_feeds, protections_made, protections_of}
-use Rattle.spans.specs.Effects.{After, Begins, Effect, HardCloses, Reads, Scans, effect, effect_of, effects_of, event}
-use Rattle.spans.specs.Feeds.{feeds_opened}
-use Rattle.spans.specs.Kept.{IsCrossed, IsKeptOf, Kept, Place, place_of}
-use Rattle.spans.specs.Promises.{left_version_of}
-use Rattle.spans.specs.Reads.{too_late}
-use Rattle.spans.specs.Transactions.{closed_of, is_aborted, is_committed, owner_of}
-use Rattle.spans.specs.Versions.{version_of, write_of}
-use Rattle.spans.specs.declared.calls.commands.Cmd.{Cmd}
-use Rattle.spans.specs.declared.calls.commands.Cmd.TheVariants.{Cancel, CloseHard, Release}
-use Rattle.spans.specs.declared.calls.events.Event.{Event}
-use Rattle.spans.specs.declared.calls.replies.Reply.{Reply}
-use Rattle.spans.specs.declared.calls.replies.Reply.TheVariants.{Cancelled, Refused, Released}
-use Rattle.spans.specs.declared.calls.replies.Refusal.TheVariants.{NoProtection}
 use Rattle.spans.proofs.Closed.{wrote_begun}
-use Rattle.spans.proofs.Copies.{AllAllowed, not_both}
-use Rattle.spans.proofs.Legal.{legal_allowed}
-use Rattle.spans.proofs.Members.{Has, has_filter}
-use Rattle.spans.proofs.Steps.{by_test, none_of}
-use Rattle.kept.specs.Answered.{IsChangedBy, IsReplyOf}
-use Rattle.kept.specs.Changes.{IsAlike}
-use Rattle.kept.specs.Replies.{cancel_reply, feed_refusal, release_reply}
-use Rattle.kept.specs.StandsFor.{StandsFor}
-use Rattle.kept.proofs.Answering.{reply_is_answer, step_stands}
-use Rattle.kept.proofs.Counts.{has_live}
-use Rattle.kept.proofs.Dead.{no_kept}
-use Rattle.kept.proofs.Standing.{alike_stands}
 use Rattle.restarts.specs.Crash.{crash}
 use Rattle.restarts.specs.Restart.{CanRestart}
 use Rattle.restarts.specs.Running.{run}

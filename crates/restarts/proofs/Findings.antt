@@ -1,39 +1,12 @@
 -- What the replies rest on can always be found in what is kept of a history: the keys of a span, the test of the marks, the
 -- keys that a transaction wrote, the oldest undecided transaction, what holds a collection back and what it drops, the rows that are left for a feed.
-use Rattle.std.proofs.lemmas.Grind.{common_steps}
+use Rattle.restarts.proofs.Common.{AllAllowed, AreDistinct, AreKeysOf, AreLeft, AreNext, AreThose, Effect, Feed, Has, IsKeptOf, IsLeastFloor, IsNumberOf, IsOldest, Kept, Place, Row, Span, VersionName, and_from, and_parts, by_test, closed_of, common_steps, distinct_filter, feed_of, feeds_opened, filter_in, filter_rises, has_filter, has_undecided, in_span, is_dead_in, is_dropped, is_open, kept_is, key_itself, keys_rise, known_is, least_of, leb-true, list_any, ltb-true, nat_tests, none_of, open_distinct, open_is, or_cases, or_left, or_min, or_right, place_floor, placed_by, refusal, same_key, too_late, undecided_timestamps, untold_rows, version_name, version_of, version_wrote, versions_of, write_set, written_are, written_in, written_keys}
 use Rattle.std.proofs.Common.{rules}
 use Rattle.std.proofs.Common.{◌≡◌, ℕ, zero, suc, ◌<◌, ◌≤◌, Bool, true, ◌&&◌, List, [], ◌∷◌, length, Option, Some, None, refl, sym, ◌∙◌, ap, subst, inl, inr, arith}
-use Rattle.std.proofs.lemmas.Bool.Decides.{nat_tests}
-use Rattle.std.proofs.lemmas.Bool.{and_from, and_parts, or_cases, or_left, or_right, leb-true, ltb-true}
-use Rattle.std.specs.List.{list_any}
 use Rattle.std.specs.Prelude.{bytes_eq, filter, is_some, min, nat_le, nat_lt}
-use Rattle.timestamps.specs.declared.row.Row.{Row}
-use Rattle.spans.specs.Collection.{VersionName, version_name, versions_of}
-use Rattle.spans.specs.Effects.{Effect}
-use Rattle.spans.specs.Feeds.{Feed, feed_of, feeds_opened, untold_rows}
-use Rattle.spans.specs.Keys.{in_span}
-use Rattle.spans.specs.Kept.{IsKeptOf, Kept, Place}
-use Rattle.spans.specs.Reads.{too_late}
-use Rattle.spans.specs.Transactions.{closed_of, least_of, undecided_timestamps}
-use Rattle.spans.specs.Versions.{version_of, write_set, written_keys}
-use Rattle.spans.specs.declared.span.Span.{Span}
-use Rattle.spans.proofs.Copies.{AllAllowed}
-use Rattle.spans.proofs.Keyed.{filter_in, filter_rises}
-use Rattle.spans.proofs.Legal.{keys_rise, written_in}
-use Rattle.spans.proofs.Members.{AreDistinct, Has, distinct_filter, has_filter, open_distinct}
-use Rattle.spans.proofs.Steps.{by_test, key_itself, none_of, same_key, version_wrote}
 use Rattle.spans.proofs.VersionNames.{has_versions, versions_distinct}
-use Rattle.kept.specs.Finding.{AreKeysOf, is_dead_in, is_dropped}
-use Rattle.kept.specs.Lists.{AreThose, IsNumberOf}
 use Rattle.kept.specs.Marks.{IsLate}
-use Rattle.kept.specs.Places.{AreLeft, AreNext, IsLeastFloor, or_min, place_floor}
-use Rattle.kept.specs.Table.{IsOldest, is_open, refusal}
-use Rattle.kept.proofs.AfterCloses.{open_is}
-use Rattle.kept.proofs.Counts.{has_undecided, written_are}
-use Rattle.kept.proofs.Dead.{kept_is}
-use Rattle.kept.proofs.Floors.{placed_by}
 use Rattle.kept.proofs.Polling.{left_are}
-use Rattle.kept.proofs.Replying.{known_is}
 use Rattle.kept.proofs.Refusals.{active_of, refusal_is}
 
 some_is : {A : Type 0} (o : Option A) → is_some o ≡ true → (a : A) × (o ≡ Some a)

@@ -1,13 +1,7 @@
 -- The answers of a legal run are the ones that were foreseen, where none of them is a refusal.
-use Rattle.std.proofs.lemmas.Grind.{common_steps}
+use Rattle.restarts.proofs.Common.{After, Effect, Event, IsLegal, IsRightEvent, answer_of, common_steps, effects_of, event, is_accepted, write_of, written_value}
 use Rattle.std.proofs.Common.{arith}
 use Rattle.std.proofs.Common.{◌≡◌, ℕ, zero, suc, true, List, [], ◌∷◌, ◌++◌, length, map, Some, None, refl, sym, ◌∙◌, ap}
-use Rattle.spans.specs.Answer.{answer_of}
-use Rattle.spans.specs.Effects.{After, Effect, effects_of, event}
-use Rattle.spans.specs.Legal.{IsLegal, IsRightEvent, is_accepted}
-use Rattle.spans.specs.Streams.{written_value}
-use Rattle.spans.specs.Versions.{write_of}
-use Rattle.spans.specs.declared.calls.events.Event.{Event}
 use Rattle.restarts.specs.Dump.{dump, end_steps, left_keys, transaction_steps, versions_through, write_step, write_steps}
 use Rattle.restarts.specs.Running.{Step, run, with_steps}
 

@@ -1,17 +1,7 @@
 -- Histories of which the same is kept, but for numbers, go on alike.
 use Rattle.std.proofs.Common.{◌≡◌, ℕ, Bool, true, false, cond, Option, List, [], ◌∷◌, ◌++◌, map, None, refl, sym, ◌∙◌, ap, inl, inr, arith}
 use Rattle.std.specs.Prelude.{nat_le, ◌↔◌}
-use Rattle.spans.specs.Answer.{answer_of}
-use Rattle.spans.specs.Collection.{protections_made}
-use Rattle.spans.specs.Effects.{effect_of, effects_of}
-use Rattle.spans.specs.Feeds.{feeds_opened}
-use Rattle.spans.specs.Kept.{Place}
-use Rattle.spans.specs.Legal.{IsLegal, IsRightEvent, is_accepted, may_lack_memory}
-use Rattle.spans.specs.declared.calls.events.Event.{Event}
-use Rattle.spans.specs.declared.calls.replies.Refusal.TheVariants.{NoMemory}
-use Rattle.spans.specs.declared.calls.replies.Reply.TheVariants.{Refused}
-use Rattle.kept.proofs.Standing.{alike_stands}
-use Rattle.kept.specs.StandsFor.{StandsFor}
+use Rattle.restarts.proofs.Common.{Event, IsLegal, IsRightEvent, NoMemory, Place, Refused, StandsFor, alike_stands, answer_of, effect_of, effects_of, feeds_opened, is_accepted, may_lack_memory, protections_made}
 use Rattle.restarts.specs.Crash.{crash}
 use Rattle.restarts.specs.Dump.{rebuilt}
 use Rattle.restarts.specs.Renumbering.{renumbered, renumbered_cmd, renumbered_reply}

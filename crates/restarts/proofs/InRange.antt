@@ -1,24 +1,9 @@
 -- In a legal history closed and all that began are in the range of timestamps.
-use Rattle.std.proofs.lemmas.Grind.{common_steps}
+use Rattle.restarts.proofs.Common.{Abort, Aborted, Begin, Begins, BelowClosed, Cancel, Cancelled, Close, CloseHard, Closed, Closes, Cmd, Collect, Collected, Commit, Committed, Del, Effect, Event, Found, Get, HardCloses, Has, IsLegal, IsRightEvent, MAX, Messages, Open, OpenEvery, OpenInitial, OpenInitialEvery, Opened, Poll, Protect, Protected, Put, ReadAt, Refused, Release, Released, Reply, Rows, Scan, ScanAt, Started, Stats, TooLate, TsRange, TsUsed, Written, among_has, answer_of, begun_of, closed_of, common_steps, decided_through, effect, effect_of, effects_of, is_timestamp, least_low, nat_tests, owner_of, undecided_timestamps, unless_is}
 use Rattle.std.proofs.Common.{◌≡◌, ℕ, ◌≤◌, ◌-◌, ◌&&◌, length, map, false, not, List, [], ◌∷◌, refl, sym, subst, inl, inr, arith}
-use Rattle.std.proofs.lemmas.Bool.Decides.{nat_tests}
 use Rattle.std.specs.Prelude.{filter, is_some, max, nat_le, nat_lt}
-use Rattle.timestamps.specs.declared.ts.TheConstants.{MAX}
-use Rattle.spans.specs.Answer.{answer_of, is_timestamp}
-use Rattle.spans.specs.Effects.{Begins, Closes, Effect, HardCloses, effect, effect_of, effects_of}
-use Rattle.spans.specs.Legal.{IsLegal, IsRightEvent}
-use Rattle.spans.specs.Transactions.{begun_of, closed_of, decided_through, owner_of, undecided_timestamps}
-use Rattle.spans.specs.declared.calls.commands.Cmd.{Cmd}
-use Rattle.spans.specs.declared.calls.commands.Cmd.TheVariants.{Abort, Begin, Cancel, Close, CloseHard, Collect, Commit, Del, Get, Open, OpenEvery, OpenInitial, OpenInitialEvery, Poll, Protect, Put, ReadAt, Release, Scan, ScanAt, Stats}
-use Rattle.spans.specs.declared.calls.events.Event.{Event}
-use Rattle.spans.specs.declared.calls.replies.Refusal.TheVariants.{BelowClosed, TooLate, TsRange, TsUsed}
-use Rattle.spans.specs.declared.calls.replies.Reply.{Reply}
-use Rattle.spans.specs.declared.calls.replies.Reply.TheVariants.{Aborted, Cancelled, Closed, Collected, Committed, Found, Messages, Opened, Protected, Refused, Released, Rows, Started, Written}
 use Rattle.spans.proofs.Histories.{wanting_does_nothing}
-use Rattle.spans.proofs.Horizon.{least_low}
-use Rattle.spans.proofs.Legal.{unless_is}
 use Rattle.spans.proofs.Open.{begun_among}
-use Rattle.spans.proofs.Members.{Has, among_has}
 use Rattle.restarts.specs.Dump.{greatest_of}
 use Rattle.restarts.specs.Restart.{HasMark}
 

@@ -1,3 +1,4 @@
+pub mod Common
 pub mod Blocks
 pub mod Rebuilding
 pub mod Alike

@@ -1,34 +1,9 @@
 -- The dump's run is legal, and what is kept of it: the versions that are left, and nothing else.
-use Rattle.std.proofs.lemmas.Grind.{common_steps}
+use Rattle.restarts.proofs.Common.{After, AllAllowed, Begin, Close, Closed, Collect, Collected, Commit, Commits, Committed, Effect, Event, IsAlike, Kept, MAX, RisingKeys, StandsFor, Started, Transaction, VersionName, alike_stands, and_parts, both_ways, by_test, closed_of, committed_version_of, common_steps, eqb-true, event, filter_rises, has, has_filtered, has_written, horizon_low, horizon_of, is_committed, is_dead, is_dead_in, is_delete, is_dropped, is_open, left_version_of, nat_tests, new_transaction, newest, newest_fewer, none_of, or_parts, step_stands, version_name, write_of, write_set, write_set_rises, written_value}
 use Rattle.std.proofs.Common.{◌≡◌, ℕ, zero, suc, ◌≤◌, ◌==◌, Bool, true, false, cond, ◌&&◌, ◌||◌, List, [], ◌∷◌, length, Option, Some, None, refl, sym, ◌∙◌, ap, subst, inl, arith}
-use Rattle.std.proofs.lemmas.Bool.Decides.{nat_tests}
-use Rattle.std.proofs.lemmas.Bool.{eqb-true, and_parts, or_parts, both_ways}
 use Rattle.std.specs.Prelude.{filter, is_some, nat_le, nat_lt, option_map, max, min}
-use Rattle.timestamps.specs.declared.ts.TheConstants.{MAX}
-use Rattle.spans.specs.Collection.{VersionName, horizon_of, is_dead, version_name, is_delete}
-use Rattle.spans.specs.Effects.{After, Effect, Commits, event}
-use Rattle.spans.specs.Kept.{Kept, Transaction}
-use Rattle.spans.specs.Newest.{newest}
-use Rattle.spans.specs.Promises.{left_version_of}
-use Rattle.spans.specs.Streams.{written_value}
-use Rattle.spans.specs.Transactions.{closed_of, is_committed}
-use Rattle.spans.specs.Versions.{committed_version_of, write_of, write_set}
-use Rattle.spans.specs.declared.calls.commands.Cmd.TheVariants.{Begin, Close, Collect, Commit}
-use Rattle.spans.specs.declared.calls.replies.Reply.TheVariants.{Closed, Collected, Committed, Started}
-use Rattle.spans.specs.declared.calls.events.Event.{Event}
 use Rattle.spans.specs.declared.state.State.TheVariants as states
-use Rattle.spans.proofs.Copies.{AllAllowed}
-use Rattle.spans.proofs.Horizon.{horizon_low}
-use Rattle.spans.proofs.Keyed.{RisingKeys, filter_rises}
-use Rattle.spans.proofs.Steps.{by_test, newest_fewer, none_of}
-use Rattle.spans.proofs.WriteSets.{has, has_filtered, has_written, write_set_rises}
-use Rattle.kept.specs.Finding.{is_dead_in, is_dropped}
-use Rattle.kept.specs.Table.{is_open, new_transaction}
-use Rattle.kept.specs.StandsFor.{StandsFor}
-use Rattle.kept.specs.Changes.{IsAlike}
 use Rattle.kept.proofs.AfterBegins.{new_is_kept}
-use Rattle.kept.proofs.Answering.{step_stands}
-use Rattle.kept.proofs.Standing.{alike_stands}
 use Rattle.restarts.specs.Dump.{dump, end_steps, left_keys, transaction_steps, versions_through, write_steps}
 use Rattle.restarts.specs.Running.{with_steps}
 use Rattle.restarts.proofs.Blocks.{all_written, begin_now, begun, commit_now, committed_at, ended, steps_append, writes_now, written_are, written_committed, written_is, written_version}

@@ -1,23 +1,8 @@
 -- What is kept, with its feeds and protections numbered after others.
-use Rattle.std.proofs.lemmas.Grind.{common_steps}
+use Rattle.restarts.proofs.Common.{AreDistinct, AreThose, Cmd, Has, IsLeastFloor, Kept, Opened, Place, Poll, Protected, Protection, Refused, Reply, by_test, common_steps, feed_refusal, first_refusal_or, is_accepted, list_any, may_lack_memory, nat_tests, unless_refused}
 use Rattle.std.proofs.Common.{◌≡◌, ℕ, zero, suc, ◌+◌, ◌-◌, ◌<◌, ◌==◌, Bool, true, false, not, cond, ◌||◌, List, [], ◌∷◌, length, map, Option, Some, None, refl, sym, ◌∙◌, ap, subst, inl, inr, arith}
-use Rattle.std.proofs.lemmas.Bool.Decides.{nat_tests}
-use Rattle.std.specs.List.{list_any}
 use Rattle.std.specs.Prelude.{filter, is_some, nat_le}
-use Rattle.spans.specs.Answer.{first_refusal_or}
-use Rattle.spans.specs.Collection.{Protection}
-use Rattle.spans.specs.Kept.{Kept, Place}
-use Rattle.spans.specs.Legal.{is_accepted, may_lack_memory}
-use Rattle.spans.specs.declared.calls.commands.Cmd.{Cmd}
-use Rattle.spans.specs.declared.calls.commands.Cmd.TheVariants.{Poll}
 use Rattle.spans.specs.declared.calls.replies.Refusal.{Refusal}
-use Rattle.spans.specs.declared.calls.replies.Reply.{Reply}
-use Rattle.spans.specs.declared.calls.replies.Reply.TheVariants.{Opened, Protected, Refused}
-use Rattle.spans.proofs.Steps.{by_test}
-use Rattle.kept.specs.Lists.{AreThose}
-use Rattle.kept.specs.Places.{IsLeastFloor}
-use Rattle.kept.specs.Replies.{feed_refusal, unless_refused}
-use Rattle.spans.proofs.Members.{AreDistinct, Has}
 use Rattle.restarts.specs.Renumbering.{number_from, renumbered_cmd, renumbered_reply}
 
 -- ---- numbers

@@ -1,38 +1,9 @@
 -- What is kept answers as it does with its numbers shifted: each reply can be found, and is the same but for its numbers.
 use Rattle.std.proofs.Common.{◌≡◌, ℕ, suc, ◌==◌, true, false, not, cond, List, [], ◌∷◌, length, map, take, Option, Some, None, refl, sym, ◌∙◌, ap}
-use Rattle.std.specs.List.{list_any}
+use Rattle.restarts.proofs.Common.{Abort, Aborted, AllAllowed, AreKeysOf, AreNext, Begin, BelowClosed, BelowHorizon, Blocked, Cancel, Cancelled, Close, CloseHard, Closed, Cmd, Collect, Collected, Commit, Committed, Del, Effect, Event, Found, Get, IsKeptOf, IsReplyOf, Kept, Kind, MAX, Messages, NoProtection, NotClosed, NotOwner, Open, OpenEvery, OpenInitial, OpenInitialEvery, Opened, Place, Poll, Protect, Protected, Protection, Put, ReadAt, Refused, Release, Released, Reply, Row, Rows, Scan, ScanAt, Span, StandsFor, Started, Stats, TooLate, TsRange, TsUsed, Written, abort_reply, answer_of, begin_reply, cancel_reply, close_hard_reply, close_reply, collect_reply, commit_reply, effects_of, feed_refusal, first_refusal_or, get_reply, is_seen_blocked, is_timestamp, kept_opening_tests, kind_of, known_is, legal_allowed, list_any, messages_left, open_reply, pairs_of, placed_by, poll_place, poll_reply, protect_reply, reach, read_at_reply, refusal, release_reply, reply_is_answer, scan_at_reply, scan_reply, seen, stats_reply, too_late, undecided_timestamps, unless_refused, write_reply, write_set}
 use Rattle.std.specs.Prelude.{filter, is_some, max, nat_le, nat_lt}
-use Rattle.timestamps.specs.declared.row.Row.{Row}
-use Rattle.timestamps.specs.declared.ts.TheConstants.{MAX}
-use Rattle.spans.specs.Answer.{answer_of, first_refusal_or, is_timestamp}
-use Rattle.spans.specs.Collection.{Protection}
-use Rattle.spans.specs.Effects.{Effect, effects_of, kind_of}
-use Rattle.spans.specs.Kept.{IsKeptOf, Kept, Place}
-use Rattle.spans.specs.Keys.{pairs_of}
-use Rattle.spans.specs.Reads.{too_late}
-use Rattle.spans.specs.Transactions.{undecided_timestamps}
-use Rattle.spans.specs.Versions.{write_set}
-use Rattle.spans.specs.declared.kind.Kind.{Kind}
-use Rattle.spans.specs.declared.span.Span.{Span}
-use Rattle.spans.specs.declared.calls.commands.Cmd.{Cmd}
-use Rattle.spans.specs.declared.calls.commands.Cmd.TheVariants.{Abort, Begin, Cancel, Close, CloseHard, Collect, Commit, Del, Get, Open, OpenEvery, OpenInitial, OpenInitialEvery, Poll, Protect, Put, ReadAt, Release, Scan, ScanAt, Stats}
-use Rattle.spans.specs.declared.calls.events.Event.{Event}
-use Rattle.spans.specs.declared.calls.replies.Refusal.TheVariants.{BelowClosed, BelowHorizon, Blocked, NoProtection, NotClosed, NotOwner, TooLate, TsRange, TsUsed}
-use Rattle.spans.specs.declared.calls.replies.Reply.{Reply}
-use Rattle.spans.specs.declared.calls.replies.Reply.TheVariants.{Aborted, Cancelled, Closed, Collected, Committed, Found, Messages, Opened, Protected, Refused, Released, Rows, Started, Written}
 use Rattle.spans.specs.declared.calls.replies.Reply.TheVariants as replies
-use Rattle.spans.proofs.Copies.{AllAllowed}
-use Rattle.spans.proofs.Legal.{legal_allowed}
-use Rattle.kept.specs.Answered.{IsReplyOf}
 use Rattle.kept.specs.Collecting.{reached}
-use Rattle.kept.specs.Finding.{AreKeysOf, is_seen_blocked, seen}
-use Rattle.kept.specs.Places.{AreNext}
-use Rattle.kept.specs.Replies.{abort_reply, begin_reply, cancel_reply, close_hard_reply, close_reply, collect_reply, commit_reply, feed_refusal, get_reply, kept_opening_tests, messages_left, open_reply, poll_place, poll_reply, protect_reply, read_at_reply, release_reply, scan_at_reply, scan_reply, stats_reply, unless_refused, write_reply}
-use Rattle.kept.specs.StandsFor.{StandsFor}
-use Rattle.kept.specs.Table.{reach, refusal}
-use Rattle.kept.proofs.Answering.{reply_is_answer}
-use Rattle.kept.proofs.Floors.{placed_by}
-use Rattle.kept.proofs.Replying.{known_is}
 use Rattle.restarts.specs.Renumbering.{number_from, renumbered_cmd, renumbered_reply}
 use Rattle.restarts.proofs.Findings.{cut_are, dropped_are, dropped_in, floor_found, keys_are, keys_in, kept_versions, late_found, least_floor, least_in, least_is, living, living_are, next_found, oldest_found, rows_for, undecided_are, versions_in, written_found}
 use Rattle.restarts.proofs.Shifting.{feed_at, floor_same, living_shifted, protected_same, protections_at, refusal_same, renumbered_either, renumbered_first, renumbered_unless, same_count, shifted}

@@ -1,35 +1,9 @@
 -- What is kept changes as it does with its numbers shifted.
-use Rattle.std.proofs.lemmas.Grind.{common_steps}
+use Rattle.restarts.proofs.Common.{Abort, Aborted, Aborts, After, AllAllowed, Allowed, Begin, Begins, Cancel, Cancelled, Cancels, Close, CloseHard, Closed, Closes, Cmd, Collect, Collected, Collects, Commit, Commits, Committed, Del, Effect, Event, Found, Get, HardCloses, IsChangedBy, IsKeptOf, IsRightEvent, Kept, Kind, Messages, NoEffect, Open, OpenEvery, OpenInitial, OpenInitialEvery, Opened, Opens, Place, Poll, Polls, Protect, Protected, Protection, Protects, Put, ReadAt, Reads, Refused, Release, Released, Releases, Reply, Rows, Scan, ScanAt, Scans, SnapshotReads, SnapshotScans, Span, StandsFor, Started, Stats, TooLate, Transaction, Writes, Written, by_test, changed_stands, closed_of, common_steps, effect, effect_of, effects_of, eqb-true, in_span, is_dead_in, is_open, key_itself, legal_allowed, moved, nat_tests, new_transaction, or_cases, or_left, or_right, right_allowed, seen, start_at}
 use Rattle.std.proofs.Common.{◌≡◌, ℕ, zero, suc, ◌+◌, ◌-◌, ◌<◌, ◌==◌, Bool, true, false, not, cond, ◌&&◌, ◌||◌, List, ◌∷◌, map, Option, Some, None, refl, sym, ap, subst, inl, inr, arith}
-use Rattle.std.proofs.lemmas.Bool.Decides.{nat_tests}
-use Rattle.std.proofs.lemmas.Bool.{eqb-true, or_cases, or_left, or_right}
 use Rattle.std.specs.Prelude.{bytes_eq, filter, nat_le, nat_lt, option_map}
-use Rattle.spans.specs.Collection.{Protection}
-use Rattle.spans.specs.Effects.{Aborts, After, Begins, Cancels, Closes, Collects, Commits, Effect, HardCloses, NoEffect, Opens, Polls, Protects, Reads, Releases, Scans, SnapshotReads, SnapshotScans, Writes, effect, effect_of, effects_of}
-use Rattle.spans.specs.Feeds.{start_at}
-use Rattle.spans.specs.Keys.{in_span}
-use Rattle.spans.specs.Kept.{IsKeptOf, Kept, Place, Transaction}
-use Rattle.spans.specs.Legal.{IsRightEvent}
-use Rattle.spans.specs.Transactions.{closed_of}
-use Rattle.spans.specs.declared.calls.commands.Cmd.{Cmd}
-use Rattle.spans.specs.declared.calls.commands.Cmd.TheVariants.{Abort, Begin, Cancel, Close, CloseHard, Collect, Commit, Del, Get, Open, OpenEvery, OpenInitial, OpenInitialEvery, Poll, Protect, Put, ReadAt, Release, Scan, ScanAt, Stats}
-use Rattle.spans.specs.declared.calls.events.Event.{Event}
-use Rattle.spans.specs.declared.calls.replies.Refusal.TheVariants.{TooLate}
-use Rattle.spans.specs.declared.calls.replies.Reply.{Reply}
-use Rattle.spans.specs.declared.calls.replies.Reply.TheVariants.{Aborted, Cancelled, Closed, Collected, Committed, Found, Messages, Opened, Protected, Refused, Released, Rows, Started, Written}
-use Rattle.spans.specs.declared.kind.Kind.{Kind}
-use Rattle.spans.specs.declared.span.Span.{Span}
 use Rattle.spans.specs.declared.state.State.TheVariants as states
-use Rattle.spans.proofs.Copies.{AllAllowed, Allowed}
-use Rattle.spans.proofs.Legal.{legal_allowed, right_allowed}
-use Rattle.spans.proofs.Steps.{by_test, key_itself}
-use Rattle.kept.specs.Answered.{IsChangedBy}
-use Rattle.kept.specs.Finding.{is_dead_in, seen}
-use Rattle.kept.specs.Places.{moved}
-use Rattle.kept.specs.StandsFor.{StandsFor}
-use Rattle.kept.specs.Table.{is_open, new_transaction}
 use Rattle.kept.proofs.AfterReads.{Marked, after_reads, after_scans, other_seen, own_seen}
-use Rattle.kept.proofs.Answering.{changed_stands}
 use Rattle.kept.proofs.Marking.{added}
 use Rattle.kept.proofs.Staying.{alike_self}
 use Rattle.restarts.specs.Renumbering.{number_from, renumbered_cmd, renumbered_reply}

@@ -1,10 +1,6 @@
 -- A crash: what a restart leaves of a database is what these commands leave of it (this project).
 use Rattle.std.specs.Prelude.{ℕ, List, ◌∷◌, ◌++◌, map}
-use Rattle.spans.specs.declared.calls.commands.Cmd.{Cmd}
-use Rattle.spans.specs.declared.calls.commands.Cmd.TheVariants.{CloseHard, Cancel, Release}
-use Rattle.spans.specs.declared.calls.events.Event.{Event}
-use Rattle.spans.specs.Effects.{Effect, effects_of}
-use Rattle.spans.specs.Collection.{Protection, LiveFeed, protections_of, live_feeds}
+use Rattle.restarts.specs.Prelude.{Cancel, CloseHard, Cmd, Effect, Event, LiveFeed, Protection, Release, effects_of, live_feeds, protections_of}
 use Rattle.restarts.specs.Running.{run}
 
 -- nothing is undecided any more, no feed lives, and no protection stands. Any seat may give each of these commands

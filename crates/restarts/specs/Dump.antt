@@ -1,13 +1,7 @@
 -- The dump of a database: the commands that rebuild it, each with the answer that is foreseen (this project).
 use Rattle.std.specs.Prelude.{ℕ, zero, suc, List, [], ◌∷◌, ◌++◌, map, filter, length, max, Some, None, is_some}
-use Rattle.spans.specs.declared.calls.commands.Cmd.TheVariants.{Begin, Put, Del, Commit, Close, Collect}
-use Rattle.spans.specs.declared.calls.replies.Reply.TheVariants.{Started, Written, Committed, Closed, Collected}
-use Rattle.spans.specs.declared.calls.events.Event.{Event}
-use Rattle.spans.specs.Effects.{After, Effect, effects_of}
-use Rattle.spans.specs.Transactions.{begun_of, closed_of}
+use Rattle.restarts.specs.Prelude.{After, Begin, Close, Closed, Collect, Collected, Commit, Committed, Del, Effect, Event, Put, Started, Written, begun_of, closed_of, effects_of, horizon_of, written_value}
 use Rattle.spans.specs.Versions.{write_of, write_set}
-use Rattle.spans.specs.Streams.{written_value}
-use Rattle.spans.specs.Collection.{horizon_of}
 use Rattle.spans.specs.Promises.{left_version_of}
 use Rattle.restarts.specs.Running.{Step, with_steps}
 

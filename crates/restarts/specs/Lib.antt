@@ -1,3 +1,4 @@
+pub mod Prelude
 pub mod Running
 pub mod Dump
 pub mod Crash

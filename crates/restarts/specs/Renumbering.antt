@@ -1,13 +1,7 @@
 -- Feeds and protections are numbered from 1 on. After a crash the numbers go on, and after a dump they begin anew.
 use Rattle.std.specs.Prelude.{ℕ, zero, suc, List, ◌+◌, ◌-◌, length}
-use Rattle.spans.specs.declared.calls.commands.Cmd.{Cmd}
-use Rattle.spans.specs.declared.calls.commands.Cmd.TheVariants.{Release, Poll, Cancel}
-use Rattle.spans.specs.declared.calls.replies.Reply.{Reply}
-use Rattle.spans.specs.declared.calls.replies.Reply.TheVariants.{Protected, Opened}
-use Rattle.spans.specs.declared.calls.events.Event.{Event}
-use Rattle.spans.specs.Effects.{effects_of, event}
+use Rattle.restarts.specs.Prelude.{Cancel, Cmd, Event, Opened, Poll, Protected, Release, Reply, effects_of, event, protections_made}
 use Rattle.spans.specs.Feeds.{feeds_opened}
-use Rattle.spans.specs.Collection.{protections_made}
 use Rattle.restarts.specs.Dump.{rebuilt}
 use Rattle.restarts.specs.Crash.{crash}
 

@@ -1,14 +1,8 @@
 -- What the law of restarts is said with.
 use Rattle.std.specs.Prelude.{ℕ, List, [], ◌++◌, map, true, ◌≡◌, ◌≤◌, ◌↔◌, is_some}
 use Rattle.timestamps.specs.declared.ts.TheConstants.{MAX}
-use Rattle.spans.specs.declared.span.Span.{Span}
-use Rattle.spans.specs.declared.calls.events.Event.{Event}
-use Rattle.spans.specs.Effects.{Effect, effects_of}
-use Rattle.spans.specs.Legal.{IsLegal}
-use Rattle.spans.specs.Transactions.{closed_of, owner_of}
-use Rattle.spans.specs.Collection.{horizon_of}
+use Rattle.restarts.specs.Prelude.{Effect, Event, IsLegal, Span, closed_of, effects_of, horizon_of, owner_of, stream_of}
 use Rattle.spans.specs.Serial.{map_at}
-use Rattle.spans.specs.Streams.{stream_of}
 use Rattle.restarts.specs.Running.{Step, run}
 use Rattle.restarts.specs.Dump.{dump, mark_of, rebuilt}
 use Rattle.restarts.specs.Crash.{crash}

@@ -1,12 +1,7 @@
 -- A dump by its rows, one after the other: what a program writes that goes from row to row.
 use Rattle.std.specs.Prelude.{ℕ, List, [], ◌∷◌, ◌++◌, map, filter, Bool, false, not, ◌==◌, Option, Some, None, if◌then◌else◌}
 use Rattle.timestamps.specs.declared.row.Row.{Row}
-use Rattle.spans.specs.declared.span.Span.{Span}
-use Rattle.spans.specs.declared.calls.commands.Cmd.{Cmd}
-use Rattle.spans.specs.declared.calls.commands.Cmd.TheVariants.{Begin, Commit, Close, Collect}
-use Rattle.spans.specs.Collection.{horizon_of, is_dead, version_name}
-use Rattle.spans.specs.Effects.{Effect}
-use Rattle.spans.specs.Streams.{stream_of}
+use Rattle.restarts.specs.Prelude.{Begin, Close, Cmd, Collect, Commit, Effect, Span, horizon_of, is_dead, stream_of, version_name}
 use Rattle.restarts.specs.Dump.{dump, write_step}
 use Rattle.restarts.specs.Running.{Step}
 

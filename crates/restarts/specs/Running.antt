@@ -1,9 +1,6 @@
 -- A history that goes on: with steps whose answers are foreseen, and with commands that are answered.
 use Rattle.std.specs.Prelude.{List, [], ◌∷◌, length}
-use Rattle.spans.specs.declared.calls.commands.Cmd.{Cmd}
-use Rattle.spans.specs.declared.calls.replies.Reply.{Reply}
-use Rattle.spans.specs.declared.calls.events.Event.{Event}
-use Rattle.spans.specs.Effects.{effects_of, event}
+use Rattle.restarts.specs.Prelude.{Cmd, Event, Reply, effects_of, event}
 use Rattle.spans.specs.Answer.{answer_of}
 
 -- a command with the answer that is foreseen

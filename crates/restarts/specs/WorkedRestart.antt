@@ -1,10 +1,6 @@
 -- The example that the crate's page draws, worked.
 use Rattle.std.specs.Prelude.{ℕ, List, [], ◌∷◌, ◌≡◌, map, take, None, refl}
-use Rattle.spans.specs.declared.span.Span.{Span}
-use Rattle.spans.specs.declared.calls.commands.Cmd.TheVariants.{Begin, Put, Del, Commit, Close, Collect, Open, Poll}
-use Rattle.spans.specs.declared.calls.replies.Reply.TheVariants.{Started, Written, Committed, Closed, Collected, Opened, Cancelled}
-use Rattle.spans.specs.declared.calls.events.Event.{Event}
-use Rattle.spans.specs.Effects.{effects_of, event}
+use Rattle.restarts.specs.Prelude.{Begin, Cancelled, Close, Closed, Collect, Collected, Commit, Committed, Del, Event, Open, Opened, Poll, Put, Span, Started, Written, effects_of, event}
 use Rattle.restarts.specs.Running.{run}
 use Rattle.restarts.specs.Dump.{dump, rebuilt}
 use Rattle.restarts.specs.Crash.{crash}

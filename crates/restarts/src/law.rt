@@ -1,10 +1,6 @@
 //! The law of restarts, as the contract of one function.
 ghost use Rattle.std.specs.Prelude.{List, [], ℕ, false, ◌≡◌};
-ghost use Rattle.spans.specs.declared.calls.events.Event.{Event};
-ghost use Rattle.spans.specs.Effects.{effects_of};
-ghost use Rattle.spans.specs.Legal.{IsLegal};
-ghost use Rattle.spans.specs.Transactions.{closed_of, is_undecided};
-ghost use Rattle.spans.specs.Collection.{horizon_of, live_feeds, protections_of};
+ghost use Rattle.restarts.specs.Prelude.{Event, IsLegal, closed_of, effects_of, horizon_of, is_undecided, live_feeds, protections_of};
 ghost use Rattle.restarts.specs.Dump.{rebuilt};
 ghost use Rattle.restarts.specs.Crash.{crash};
 ghost use Rattle.restarts.specs.Restart.{AreForeseen, EachRestart, GoesOnAlike, HasMark, MapsAreSame, StreamsAreSame, rebuilt_effects};

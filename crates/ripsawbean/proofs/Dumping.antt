@@ -1,10 +1,8 @@
 -- What is told of a dump, by what is shown of its piece.
 use Rattle.std.proofs.Common.{ℕ, zero, suc, List, length, inr}
-use Rattle.spans.specs.Effects.{effects_of}
+use Rattle.ripsawbean.proofs.Common.{Database, IsPiece, effects_of}
 use Rattle.spans.specs.declared.calls.events.Event.{Event}
-use Rattle.embedded.specs.Dumping.{IsPiece}
 use Rattle.embedded.specs.Embedded.{StandsFor}
-use Rattle.embedded.specs.declared.database.Database.{Database}
 use Rattle.embedded.specs.declared.dumping.DumpPiece.{DumpPiece}
 use Rattle.ripsawbean.specs.Dumps.{IsShownOrNot, IsToldPiece, place_at}
 use Rattle.ripsawbean.specs.declared.dump.DumpPlaceRecord.{DumpPlaceRecord}

@@ -13,10 +13,8 @@ use denote.Laws.{Is}
 use denote.Steps.{owned}
 use denote.Struct.Struct.{Struct, Struct-Makes}
 use denote.Struct.Owning.{shape}
-use Rattle.std.specs.Box.Ownership.{box_owns}
-use Rattle.embedded.specs.declared.database.Database.{Database}
+use Rattle.ripsawbean.proofs.Common.{Consumer, Database, box_owns}
 use Rattle.embedded.specs.contracts.database.Database as database
-use Rattle.embedded_replica.specs.declared.consumer.Consumer.{Consumer}
 use Rattle.embedded_replica.specs.contracts.consumer.Consumer as consumer
 use Rattle.ripsawbean.specs.Heap.{token}
 use Rattle.ripsawbean.specs.Handles.{keeps}

@@ -6,12 +6,11 @@ use denote.RattleType.{RattleType}
 use denote.Exit.{no}
 use denote.Param.{layout, arg}
 use denote.Param.Laws.{Laws, arg_laws}
-use Rattle.std.proofs.alloc.Calls.{Al}
+use Rattle.ripsawbean.proofs.Common.{Al, dict, ghosts}
 use Rattle.std.proofs.alloc.Global.TheLaws as global_laws
 use Rattle.std.proofs.BoxSteps.Form.{Bx}
 use Rattle.std.specs.contracts.alloc.Global as global
 use Rattle.std.specs.contracts.boxed.Box as boxes
-use Rattle.std.specs.contracts.impls.GlobalAllocator.TheImpl.{ghosts, dict}
 
 -- an allocator as a generic call is passed it
 abbrev δ : Ty

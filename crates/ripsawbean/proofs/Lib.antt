@@ -1,3 +1,4 @@
+pub mod Common
 mod Heap
 mod LooseValues
 mod HandleValues

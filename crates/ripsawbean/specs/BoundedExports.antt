@@ -1,12 +1,8 @@
 -- What the calls whose answer is to find room tell the program (this project's own).
 use Rattle.std.specs.Prelude.{ℕ, zero, suc, List, [], ◌∷◌, ◌≡◌, ◌⊎◌, nat_le, ◌&&◌, if◌then◌else◌, length, Option, Some, None}
-use Rattle.spans.specs.declared.calls.events.Event.{Event}
+use Rattle.ripsawbean.specs.Prelude.{Bounded, Database, Event, HasBulk, HasStepped, StandsFor, last_of}
 use Rattle.spans.specs.declared.span.Span.{Span}
 use Rattle.embedded.specs.Bounded.{command_within}
-use Rattle.embedded.specs.Embedded.{StandsFor, HasStepped, last_of}
-use Rattle.embedded.specs.Typed.{HasBulk}
-use Rattle.embedded.specs.declared.bounded.Bounded.{Bounded}
-use Rattle.embedded.specs.declared.database.Database.{Database}
 use Rattle.ripsawbean.specs.TypedExports.{◌or◌, IsSpent, IsUnspent, OfHandle, seat_fault}
 
 -- no bytes are no low bound

@@ -1,7 +1,6 @@
 -- What becomes of the parts of a call whose answer is to find room, before its call (this project's own).
 use Rattle.std.specs.Prelude.{ℕ, ◌≡◌, ◌⊎◌, Option, Some, None, Result, Ok, Err}
-use Rattle.embedded.specs.declared.bounded.Bounded.{Bounded}
-use Rattle.embedded.specs.declared.database.Database.{Database}
+use Rattle.ripsawbean.specs.Prelude.{Bounded, Database}
 use Rattle.ripsawbean.specs.BoundedExports.{BoundedOn}
 use Rattle.ripsawbean.specs.TypedExports.{IsSpent, IsUnspent, seat_fault}
 use Rattle.ripsawbean.specs.TypedParts.{number_of}

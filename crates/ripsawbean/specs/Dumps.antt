@@ -1,13 +1,9 @@
 -- What asking for a piece of a dump tells the program (this project's own).
 use Rattle.std.specs.Prelude.{ℕ, zero, suc, List, [], ◌∷◌, ◌++◌, ◌≡◌, ◌≤◌, ◌<◌, ◌⊎◌, ◌||◌, drop, length, nat_lt, take, if◌then◌else◌, Option, Some, None}
-use Rattle.spans.specs.Effects.{effects_of}
-use Rattle.spans.specs.declared.calls.events.Event.{Event}
+use Rattle.ripsawbean.specs.Prelude.{Database, DumpPiece, Event, StandsFor, effects_of}
 use Rattle.timestamps.specs.declared.ts.TheConstants.{MAX}
 use Rattle.embedded.specs.Dumping.{IsPiece}
-use Rattle.embedded.specs.Embedded.{StandsFor}
-use Rattle.embedded.specs.declared.database.Database.{Database}
 use Rattle.embedded.specs.declared.dumping.DumpPlace.{DumpPlace}
-use Rattle.embedded.specs.declared.dumping.DumpPiece.{DumpPiece}
 use Rattle.ripsawbean.specs.declared.dump.DumpPlaceRecord.{DumpPlaceRecord}
 
 -- no bytes are no key

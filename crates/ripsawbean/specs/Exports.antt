@@ -1,13 +1,7 @@
 -- What each function tells the program, and what it does to the handle's database (this project's own).
 use Rattle.std.specs.Prelude.{ℕ, zero, suc, List, [], ◌≡◌, ◌⊎◌, nat_le, ◌&&◌, if◌then◌else◌, Bool, Option, Some, None, is_some, Result, Ok, Err}
-use Rattle.spans.specs.declared.calls.events.Event.{Event}
-use Rattle.json_lines.specs.Writing.{Copied}
-use Rattle.word_lines.specs.Faults.{code_of}
+use Rattle.ripsawbean.specs.Prelude.{CallError, Copied, Database, Event, Fault, HasLast, IsUnwritten, NoMemory, Spent, StandsFor, Unwritten, code_of, last_of, text_of}
 use Rattle.embedded.specs.Embedded as db
-use Rattle.embedded.specs.Embedded.{StandsFor, HasLast, IsUnwritten, last_of, text_of}
-use Rattle.embedded.specs.declared.database.Database.{Database}
-use Rattle.embedded.specs.declared.database.CallError.{CallError}
-use Rattle.embedded.specs.declared.database.CallError.TheVariants.{Fault, NoMemory, Spent, Unwritten}
 
 -- the rows that a feed holds: 1 to 65536
 abbrev pub is_ring : ℕ → Bool

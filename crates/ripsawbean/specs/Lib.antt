@@ -1,3 +1,4 @@
+pub mod Prelude
 pub mod Heap
 pub mod Handles
 pub mod Exports

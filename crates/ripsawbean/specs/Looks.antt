@@ -1,13 +1,10 @@
 -- What a program is told of a handle's database without a call (this project's own).
 use Rattle.std.specs.Prelude.{ℕ, zero, suc, List, ◌++◌, ◌≡◌, drop, length, take, Option, Some, None, Result, Ok, Err}
-use Rattle.spans.specs.Effects.{effects_of}
-use Rattle.spans.specs.declared.calls.events.Event.{Event}
+use Rattle.ripsawbean.specs.Prelude.{Database, Event, StandsFor, effects_of}
 use Rattle.engine.specs.Looking.{ArePlaces, feed_floor}
 use Rattle.engine.specs.declared.looking.Places.{Places}
-use Rattle.embedded.specs.Embedded.{StandsFor}
 use Rattle.embedded.specs.Held.{AreHeldBy}
 use Rattle.embedded.specs.Versions.{AreVersionsAt}
-use Rattle.embedded.specs.declared.database.Database.{Database}
 use Rattle.embedded.specs.declared.held.HeldRecord.{HeldRecord}
 use Rattle.embedded.specs.declared.versions.VersionFault.{VersionFault}
 use Rattle.embedded.specs.declared.versions.VersionFault.TheVariants.{BelowHorizon, KeyLength, NoMemory}

@@ -4,20 +4,16 @@ use Rattle.timestamps.specs.declared.key.KeyError.{KeyError}
 use Rattle.timestamps.specs.declared.key.KeyError.TheVariants as keys
 use Rattle.json_lines.specs.declared.fault.MessageFault.{MessageFault}
 use Rattle.json_lines.specs.declared.fault.MessageFault.TheVariants as lines
-use Rattle.json_lines.specs.Writing.{Copied}
-use Rattle.word_lines.specs.Faults.{code_of}
+use Rattle.ripsawbean.specs.Prelude.{AreKey, Begins, BeginsWith, Consumer, Copied, HasTaken, IsNoKey, IsNoMessage, IsReady, IsRefused, IsUnopened, IsUnseeded, ShowsRows, code_of, replica_of}
 use Rattle.replica.specs.declared.fault.Fault.{Fault}
 use Rattle.replica.specs.declared.fault.Fault.TheVariants as faults
 use Rattle.replica.specs.Replicas.{view_in, through_in, complete_in}
-use Rattle.embedded_replica.specs.declared.consumer.Consumer.{Consumer}
 use Rattle.embedded_replica.specs.declared.consumer.BeginError.{BeginError}
 use Rattle.embedded_replica.specs.declared.consumer.BeginError.TheVariants as opening
 use Rattle.embedded_replica.specs.declared.consumer.SeedingError.{SeedingError}
 use Rattle.embedded_replica.specs.declared.consumer.SeedingError.TheVariants as seeding
 use Rattle.embedded_replica.specs.declared.consumer.TakeError.{TakeError}
 use Rattle.embedded_replica.specs.declared.consumer.TakeError.TheVariants as taking
-use Rattle.embedded_replica.specs.Consumers.{replica_of, Begins, IsUnopened, HasTaken, IsRefused, IsReady, IsNoMessage, AreKey, IsNoKey, ShowsRows}
-use Rattle.embedded_replica.specs.Seeds.{BeginsWith, IsUnseeded}
 
 -- a timestamp as a number; where there is none, a number that is no timestamp
 abbrev pub number_or_none : Option ℕ → ℕ

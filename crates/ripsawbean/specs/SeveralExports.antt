@@ -1,10 +1,7 @@
 -- What the calls of several lines at once tell the program (this project's own).
 use Rattle.std.specs.Prelude.{ℕ, List, ◌≡◌, Option, Some, None, Result}
-use Rattle.spans.specs.declared.calls.events.Event.{Event}
-use Rattle.embedded.specs.Embedded.{StandsFor}
+use Rattle.ripsawbean.specs.Prelude.{CallError, Database, Event, StandsFor}
 use Rattle.embedded.specs.Several.{HaveBeenCalled}
-use Rattle.embedded.specs.declared.database.Database.{Database}
-use Rattle.embedded.specs.declared.database.CallError.{CallError}
 use Rattle.embedded.specs.declared.several.Done.{Done}
 use Rattle.embedded.specs.declared.several.Taken.{Taken}
 use Rattle.ripsawbean.specs.Exports.{outcome_number}

@@ -1,11 +1,7 @@
 -- What asking for a handle's state tells the program (this project's own).
 use Rattle.std.specs.Prelude.{ℕ, zero, suc, List, Option, Some, None, ◌≡◌, ◌⊎◌}
-use Rattle.spans.specs.declared.calls.events.Event.{Event}
-use Rattle.embedded.specs.Embedded.{StandsFor, last_of}
+use Rattle.ripsawbean.specs.Prelude.{Copied, Database, Event, StandsFor, last_of, record_of}
 use Rattle.embedded.specs.States.{IsStateText}
-use Rattle.json_lines.specs.Writing.{Copied}
-use Rattle.embedded.specs.Typed.{record_of}
-use Rattle.embedded.specs.declared.database.Database.{Database}
 use Rattle.embedded.specs.declared.event_record.EventRecord.{EventRecord}
 
 -- done, or no memory for the text; of a closed handle that it is closed

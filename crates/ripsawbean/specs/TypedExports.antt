@@ -1,11 +1,6 @@
 -- What each typed call tells the program, and what it does to the handle's database (this project's own).
 use Rattle.std.specs.Prelude.{ℕ, zero, suc, List, ◌≡◌, ◌==◌, ◌<◌, ◌⊎◌, nat_le, nat_lt, Bool, true, false, ◌&&◌, ◌||◌, if◌then◌else◌, length, Option, Some, None}
-use Rattle.spans.specs.declared.calls.commands.Cmd.{Cmd}
-use Rattle.spans.specs.declared.calls.events.Event.{Event}
-use Rattle.json_lines.specs.Writing.{Copied}
-use Rattle.embedded.specs.Embedded.{StandsFor, HasStepped, last_of}
-use Rattle.embedded.specs.Typed.{HasBulk, answer_of, bytes_of, numbers}
-use Rattle.embedded.specs.declared.database.Database.{Database}
+use Rattle.ripsawbean.specs.Prelude.{Cmd, Copied, Database, Event, HasBulk, HasStepped, StandsFor, answer_of, bytes_of, last_of, numbers}
 use Rattle.embedded.specs.declared.typed.Answer.{Answer}
 
 -- why no command can be made of a part: its number

@@ -1,7 +1,6 @@
 -- What becomes of a typed call's parts before its call (this project's own).
 use Rattle.std.specs.Prelude.{ℕ, ◌≡◌, if◌then◌else◌, nat_lt, Option, Some, None, Result, Ok, Err}
-use Rattle.spans.specs.declared.calls.commands.Cmd.{Cmd}
-use Rattle.embedded.specs.declared.database.Database.{Database}
+use Rattle.ripsawbean.specs.Prelude.{Cmd, Database}
 use Rattle.ripsawbean.specs.declared.typed.Unfit.{Unfit}
 use Rattle.ripsawbean.specs.declared.typed.Unfit.TheVariants.{KeyLength, ValueLength, NoMemory}
 use Rattle.ripsawbean.specs.TypedExports.{MadeOn, PolledOn, seat_fault}

@@ -1,11 +1,9 @@
 -- The word `=>` behind the arguments of a command.
-use Rattle.std.proofs.lemmas.Grind.{common_steps}
+use Rattle.script.proofs.Common.{WordCount, common_steps, drop-drop}
 use Rattle.std.proofs.Common.{arith}
 use Rattle.std.proofs.Common.{◌≡◌, ℕ, zero, suc, ◌+◌, Bool, cond, List, [], ◌∷◌, get_or, drop, Option, Some, None, Ok, Err, refl, sym, ap, ◌∙◌}
 use Rattle.std.specs.Prelude.{codes, bytes_eq, MatchOption}
 use Rattle.std.specs.Borrow.{Bor}
-use Rattle.std.proofs.lemmas.List.{drop-drop}
-use Rattle.spelled_words.specs.declared.fault.LineFault.TheVariants.{WordCount}
 use Rattle.script.specs.EventLines.{behind_arrow}
 
 -- a word was taken, or none was left

@@ -1,17 +1,10 @@
 -- The lines of a text, one by one.
-use Rattle.std.proofs.lemmas.Grind.{common_steps}
+use Rattle.script.proofs.Common.{AllByRecursion, IsWord, Lacks, common_steps, concat, eqb-true, is_printable, joined, joined_printable, list_all, ne_eqb, nil_from_length, onto_first, place_cases, position_or_len}
 use Rattle.std.proofs.Common.{rules}
 use Rattle.std.proofs.Common.{◌≡◌, ℕ, suc, ◌+◌, ◌<◌, ◌≤◌, Bool, true, false, cond, List, [], ◌∷◌, ◌++◌, length, take, drop, Some, None, refl, sym, ap, ◌∙◌, arith}
 use Rattle.std.specs.Prelude.{◌==◌, position}
-use Rattle.std.specs.List.{AllByRecursion, list_all, onto_first, position_or_len, concat}
 use Rattle.std.proofs.lemmas.List.Recursion.{is_position_or_len}
-use Rattle.std.proofs.lemmas.Bool.{ne_eqb, eqb-true}
-use Rattle.std.proofs.lemmas.List.{nil_from_length}
-use Rattle.word_lines.specs.Commands.{joined}
-use Rattle.word_lines.specs.Words.{is_printable}
-use Rattle.word_lines.proofs.JoinedParts.{Lacks, IsWord, joined_printable}
 use Rattle.script.specs.Lines.{is_newline, lines_of}
-use Rattle.word_lines.proofs.Splitting.{place_cases}
 
 -- how many bytes stand before the first newline
 abbrev before_newline : List ℕ → ℕ

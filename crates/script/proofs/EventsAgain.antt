@@ -1,44 +1,18 @@
 -- What is written of an event is read so.
-use Rattle.std.proofs.lemmas.Grind.{common_steps}
+use Rattle.script.proofs.Common.{All, AllByRecursion, Event, Format, IsAfter, IsEvent, IsMessage, IsNumber, IsPair, IsRefusal, IsReply, IsWord, KeepsLimit, Lacks, LineFault, Message, Refusal, Reply, after_text, base64, bytes_few, bytes_word, command_words, common_steps, decimal_all, event_text, flat_map, following_lines, header_lines, heading_text, joined, joined_few, key_again, key_limit, le-ltb, length-append, length-replicate, line_limit, list_all-append, message_line, ne_eqb, number_again, number_length, number_word, read_again, recursion_from_All, refusal_words, reply_words, room, row_line, session_again, spelling, text_again, text_at, value_again, value_limit, words_again, words_of, words_then}
 use Rattle.std.proofs.Common.{◌≡◌, ℕ, zero, suc, ◌+◌, ◌*◌, ◌≤◌, false, List, [], ◌∷◌, ◌++◌, length, Option, Some, None, Result, Ok, refl, sym, ap, ◌∙◌, append_assoc, arith}
 use Rattle.std.specs.Prelude.{codes, decimal, not, ◌==◌}
-use Rattle.std.specs.List.{All, AllByRecursion, flat_map}
-use Rattle.std.proofs.lemmas.Bool.{ne_eqb, le-ltb}
-use Rattle.std.proofs.lemmas.List.{length-append}
-use Rattle.std.proofs.lemmas.List.Elements.{recursion_from_All}
-use Rattle.std.proofs.lemmas.List.Folds.{list_all-append}
-use Rattle.text_format.specs.declared.Format.{Format}
-use Rattle.text_format.specs.Limits.{key_limit, value_limit, line_limit, header_lines}
 use Rattle.base64.proofs.RoundTrip.{length-encode_symbols}
-use Rattle.std.proofs.lemmas.List.{length-replicate}
-use Rattle.spans.specs.declared.calls.events.Event.{Event}
-use Rattle.spans.specs.declared.calls.messages.Message.{Message}
 use Rattle.spans.specs.declared.calls.messages.Message.TheVariants as message
-use Rattle.spans.specs.declared.calls.replies.Reply.{Reply}
 use Rattle.spans.specs.declared.calls.replies.Reply.TheVariants as reply
-use Rattle.spans.specs.declared.calls.replies.Refusal.{Refusal}
 use Rattle.spans.specs.declared.calls.replies.Refusal.TheVariants as refusal
-use Rattle.spelled_words.specs.declared.fault.LineFault.{LineFault}
 use Rattle.script.specs.declared.reply_reading.Shape.{Shape}
 use Rattle.script.specs.declared.reply_reading.Shape.TheVariants as shape
-use Rattle.word_lines.specs.Spelling.{spelling}
-use Rattle.word_lines.specs.Words.{text_at}
 use Rattle.script.specs.Lines.{Place, lines_of}
-use Rattle.json_lines.specs.Messages.{IsMessage, IsAfter}
-use Rattle.word_lines.specs.Limits.{IsNumber, IsPair, IsRefusal, IsReply, IsEvent, KeepsLimit}
-use Rattle.word_lines.specs.Commands.{joined, words_of}
-use Rattle.json_lines.specs.Messages.{base64, after_text, message_line}
-use Rattle.word_lines.specs.Replies.{row_line, refusal_words, reply_words, following_lines}
-use Rattle.word_lines.specs.Events.{heading_text, event_text}
 use Rattle.script.specs.ReplyReading.{refusal_at, stats_at, shape_at, named_at, reply_at}
 use Rattle.script.specs.EventLines.{behind_arrow, heading_of, heading_at, pair_at, pair_of, row_line_at, message_line_at}
 use Rattle.script.specs.Transcripts.{Fault, many_at, following_at, event_at, events_at, body_at, transcript_at, events_text, transcript_text}
-use Rattle.word_lines.proofs.JoinedParts.{Lacks, IsWord, text_again, words_again, decimal_all}
-use Rattle.word_lines.proofs.WrittenWords.{room, number_word, number_length, bytes_word, bytes_few, words_then, joined_few}
-use Rattle.word_lines.proofs.ReadParts.{command_words}
 use Rattle.script.proofs.WrittenReplies.{reply_are_words}
-use Rattle.word_lines.proofs.ReadWords.{number_again, session_again, key_again, value_again}
-use Rattle.word_lines.proofs.CommandsAgain.{read_again}
 use Rattle.script.proofs.MessageLines.{message_only, base64_all}
 use Rattle.word_lines.proofs.Joining.{some_words}
 use Rattle.script.proofs.CutLines.{lines_again, words_line_again}

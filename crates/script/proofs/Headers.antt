@@ -1,21 +1,9 @@
 -- A text behind its header.
-use Rattle.std.proofs.lemmas.Grind.{common_steps}
+use Rattle.script.proofs.Common.{All, Event, Format, IsEvent, WordCount, bytes_eq-Decides, common_steps, decimal_all, drop_at, format_of, header, header_lines, heading_text, list_all, ne_eqb, recursion_from_All, take_at}
 use Rattle.std.proofs.Common.{◌≡◌, ℕ, ◌+◌, ◌≤◌, ◌<◌, Bool, true, false, List, [], ◌∷◌, ◌++◌, length, take, drop, Err, refl, sym, ap, ◌∙◌, arith}
 use Rattle.std.specs.Prelude.{bytes_eq, not, ◌==◌, ◌^◌}
-use Rattle.std.specs.List.{All, list_all}
-use Rattle.std.proofs.lemmas.Bool.{ne_eqb}
 use Rattle.std.proofs.lemmas.Fmt.{decimal_nonempty}
-use Rattle.std.proofs.lemmas.List.Elements.{recursion_from_All}
-use Rattle.std.proofs.lemmas.List.{take_at, drop_at}
-use Rattle.std.proofs.lemmas.Slice.Eq.{bytes_eq-Decides}
-use Rattle.spans.specs.declared.calls.events.Event.{Event}
-use Rattle.text_format.specs.declared.Format.{Format}
-use Rattle.text_format.specs.Limits.{header, header_lines, format_of}
 use Rattle.text_format.specs.declared.Format.TheVariants.{One, Two}
-use Rattle.spelled_words.specs.declared.fault.LineFault.TheVariants.{WordCount}
-use Rattle.word_lines.specs.Events.{heading_text}
-use Rattle.word_lines.specs.Limits.{IsEvent}
-use Rattle.word_lines.proofs.JoinedParts.{decimal_all}
 use Rattle.script.specs.Lines.{Place, lines_of}
 use Rattle.script.specs.Transcripts.{HasHeader, body_at, left_at, left_of, transcript_at, transcript_text}
 

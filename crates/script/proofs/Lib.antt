@@ -1,3 +1,4 @@
+pub mod Common
 pub mod CutLines
 pub mod TakeLines
 pub mod Headers

@@ -1,12 +1,8 @@
 -- A long value behind the command of an event's first line.
-use Rattle.std.proofs.lemmas.Grind.{common_steps}
+use Rattle.script.proofs.Common.{common_steps, list_any, list_any-append, number_at, row_at, session_at, table}
 use Rattle.std.proofs.Common.{arith}
 use Rattle.std.proofs.Common.{◌≡◌, ℕ, true, false, Bool, ◌||◌, List, Ok, refl}
-use Rattle.std.specs.List.{list_any}
-use Rattle.std.proofs.lemmas.List.Folds.{list_any-append}
 use Rattle.spelled_words.specs.Memory.{is_long}
-use Rattle.word_lines.specs.Reading.{number_at, session_at, row_at}
-use Rattle.word_lines.specs.Table.{table}
 use Rattle.word_lines.specs.declared.table.Form.{Form}
 use Rattle.script.specs.EventLines.{behind_arrow}
 use Rattle.script.specs.Memory.{event_words_of, ok_has, value_words}

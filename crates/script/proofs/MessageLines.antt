@@ -1,32 +1,17 @@
 -- Messages and their lines, one to one.
-use Rattle.std.proofs.lemmas.Grind.{common_steps}
+use Rattle.script.proofs.Common.{AllByRecursion, AreBytes, Fails, Follow, Format, IsKey, IsMessage, IsTimestamp, Lacks, Message, base64, bytes_eq-Decides, common_steps, decimal_all, join_with_byte, key_limit, le-leb, leb-true, list_all, list_all-append, lt-ltb, ltb-true, message_line, ne_eqb, slice_split, split_joined, symbols, text_at, value_limit}
 use Rattle.std.proofs.Common.{◌≡◌, ℕ, zero, suc, ◌+◌, ◌^◌, ◌<◌, Bool, true, cond, List, [], ◌∷◌, length, get_or, Option, Some, None, Ok, Err, refl, sym, ap, subst, ◌∙◌, append_assoc, arith}
 use Rattle.std.specs.Prelude.{codes, decimal, bytes_eq, ◌&&◌, ◌==◌, nat_lt, nat_le, not, option_and_then, replicate}
-use Rattle.std.specs.List.{list_all, slice_split, join_with_byte, AllByRecursion}
 use Rattle.std.specs.Result.{result_ok}
-use Rattle.std.proofs.lemmas.Bool.{leb-true, ltb-true, le-leb, lt-ltb}
-use Rattle.std.proofs.lemmas.Bool.{ne_eqb}
-use Rattle.std.proofs.lemmas.List.Folds.{list_all-append}
-use Rattle.std.proofs.lemmas.Slice.Eq.{bytes_eq-Decides}
-use Rattle.text_format.specs.declared.Format.{Format}
-use Rattle.text_format.specs.Limits.{key_limit, value_limit}
 use Rattle.base64.specs.Rfc4648.{encode_symbols}
 use Rattle.base64.specs.Engines.{standard}
 use Rattle.base64.specs.GeneralPurpose.{decoded_of}
 use Rattle.base64.proofs.EngineFacts.{decode_of-encode_of}
-use Rattle.spans.specs.declared.calls.messages.Message.{Message}
 use Rattle.spans.specs.declared.calls.messages.Message.TheVariants as message
-use Rattle.spelled_words.specs.declared.fault.LineFault.TheVariants.{Follow}
-use Rattle.word_lines.specs.Spelling.{AreBytes}
-use Rattle.word_lines.specs.Words.{text_at}
-use Rattle.json_lines.specs.Messages.{IsTimestamp, IsKey, IsMessage}
-use Rattle.json_lines.specs.Messages.{symbols, base64, message_line}
 use Rattle.script.specs.MessageReading.{between, is_lawful, message_of}
 use Rattle.json_lines.specs.declared.fault.MessageFault.{MessageFault}
 use Rattle.json_lines.specs.declared.fault.MessageFault.TheVariants.{NotJson, Shape, Number, Base64, Length, NoMemory}
-use Rattle.word_lines.specs.Reading.{Fails}
 use Rattle.script.specs.EventLines.{message_line_at, read_error_of}
-use Rattle.word_lines.proofs.JoinedParts.{Lacks, split_joined, decimal_all}
 use Rattle.json_lines.proofs.NumberWords.{number_only}
 use Rattle.word_lines.proofs.SpelledWords.{some_of, chosen}
 use Rattle.word_lines.proofs.Spellings.{both}

@@ -1,43 +1,20 @@
 -- What is read as an event is written so.
-use Rattle.std.proofs.lemmas.Grind.{common_steps}
+use Rattle.script.proofs.Common.{All, All-from_recursion, AllByRecursion, Begins, Cmd, Event, Follow, Format, IsCommand, IsEvent, IsMessage, IsNumber, IsPair, IsReply, LineFault, Message, Reply, WordCount, arguments_at, arguments_found, arity_of, bind_ok, bytes_eq-Decides, cases_lt, common_steps, concat, drop_at, drop_more, eqb-true, event_text, flat_map, following_lines, get_or_past, guarded, header, header_lines, joined, key_at, key_word, message_line, name_of, nil_from_length, number_at, ok_is, refused, reply_words, row_at, row_line, row_word, session_at, session_word, some_ok, spelling, table, text_at, text_found, value_at, value_word, word_at, word_found, words_at, words_found, words_of}
 use Rattle.std.proofs.Common.{Vec, Global, ◌≡◌, ℕ, zero, suc, ◌+◌, ◌<◌, ◌≤◌, Bool, true, false, cond, List, [], ◌∷◌, ◌++◌, length, get_or, take, drop, Result, Ok, Err, refl, sym, ap, subst, ◌∙◌, inl, inr, append_assoc, add-one, arith}
 use Rattle.std.specs.Prelude.{codes, decimal, bytes_eq, ok_or, nat_lt, ◌==◌, IfOk}
-use Rattle.std.specs.List.{All, AllByRecursion, concat, flat_map}
 use Rattle.std.proofs.Common.{Vec, Global, ◌≡◌, ℕ, zero, suc, ◌+◌, ◌<◌, ◌≤◌, Bool, true, false, cond, List, [], ◌∷◌, ◌++◌, length, get_or, take, drop, Result, Ok, Err, refl, sym, ap, subst, ◌∙◌, inl, inr, append_assoc, add-one, arith}
-use Rattle.std.proofs.lemmas.Bool.{cases_lt, eqb-true}
-use Rattle.std.proofs.lemmas.List.{nil_from_length, drop_at, drop_more, get_or_past}
-use Rattle.std.proofs.lemmas.List.Elements.{All-from_recursion}
-use Rattle.std.proofs.lemmas.Slice.Eq.{bytes_eq-Decides}
-use Rattle.text_format.specs.declared.Format.{Format}
-use Rattle.text_format.specs.Limits.{header, header_lines}
-use Rattle.spans.specs.declared.calls.commands.Cmd.{Cmd}
-use Rattle.spans.specs.declared.calls.events.Event.{Event}
-use Rattle.spans.specs.declared.calls.messages.Message.{Message}
-use Rattle.spans.specs.declared.calls.replies.Reply.{Reply}
 use Rattle.spans.specs.declared.calls.replies.Reply.TheVariants as reply
-use Rattle.spelled_words.specs.declared.fault.LineFault.{LineFault}
-use Rattle.spelled_words.specs.declared.fault.LineFault.TheVariants.{WordCount, Follow}
 use Rattle.script.specs.declared.headings.Heading.{Heading}
 use Rattle.script.specs.declared.reply_reading.Shape.{Shape}
 use Rattle.script.specs.declared.reply_reading.Shape.TheVariants as shape
-use Rattle.word_lines.specs.Words.{text_at, words_at}
-use Rattle.word_lines.specs.Table.{table}
-use Rattle.word_lines.specs.Spelling.{spelling}
 use Rattle.script.specs.Lines.{Place, lines_of}
-use Rattle.json_lines.specs.Messages.{message_line, IsMessage}
-use Rattle.word_lines.specs.Limits.{IsNumber, IsCommand, IsPair, IsReply, IsEvent}
-use Rattle.word_lines.specs.Commands.{joined, words_of}
-use Rattle.json_lines.specs.Messages.{message_line, IsMessage}
 use Rattle.script.specs.MessageReading.{message_of}
-use Rattle.word_lines.specs.Replies.{row_line, reply_words, following_lines}
-use Rattle.word_lines.specs.Events.{event_text}
-use Rattle.word_lines.specs.Reading.{◌>>=◌, word_at, number_at, session_at, key_at, value_at, row_at, arguments_at}
+use Rattle.word_lines.specs.Reading.{◌>>=◌}
 use Rattle.script.specs.ReplyReading.{told_as, to_the_end, reply_at}
 use Rattle.script.specs.EventLines.{behind_arrow, heading_of, heading_at, pair_at, pair_of, row_line_at, message_line_at}
 use Rattle.script.specs.Transcripts.{next_at, many_at, following_at, event_at, events_at, body_at, transcript_at, events_text, transcript_text, Tells}
 use Rattle.script.specs.declared.fault.TranscriptError.{TranscriptError}
-use Rattle.word_lines.proofs.ReadWords.{bind_ok, guarded, refused, some_ok, ok_is, number_word, session_word, key_word, value_word, word_found}
-use Rattle.word_lines.proofs.ReadCommands.{Begins, name_of, arity_of, arguments_found, text_found, words_found, row_word}
+use Rattle.word_lines.proofs.ReadWords.{number_word}
 use Rattle.script.proofs.ReadReplies.{shape_words, IsShape, reply_found, ended, told}
 use Rattle.script.proofs.MessageLines.{message_found}
 use Rattle.script.proofs.TakeLines.{next_found, event_fewer}

@@ -1,17 +1,10 @@
 -- What is read of a reply's words is written so.
-use Rattle.std.proofs.lemmas.Grind.{common_steps}
+use Rattle.script.proofs.Common.{AllByRecursion, Format, IsNumber, IsRefusal, IsReply, LineFault, Refusal, Reply, append-nil, bind_ok, bytes_eq-Decides, common_steps, following_lines, number_at, ok_is, pure, refusal_words, reply_words, some_ok, value_at, value_word, word_at, word_found}
 use Rattle.std.proofs.Common.{arith}
 use Rattle.std.proofs.Common.{◌≡◌, ℕ, Bool, true, false, cond, List, [], ◌∷◌, ◌++◌, Some, None, Result, Ok, Err, refl, sym, ap, subst, ◌∙◌}
 use Rattle.std.specs.Prelude.{codes, decimal, bytes_eq, ok_or}
-use Rattle.std.specs.List.{AllByRecursion}
-use Rattle.std.proofs.lemmas.List.{append-nil}
-use Rattle.std.proofs.lemmas.Slice.Eq.{bytes_eq-Decides}
-use Rattle.text_format.specs.declared.Format.{Format}
-use Rattle.spans.specs.declared.calls.replies.Reply.{Reply}
 use Rattle.spans.specs.declared.calls.replies.Reply.TheVariants as reply
-use Rattle.spans.specs.declared.calls.replies.Refusal.{Refusal}
 use Rattle.spans.specs.declared.calls.replies.Refusal.TheVariants as refusal
-use Rattle.spelled_words.specs.declared.fault.LineFault.{LineFault}
 use Rattle.spelled_words.specs.declared.fault.LineFault.TheVariants as fault
 use Rattle.script.specs.declared.reply_table.Kind.{Kind}
 use Rattle.script.specs.declared.reply_table.Kind.TheVariants as kind
@@ -19,12 +12,10 @@ use Rattle.script.specs.declared.reply_table.Reason.{Reason}
 use Rattle.script.specs.declared.reply_table.Reason.TheVariants as reason
 use Rattle.script.specs.declared.reply_reading.Shape.{Shape}
 use Rattle.script.specs.declared.reply_reading.Shape.TheVariants as shape
-use Rattle.word_lines.specs.Limits.{IsNumber, IsRefusal, IsReply}
-use Rattle.word_lines.specs.Reading.{◌>>=◌, word_at, number_at, value_at}
-use Rattle.word_lines.specs.Replies.{refusal_words, reply_words, following_lines}
+use Rattle.word_lines.specs.Reading.{◌>>=◌}
 use Rattle.script.specs.ReplyTable.{replies, kind_of}
 use Rattle.script.specs.ReplyReading.{told_as, to_the_end, of_number, of_two, refusal_at, stats_at, shape_at, named_at, reply_at}
-use Rattle.word_lines.proofs.ReadWords.{bind_ok, some_ok, ok_is, pure, number_word, value_word, word_found}
+use Rattle.word_lines.proofs.ReadWords.{number_word}
 
 -- the words of a reply of which the lines that follow aren't read yet
 unfoldable pub shape_words : Shape → List (List ℕ)

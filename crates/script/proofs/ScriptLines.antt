@@ -1,28 +1,14 @@
 -- The calls of a script, line by line.
 use Rattle.std.proofs.Common.{◌≡◌, ℕ, ◌+◌, ◌^◌, ◌<◌, List, [], ◌∷◌, ◌++◌, length, Some, None, Result, Ok, Err, refl, sym, ap, subst, ◌∙◌, inl, inr, append_assoc, arith, Vec, Global}
 use Rattle.std.specs.Prelude.{◌≢◌, decimal, IfOk, IfErr}
-use Rattle.std.specs.List.{All, AllByRecursion, concat}
-use Rattle.std.proofs.lemmas.List.{append-nil}
-use Rattle.std.proofs.lemmas.List.Elements.{All-from_recursion, recursion_from_All}
-use Rattle.text_format.specs.declared.Format.{Format}
-use Rattle.spans.specs.declared.calls.commands.Cmd.{Cmd}
-use Rattle.spelled_words.specs.declared.fault.LineFault.{LineFault}
+use Rattle.script.proofs.Common.{All, All-from_recursion, AllByRecursion, Cmd, Format, IsNumber, IsWord, LineFault, append-nil, command_again, command_at, command_found, command_words, concat, joined, number_word, recursion_from_All, table, words_of}
 use Rattle.script.specs.declared.fault.TranscriptError.{TranscriptError}
 use Rattle.script.specs.declared.fault.TranscriptError.TheVariants as errors
-use Rattle.word_lines.specs.Commands.{joined, words_of}
-use Rattle.word_lines.specs.Limits.{IsNumber}
 use Rattle.script.specs.Lines.{Place, lines_of}
 use Rattle.word_lines.specs.Memory.{WantsMemory, byte_words_at}
-use Rattle.word_lines.specs.Reading.{command_at}
-use Rattle.word_lines.specs.Table.{table}
 use Rattle.script.specs.Transcripts.{Fails, at_line}
 use Rattle.script.specs.Scripts.{Script, onto_script, script_of_lines, script_at, above, IsCall, call_line, script_text, TellsScript, ScriptWants}
-use Rattle.word_lines.proofs.ReadCommands.{command_found}
-use Rattle.word_lines.proofs.CommandsAgain.{command_again}
 use Rattle.script.proofs.CutLines.{lines_whole, words_line_again}
-use Rattle.word_lines.proofs.JoinedParts.{IsWord}
-use Rattle.word_lines.proofs.WrittenWords.{number_word}
-use Rattle.word_lines.proofs.ReadParts.{command_words}
 
 -- ---- a loop over lines
 

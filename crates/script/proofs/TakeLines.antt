@@ -1,24 +1,15 @@
 -- Lines read one after the other, as a loop does.
-use Rattle.std.proofs.lemmas.Grind.{common_steps}
+use Rattle.script.proofs.Common.{Event, Format, LineFault, Reply, append-nil, bind_ok, common_steps, eq-eqb, eqb-false, header_lines, lt-ltb, ok_is, onto_first, or_right}
 use Rattle.std.proofs.Common.{◌≡◌, ℕ, zero, suc, ◌-◌, ◌+◌, ◌<◌, ◌≤◌, List, [], ◌∷◌, ◌++◌, Result, Ok, Err, length, Bool, true, false, cond, Option, Some, None, refl, sym, ap, subst, ◌∙◌, append_assoc, arith, Vec, Global}
 use Rattle.std.specs.Prelude.{◌≢◌, ◌⊎◌, ◌==◌, ◌&&◌, nat_lt, IfErr}
-use Rattle.std.specs.List.{onto_first}
-use Rattle.std.proofs.lemmas.Bool.{eqb-false, eq-eqb, lt-ltb, or_right}
-use Rattle.std.proofs.lemmas.List.{append-nil}
-use Rattle.text_format.specs.declared.Format.{Format}
-use Rattle.text_format.specs.Limits.{header_lines}
-use Rattle.spans.specs.declared.calls.events.Event.{Event}
-use Rattle.spans.specs.declared.calls.replies.Reply.{Reply}
 use Rattle.spans.specs.declared.calls.replies.Reply.TheVariants as reply
 use Rattle.script.specs.declared.headings.Heading.{Heading}
 use Rattle.script.specs.declared.reply_reading.Shape.{Shape}
 use Rattle.script.specs.declared.reply_reading.Shape.TheVariants as shape
 use Rattle.script.specs.EventLines.{heading_at, row_line_at, message_line_at}
 use Rattle.script.specs.Memory.{words_want, ok_has, has_lines, counts_lines, lines_want, wants_at}
-use Rattle.spelled_words.specs.declared.fault.LineFault.{LineFault}
 use Rattle.script.specs.declared.fault.TranscriptError.{TranscriptError}
 use Rattle.script.specs.declared.fault.TranscriptError.TheVariants as errors
-use Rattle.word_lines.proofs.ReadWords.{bind_ok, ok_is}
 use Rattle.script.specs.Lines.{Place, is_newline, lines_of}
 use Rattle.word_lines.specs.Reading.{◌>>=◌}
 use Rattle.script.specs.Transcripts.{Fault, Fails, TakesLines, first_of, next_at, many_at, following_at, event_at, events_at, body_at, Transcript, nothing_left, onto_left, left_within, left_at, outcome_of, outcome, HasHeader, left_of, TranscriptWants, WantsNext, TakesEvent}

@@ -1,15 +1,8 @@
 -- What is written of a reply's first line is words.
 use Rattle.std.proofs.Common.{length, Some, None, refl, arith}
-use Rattle.std.specs.List.{AllByRecursion}
-use Rattle.text_format.specs.declared.Format.{Format}
-use Rattle.spans.specs.declared.calls.replies.Reply.{Reply}
+use Rattle.script.proofs.Common.{AllByRecursion, Format, IsRefusal, IsReply, IsWord, Refusal, Reply, bytes_word, number_word, refusal_words, reply_words}
 use Rattle.spans.specs.declared.calls.replies.Reply.TheVariants as reply
-use Rattle.spans.specs.declared.calls.replies.Refusal.{Refusal}
 use Rattle.spans.specs.declared.calls.replies.Refusal.TheVariants as refusal
-use Rattle.word_lines.specs.Replies.{refusal_words, reply_words}
-use Rattle.word_lines.specs.Limits.{IsRefusal, IsReply}
-use Rattle.word_lines.proofs.JoinedParts.{IsWord}
-use Rattle.word_lines.proofs.WrittenWords.{number_word, bytes_word}
 
 refusal_are_words : (r : Refusal) → IsRefusal r → AllByRecursion IsWord (refusal_words r)
 refusal_are_words (refusal.BelowClosed closed) is = ((omega arith, refl), (number_word closed is, tt))

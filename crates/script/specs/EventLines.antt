@@ -1,17 +1,11 @@
 -- Reading the lines of an event, each alone.
 use Rattle.std.specs.Prelude.{ℕ, ◌+◌, nat_lt, if◌then◌else◌, List, [], length, drop, slice_index_or, codes, Result, Ok, Err, ok_or, bytes_eq}
-use Rattle.text_format.specs.declared.Format.{Format}
-use Rattle.spans.specs.declared.calls.messages.Message.{Message}
-use Rattle.spelled_words.specs.declared.fault.LineFault.{LineFault}
-use Rattle.spelled_words.specs.declared.fault.LineFault.TheVariants.{WordCount, Follow}
-use Rattle.spelled_words.specs.declared.fault.ReadError.{ReadError}
+use Rattle.script.specs.Prelude.{Follow, Format, LineFault, Message, ReadError, WordCount, arguments_at, key_at, number_at, row_at, session_at, table, text_at, value_at, word_at, words_at}
 use Rattle.spelled_words.specs.declared.fault.ReadError.TheVariants as errors
 use Rattle.json_lines.specs.declared.fault.MessageFault.{MessageFault}
 use Rattle.json_lines.specs.declared.fault.MessageFault.TheVariants as message_faults
 use Rattle.script.specs.declared.headings.Heading.{Heading}
-use Rattle.word_lines.specs.Words.{text_at, words_at}
-use Rattle.word_lines.specs.Table.{table}
-use Rattle.word_lines.specs.Reading.{word_at, number_at, session_at, key_at, value_at, row_at, arguments_at, ◌>>=◌}
+use Rattle.word_lines.specs.Reading.{◌>>=◌}
 use Rattle.script.specs.ReplyReading.{told_as, to_the_end, reply_at}
 use Rattle.script.specs.MessageReading.{message_of}
 

@@ -1,3 +1,4 @@
+pub mod Prelude
 pub mod ReplyTable
 pub mod ReplyReading
 pub mod Lines

@@ -1,13 +1,7 @@
 -- Which events may want memory to be read: by their first lines (this project).
 use Rattle.std.specs.Prelude.{nat_lt, ℕ, Bool, true, false, ◌&&◌, ◌||◌, if◌then◌else◌, length, take, List, [], ◌∷◌, ◌++◌, Option, Some, Result, Ok, Err}
-use Rattle.std.specs.List.{list_any}
-use Rattle.text_format.specs.declared.Format.{Format}
-use Rattle.spelled_words.specs.declared.fault.LineFault.{LineFault}
-use Rattle.spelled_words.specs.Memory.{is_long}
-use Rattle.word_lines.specs.Memory.{byte_words}
-use Rattle.word_lines.specs.Reading.{number_at, session_at, row_at, ◌>>=◌}
-use Rattle.word_lines.specs.Table.{table}
-use Rattle.word_lines.specs.Words.{text_at, words_at}
+use Rattle.script.specs.Prelude.{Format, LineFault, byte_words, is_long, list_any, number_at, row_at, session_at, table, text_at, words_at}
+use Rattle.word_lines.specs.Reading.{◌>>=◌}
 use Rattle.script.specs.declared.headings.Heading.{Heading}
 use Rattle.script.specs.declared.reply_reading.Shape.{Shape}
 use Rattle.script.specs.declared.reply_reading.Shape.TheVariants as shape

@@ -1,14 +1,10 @@
 -- The message of a JSON line: what stands between the quotes, where the line is that of this message.
 use Rattle.std.specs.Prelude.{ℕ, ◌==◌, nat_le, nat_lt, Bool, true, ◌&&◌, if◌then◌else◌, List, [], ◌∷◌, length, Option, Some, None, option_and_then, bytes_eq}
-use Rattle.std.specs.List.{list_all, slice_split}
-use Rattle.text_format.specs.declared.Format.{Format}
-use Rattle.text_format.specs.Limits.{key_limit, value_limit}
+use Rattle.script.specs.Prelude.{Format, Message, key_limit, list_all, message_line, slice_split, value_limit}
 use Rattle.base64.specs.Engines.{standard}
 use Rattle.base64.specs.GeneralPurpose.{decoded_of}
-use Rattle.spans.specs.declared.calls.messages.Message.{Message}
 use Rattle.spans.specs.declared.calls.messages.Message.TheVariants as message
 use Rattle.json_lines.specs.Numbers.{number_of}
-use Rattle.json_lines.specs.Messages.{message_line}
 
 -- the row of a timestamp, a key and a value
 abbrev row_of : ℕ → List ℕ → Option (List ℕ) → Message

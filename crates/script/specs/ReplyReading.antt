@@ -1,11 +1,9 @@
 -- Reading the words of a reply.
 use Rattle.std.specs.Prelude.{ℕ, ◌==◌, if◌then◌else◌, List, length, Some, None, Result, Ok, Err, ok_or}
-use Rattle.text_format.specs.declared.Format.{Format}
-use Rattle.spans.specs.declared.calls.replies.Reply.{Reply}
+use Rattle.script.specs.Prelude.{Format, LineFault, Reply, number_at, value_at, word_at}
 use Rattle.spans.specs.declared.calls.replies.Reply.TheVariants as reply
 use Rattle.spans.specs.declared.calls.replies.Refusal.{Refusal}
 use Rattle.spans.specs.declared.calls.replies.Refusal.TheVariants as refusal
-use Rattle.spelled_words.specs.declared.fault.LineFault.{LineFault}
 use Rattle.spelled_words.specs.declared.fault.LineFault.TheVariants as fault
 use Rattle.script.specs.declared.reply_table.Kind.{Kind}
 use Rattle.script.specs.declared.reply_table.Kind.TheVariants as kind
@@ -13,7 +11,7 @@ use Rattle.script.specs.declared.reply_table.Reason.{Reason}
 use Rattle.script.specs.declared.reply_table.Reason.TheVariants as reason
 use Rattle.script.specs.declared.reply_reading.Shape.{Shape}
 use Rattle.script.specs.declared.reply_reading.Shape.TheVariants as shape
-use Rattle.word_lines.specs.Reading.{◌>>=◌, word_at, number_at, value_at}
+use Rattle.word_lines.specs.Reading.{◌>>=◌}
 use Rattle.script.specs.ReplyTable.{replies, kind_of}
 
 -- any fault told as this one

@@ -1,17 +1,11 @@
 -- The commands of a whole script, up to its first faulty line.
 use Rattle.std.specs.Prelude.{◌≡◌, ◌≢◌, ◌⊎◌, ℕ, ◌+◌, ◌<◌, length, List, [], ◌∷◌, ◌++◌, Option, Some, None, Result, Ok, Err}
-use Rattle.std.specs.List.{flat_map}
-use Rattle.text_format.specs.declared.Format.{Format}
+use Rattle.script.specs.Prelude.{Format, IsCommand, LineFault, WantsMemory, byte_words_at, command_at, flat_map, table}
 use Rattle.spans.specs.declared.calls.commands.Cmd.{Cmd}
-use Rattle.spelled_words.specs.declared.fault.LineFault.{LineFault}
 use Rattle.script.specs.declared.fault.TranscriptError.{TranscriptError}
 use Rattle.script.specs.declared.fault.TranscriptError.TheVariants as errors
 use Rattle.word_lines.specs.Commands.{command_line}
-use Rattle.word_lines.specs.Limits.{IsCommand}
 use Rattle.script.specs.Lines.{lines_of}
-use Rattle.word_lines.specs.Reading.{command_at}
-use Rattle.word_lines.specs.Memory.{WantsMemory, byte_words_at}
-use Rattle.word_lines.specs.Table.{table}
 use Rattle.script.specs.Transcripts.{Fault}
 
 -- sessions, each with a command

@@ -1,15 +1,8 @@
 -- Reading transcripts from the first line to the last: the events, or the first fault with the number of its line.
 use Rattle.word_lines.specs.Reading.{◌>>=◌}
 use Rattle.std.specs.Prelude.{◌≡◌, ◌≢◌, ◌⊎◌, Bool, true, ℕ, zero, suc, ◌+◌, ◌==◌, if◌then◌else◌, List, [], ◌∷◌, ◌++◌, length, take, drop, bytes_eq, Option, Some, None, Result, Ok, Err}
-use Rattle.std.specs.List.{flat_map, list_any}
-use Rattle.text_format.specs.declared.Format.{Format}
-use Rattle.text_format.specs.Limits.{header, header_lines}
-use Rattle.spans.specs.declared.calls.events.Event.{Event}
-use Rattle.spans.specs.declared.calls.replies.Reply.{Reply}
+use Rattle.script.specs.Prelude.{Event, Follow, Format, LineFault, ReadError, Reply, WordCount, flat_map, header, header_lines, list_any}
 use Rattle.spans.specs.declared.calls.replies.Reply.TheVariants as reply
-use Rattle.spelled_words.specs.declared.fault.LineFault.{LineFault}
-use Rattle.spelled_words.specs.declared.fault.LineFault.TheVariants.{WordCount, Follow}
-use Rattle.spelled_words.specs.declared.fault.ReadError.{ReadError}
 use Rattle.spelled_words.specs.declared.fault.ReadError.TheVariants as read_error
 use Rattle.script.specs.declared.fault.TranscriptError.{TranscriptError}
 use Rattle.script.specs.declared.fault.TranscriptError.TheVariants as errors

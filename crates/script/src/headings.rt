@@ -1,10 +1,8 @@
 //! The first line of an event: its position, its session, its command and what its reply's words say.
 ghost use Rattle.std.specs.Prelude.{◌≡◌, drop, true, IfErr};
-ghost use Rattle.word_lines.specs.Reading.{Gives};
-ghost use Rattle.spelled_words.specs.declared.fault.ReadError.TheVariants.{NoMemory};
+ghost use Rattle.script.specs.Prelude.{Gives, NoMemory, is_long};
 ghost use Rattle.script.specs.EventLines.{behind_arrow, heading_of, heading_at};
 ghost use Rattle.std.specs.List.{list_any};
-ghost use Rattle.spelled_words.specs.Memory.{is_long};
 ghost use Rattle.script.specs.Memory.{event_words_at, event_words_of, ok_has};
 
 use crate::reply_reading::{Shape, read_reply};

@@ -1,12 +1,7 @@
 //! What holds of all texts, as the contracts of functions that do nothing.
 ghost use Rattle.std.specs.Prelude.{◌≡◌, ℕ, ◌<◌, ◌^◌, List, Some, Ok};
 ghost use Rattle.std.specs.List.{All};
-ghost use Rattle.text_format.specs.Limits.{format_of};
-ghost use Rattle.text_format.specs.declared.Format.{Format};
-ghost use Rattle.spans.specs.declared.calls.events.Event.{Event};
-ghost use Rattle.spans.specs.declared.calls.messages.Message.{Message};
-ghost use Rattle.json_lines.specs.Messages.{IsMessage, message_line};
-ghost use Rattle.word_lines.specs.Limits.{IsEvent, KeepsLimit};
+ghost use Rattle.script.specs.Prelude.{Event, Format, IsEvent, IsMessage, KeepsLimit, Message, format_of, message_line};
 ghost use Rattle.script.specs.MessageReading.{message_of};
 ghost use Rattle.script.specs.Scripts.{Calls, IsCall, ReadsOn, faultless, script_at, script_text};
 ghost use Rattle.script.specs.Transcripts.{transcript_at, transcript_text};

@@ -1,9 +1,7 @@
 //! Replies read from their words.
 ghost use Rattle.std.specs.Prelude.{◌≡◌, ◌≢◌, true, IfErr};
-ghost use Rattle.word_lines.specs.Reading.{Gives, Takes};
-ghost use Rattle.spelled_words.specs.declared.fault.ReadError.TheVariants.{NoMemory};
+ghost use Rattle.script.specs.Prelude.{Gives, NoMemory, Takes, has_long, is_long};
 ghost use Rattle.std.specs.List.{list_any};
-ghost use Rattle.spelled_words.specs.Memory.{is_long, has_long};
 ghost use Rattle.script.specs.Memory.{value_words};
 ghost use Rattle.script.specs.ReplyReading.{stats_at, refusal_at, shape_at, named_at, reply_at};
 ghost use Rattle.script.specs.declared.reply_table.Kind.TheVariants.{Value};

@@ -13,10 +13,8 @@
 //! twice where bytes are escaped.
 ghost use Rattle.std.specs.Prelude.{◌≡◌, IfOk, IfErr};
 ghost use Rattle.std.specs.List.{All};
-ghost use Rattle.word_lines.specs.Memory.{WantsMemory, byte_words_at};
-ghost use Rattle.word_lines.specs.Reading.{command_at};
+ghost use Rattle.script.specs.Prelude.{WantsMemory, byte_words_at, command_at, table};
 ghost use Rattle.script.specs.Scripts.{IsCall, ScriptWants, TellsScript, script_text, script_at};
-ghost use Rattle.word_lines.specs.Table.{table};
 ghost use Rattle.script.specs.Transcripts.{Tells, at_line};
 ghost use Rattle.script.specs.declared.fault.TranscriptError.TheVariants.{NoMemory};
 

@@ -1,2 +1,3 @@
+pub mod Common
 pub mod Longer
 pub mod Each

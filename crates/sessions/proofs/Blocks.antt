@@ -1,7 +1,6 @@
 -- What waits in a block.
 use Rattle.std.proofs.Common.{◌≡◌, ℕ, ◌+◌, ◌-◌, ◌≤◌, List, ◌++◌, length, take, drop, arith, ◌∙◌, sym, ap, subst, append_assoc}
-use Rattle.std.proofs.lemmas.List.{take-append-le, take-take, drop-take, drop-drop, length-take, length-take-le}
-use Rattle.std.proofs.Math.Seq.{take-append-add}
+use Rattle.sessions.proofs.Common.{drop-drop, drop-take, length-take, length-take-le, take-append-add, take-append-le, take-take}
 
 -- what came behind it waits too
 pub grown : (s e n m : ℕ) (xs got rest tail : List ℕ) → s ≡ 0 → e ≤ length xs → n ≤ length got → e + n ≤ m → take (e + n - s) (drop s (take m ((take e xs ++ (got ++ rest)) ++ tail))) ≡ take (e - s) (drop s xs) ++ take n got

@@ -1,11 +1,6 @@
 -- A run that stopped, once its database is finished.
 use Rattle.std.proofs.Common.{◌≡◌, ◌≢◌, ℕ, ◌+◌, List, [], ◌++◌, length, refl, sym, ap, ◌∙◌, subst, append-nil, append_assoc, inl, arith}
-use Rattle.text_format.specs.declared.Format.{Format}
-use Rattle.spans.specs.declared.calls.events.Event.{Event}
-use Rattle.ticket_lock.specs.Lists.{most}
-use Rattle.shared_db.specs.declared.config.Config.{Config}
-use Rattle.shared_db.specs.Opening.{SeatsInRange, RingInRange}
-use Rattle.shared_db.specs.Seats.{first_of}
+use Rattle.sessions.proofs.Common.{Config, Event, Format, RingInRange, SeatsInRange, first_of, most, script_at}
 use Rattle.sessions.specs.declared.ending.ServeEnd.{ServeEnd}
 use Rattle.sessions.specs.declared.ending.ServeEnd.TheVariants as end
 use Rattle.sessions.specs.Devices.{Reads, Writes}
@@ -13,7 +8,6 @@ use Rattle.sessions.specs.declared.serving.Run.{Run}
 use Rattle.sessions.specs.Writing.{HasTaken, HasBegun}
 use Rattle.sessions.specs.Made.{HasMade, HasSpent, IsHistory}
 use Rattle.sessions.specs.Runs.{EndsBy, FailsBy, IsOpenAt, IsServed, last_line}
-use Rattle.script.specs.Scripts.{script_at}
 use Rattle.sessions.specs.Going.{IsStopped, IsRefused, kept_at}
 use Rattle.sessions.proofs.Goings.{ends_known, cut_off}
 

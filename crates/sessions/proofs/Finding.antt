@@ -1,14 +1,9 @@
 -- The first newline.
 use Rattle.std.proofs.Common.{◌≡◌, ℕ, suc, ◌+◌, ◌-◌, ◌<◌, ◌≤◌, Bool, true, false, List, [], ◌∷◌, ◌++◌, length, get_or, take, drop, Option, Some, None, arith, refl, ◌∙◌, sym, ap, cond, inl, inr}
 use Rattle.std.specs.Prelude.{position, is_some, IfSome}
-use Rattle.std.proofs.lemmas.List.{length-append, length-take-le, take-append-drop}
+use Rattle.sessions.proofs.Common.{fails_before_first, false_from_ne_true, has_newline, is_newline, le-ltb, length-append, length-take-le, lt-ltb, position_or_len, position_or_len_is, take-append-drop}
 use Rattle.std.proofs.lemmas.List.Recursion.{is_position_or_len}
-use Rattle.std.proofs.lemmas.List.Sums.{fails_before_first, position_or_len_is}
-use Rattle.std.proofs.lemmas.Bool.{false_from_ne_true, lt-ltb, le-ltb}
-use Rattle.std.specs.List.{position_or_len}
 use Rattle.memchr.specs.Find.{IsFirstByte, is_byte}
-use Rattle.script.specs.Lines.{is_newline}
-use Rattle.word_lines.specs.Words.{has_newline}
 use Rattle.word_lines.proofs.Splitting.{end_is, place_cases}
 
 pub first_newline : (bytes : List ℕ) (r : _) → IsFirstByte (is_byte 10) bytes r → (r ≡ position is_newline bytes) × IfSome r (λ at. at < length bytes)

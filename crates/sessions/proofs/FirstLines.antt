@@ -1,14 +1,8 @@
 -- The first line of what waits, whatever comes behind.
 use Rattle.std.proofs.Common.{◌≡◌, ℕ, suc, ◌+◌, ◌-◌, ◌<◌, ◌≤◌, ◌⊎◌, ⊎_elim, Bool, true, false, cond, List, [], ◌∷◌, ◌++◌, length, take, drop, Option, Some, None, Err, refl, sym, ap, subst, ◌∙◌, arith, append-nil, length-append, inl, inr}
 use Rattle.std.specs.Prelude.{position}
-use Rattle.std.proofs.lemmas.Bool.{lt-ltb}
-use Rattle.std.proofs.lemmas.List.{length-take, take-append-le}
-use Rattle.std.proofs.Math.Seq.{take-length, take-append-add}
-use Rattle.text_format.specs.declared.Format.{Format}
-use Rattle.text_format.specs.Limits.{line_limit}
+use Rattle.sessions.proofs.Common.{Format, has_newline, is_newline, length-take, line_limit, lines_of, lt-ltb, take-append-add, take-append-le, take-length, text_at, without_newline}
 use Rattle.spelled_words.specs.declared.fault.LineFault.TheVariants as faults
-use Rattle.word_lines.specs.Words.{has_newline, without_newline, text_at}
-use Rattle.script.specs.Lines.{is_newline, lines_of}
 use Rattle.script.proofs.CutLines.{lines_alone, lines_first}
 use Rattle.sessions.specs.declared.lines.Lines.{Lines}
 use Rattle.sessions.specs.Waiting.{waiting, IsLine}

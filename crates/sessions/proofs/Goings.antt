@@ -1,12 +1,6 @@
 -- A run from one step to the next, and how it ends.
 use Rattle.std.proofs.Common.{◌≡◌, ℕ, Bool, List, [], ◌∷◌, ◌++◌, refl, sym, ap, ◌∙◌, subst, append-nil, append_assoc, inl, inr}
-use Rattle.text_format.specs.declared.Format.{Format}
-use Rattle.text_format.specs.Limits.{header}
-use Rattle.spans.specs.declared.calls.events.Event.{Event}
-use Rattle.word_lines.specs.Events.{event_text, fault_line, spent_line}
-use Rattle.script.specs.Transcripts.{events_text, transcript_text}
-use Rattle.ticket_lock.specs.Lists.{StartsWith}
-use Rattle.shared_db.specs.declared.config.Config.{Config}
+use Rattle.sessions.proofs.Common.{Config, Event, Format, StartsWith, event_text, events_text, fault_line, header, spent_line, transcript_text}
 use Rattle.sessions.specs.declared.ending.ServeEnd.{ServeEnd}
 use Rattle.sessions.specs.declared.ending.ServeEnd.TheVariants as end
 use Rattle.sessions.specs.Runs.{calls_of, IsLast, IsPart, IsSpentAt, IsWanting, EndsBy}

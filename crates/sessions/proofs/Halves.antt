@@ -1,10 +1,8 @@
 -- A list that was split in two, with one element of each half written.
 use Rattle.std.proofs.Common.{◌≡◌, ℕ, zero, suc, ◌<◌, List, [], ◌∷◌, ◌++◌, length, set, take, drop, refl, sym, ap, ◌∙◌, subst, arith}
-use Rattle.std.proofs.Math.Seq.{take-append_seam}
-use Rattle.std.proofs.lemmas.List.{length-set}
+use Rattle.sessions.proofs.Common.{each_read, length-set, take-append_seam}
 use mathlib.Core.Option.{some}
 use lib.ListN.{get_elem?, get_or}
-use Rattle.ticket_lock.proofs.ListFacts.{each_read}
 
 module _ {A : Type 0} where
   half_set : (xs : List A) (h : ℕ) (b : A) → h < length xs → take h xs ++ set (drop h xs) 0 b ≡ set xs h b

@@ -1,3 +1,4 @@
+pub mod Common
 pub mod Finding
 pub mod Blocks
 pub mod Halves

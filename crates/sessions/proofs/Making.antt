@@ -1,24 +1,9 @@
 -- The events of the calls so far, before and after the next.
 use Rattle.std.proofs.Common.{◌≡◌, ◌≢◌, ℕ, zero, suc, ◌+◌, ◌<◌, ◌≤◌, ◌⊎◌, nat_lt, cond, Bool, true, false, List, [], ◌∷◌, ◌++◌, length, set, refl, sym, ap, ◌∙◌, subst, ⊎_elim, arith, append-nil, append_assoc, length-append}
-use Rattle.std.specs.List.{sum_by}
-use Rattle.std.proofs.lemmas.List.Sums.{sum_by-cons}
-use Rattle.std.proofs.lemmas.List.{nil_from_length}
-use Rattle.std.proofs.lemmas.Bool.{le-ltb}
+use Rattle.sessions.proofs.Common.{AllNew, Cmd, Db, Event, Ghosts, IsAnswered, IsSpent, Seat, Served, StartsWith, each_set, first_of, le-ltb, longer, mine, most, nil_from_length, same_sum, seen, set_there, starts_length, sum_by, sum_by-cons, sum_set}
 use mathlib.Core.Option.{some, some-injective}
 use lib.ListN.{get_elem?}
-use Rattle.spans.specs.declared.calls.commands.Cmd.{Cmd}
-use Rattle.spans.specs.declared.calls.events.Event.{Event}
 use Rattle.engine.specs.declared.Engine.{Engine}
-use Rattle.ticket_lock.specs.declared.chronicle.Chronicle.{Ghosts}
-use Rattle.ticket_lock.specs.declared.lock.Seat.{Seat}
-use Rattle.ticket_lock.specs.Lists.{StartsWith, longer, most}
-use Rattle.ticket_lock.specs.Seats.{seen, mine}
-use Rattle.ticket_lock.specs.Turns.{IsSpent}
-use Rattle.ticket_lock.proofs.ListFacts.{each_set, set_there, sum_set, same_sum, starts_length}
-use Rattle.shared_db.specs.declared.served.Served.{Served}
-use Rattle.shared_db.specs.declared.db.Db.{Db}
-use Rattle.shared_db.specs.Seats.{AllNew, first_of}
-use Rattle.shared_db.specs.Calls.{IsAnswered}
 use Rattle.shared_db.specs.Whole.{IsWhole}
 use Rattle.sessions.specs.Seating.{HaveMet}
 use Rattle.sessions.specs.Made.{woven, told, HasMade, HasSpent, IsHistory}

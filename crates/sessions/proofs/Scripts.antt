@@ -1,16 +1,7 @@
 -- What is read of an input whose first lines are calls.
 use Rattle.std.proofs.Common.{◌≡◌, ℕ, ◌+◌, ◌^◌, ◌<◌, ◌≤◌, ⊎_elim, Bool, true, List, [], ◌∷◌, ◌++◌, length, take, Some, None, Err, refl, sym, ap, ◌∙◌, arith, append-nil, append_assoc}
-use Rattle.std.specs.List.{All}
-use Rattle.text_format.specs.declared.Format.{Format}
-use Rattle.spans.specs.declared.calls.commands.Cmd.{Cmd}
-use Rattle.spelled_words.specs.declared.fault.LineFault.{LineFault}
+use Rattle.sessions.proofs.Common.{All, Cmd, Format, IsCall, LineFault, Script, above, call_line, command_at, lines_of, script_again, script_at, script_behind, script_of_lines, script_text, table, text_at}
 use Rattle.spelled_words.specs.declared.fault.LineFault.TheVariants as faults
-use Rattle.word_lines.specs.Words.{text_at}
-use Rattle.word_lines.specs.Reading.{command_at}
-use Rattle.word_lines.specs.Table.{table}
-use Rattle.script.specs.Lines.{lines_of}
-use Rattle.script.specs.Scripts.{Script, script_at, script_of_lines, script_text, call_line, above, IsCall}
-use Rattle.script.proofs.ScriptLines.{script_behind, script_again}
 use Rattle.sessions.specs.declared.lines.Lines.{Lines}
 use Rattle.sessions.specs.Waiting.{waiting, IsLine}
 use Rattle.sessions.specs.Runs.{MayHold, BeginWith, EndWithFault}

@@ -2,14 +2,7 @@
 use Rattle.std.proofs.Common.{◌≡◌, ℕ, ◌<◌, List, length, set, ◌∙◌}
 use mathlib.Core.Option.{some}
 use lib.ListN.{get_or, get_elem?}
-use Rattle.spans.specs.declared.calls.events.Event.{Event}
-use Rattle.ticket_lock.specs.declared.chronicle.Chronicle.{Ghosts}
-use Rattle.ticket_lock.specs.declared.lock.Seat.{Seat}
-use Rattle.ticket_lock.specs.Seats.{IsSame}
-use Rattle.ticket_lock.proofs.ListFacts.{each_read, each_set}
-use Rattle.shared_db.specs.declared.served.Served.{Served}
-use Rattle.shared_db.specs.declared.db.Db.{Db}
-use Rattle.shared_db.specs.Seats.{IsOf}
+use Rattle.sessions.proofs.Common.{Db, Event, Ghosts, IsOf, IsSame, Seat, Served, each_read, each_set}
 use Rattle.sessions.specs.Seating.{IsSeated, AreSeated}
 
 module _ {C : Ghosts Served Event} where

@@ -1,24 +1,9 @@
 -- The steps of a run.
 use Rattle.std.proofs.Common.{◌≡◌, ℕ, ◌+◌, ◌^◌, ◌<◌, ◌≤◌, true, List, [], ◌∷◌, ◌++◌, length, take, drop, None, Err, refl, sym, ap, ◌∙◌, subst, arith, append-nil, append_assoc, inl, inr, ⊎_elim}
 use Rattle.std.specs.Prelude.{position, vec_len}
-use Rattle.std.specs.List.{All}
-use Rattle.std.proofs.lemmas.List.{take-append-drop}
+use Rattle.sessions.proofs.Common.{All, Cmd, Config, Event, Format, IsCall, LineFault, SeatsInRange, WantsMemory, byte_words_at, command_at, command_line, event_text, fault_line, is_newline, script_again, script_text, spent_line, table, take-append-drop, transcript_text}
 use Rattle.std.proofs.lemmas.List.Elements.{All-append, All-cons, All-nil}
-use Rattle.spans.specs.declared.calls.commands.Cmd.{Cmd}
-use Rattle.spans.specs.declared.calls.events.Event.{Event}
-use Rattle.spelled_words.specs.declared.fault.LineFault.{LineFault}
-use Rattle.word_lines.specs.Commands.{command_line}
 use Rattle.word_lines.specs.Limits.{IsCommand}
-use Rattle.word_lines.specs.Events.{event_text, fault_line, spent_line}
-use Rattle.word_lines.specs.Memory.{WantsMemory, byte_words_at}
-use Rattle.word_lines.specs.Reading.{command_at}
-use Rattle.word_lines.specs.Table.{table}
-use Rattle.script.specs.Lines.{is_newline}
-use Rattle.script.specs.Scripts.{script_text, IsCall}
-use Rattle.script.specs.Transcripts.{transcript_text}
-use Rattle.script.proofs.ScriptLines.{script_again}
-use Rattle.shared_db.specs.declared.config.Config.{Config}
-use Rattle.shared_db.specs.Opening.{SeatsInRange}
 use Rattle.sessions.specs.declared.callers.Callers.{Callers}
 use Rattle.sessions.specs.declared.lines.Lines.{Lines}
 use Rattle.sessions.specs.declared.ending.ServeEnd.{ServeEnd}
@@ -26,7 +11,6 @@ use Rattle.sessions.specs.declared.ending.ServeEnd.TheVariants as end
 use Rattle.sessions.specs.Devices.{Reads, Writes}
 use Rattle.sessions.specs.declared.serving.Run.{Run}
 use Rattle.sessions.specs.declared.serving.Terms.{Terms}
-use Rattle.text_format.specs.declared.Format.{Format}
 use Rattle.sessions.specs.Waiting.{waiting, IsLine}
 use Rattle.sessions.specs.Writing.{HasTaken, HasBegun}
 use Rattle.sessions.specs.NextLines.{HasReadOn, IsSought}

@@ -1,9 +1,6 @@
 -- A transcript written event by event.
 use Rattle.std.proofs.Common.{◌≡◌, ◌<◌, ℕ, suc, List, [], ◌∷◌, ◌++◌, drop, length, get_or, refl, sym, ap, ◌∙◌, append-nil, append_assoc}
-use Rattle.std.proofs.Math.Seq.{drop-cons}
-use Rattle.spans.specs.declared.calls.events.Event.{Event}
-use Rattle.word_lines.specs.Events.{event_text}
-use Rattle.script.specs.Transcripts.{events_text}
+use Rattle.sessions.proofs.Common.{Event, drop-cons, event_text, events_text}
 use Rattle.sessions.specs.Writing.{HasTaken, HasBegun}
 
 -- nothing was written

@@ -1,14 +1,6 @@
 -- A run between two lines, and where it stops.
 use Rattle.std.specs.Prelude.{◌≡◌, ℕ, ◌+◌, true, false, List, [], ◌∷◌, ◌++◌, length, vec_len, Result, Ok, Err}
-use Rattle.std.specs.List.{All}
-use Rattle.text_format.specs.Limits.{header}
-use Rattle.word_lines.specs.Events.{fault_line, spent_line}
-use Rattle.spans.specs.declared.calls.events.Event.{Event}
-use Rattle.script.specs.Scripts.{script_text, IsCall}
-use Rattle.script.specs.Transcripts.{transcript_text}
-use Rattle.shared_db.specs.declared.config.Config.{Config}
-use Rattle.shared_db.specs.Opening.{SeatsInRange, RingInRange, IsReason}
-use Rattle.shared_db.specs.Seats.{first_of}
+use Rattle.sessions.specs.Prelude.{All, Config, Event, IsCall, IsReason, RingInRange, SeatsInRange, fault_line, first_of, header, script_text, spent_line, transcript_text}
 use Rattle.sessions.specs.declared.ending.ServeEnd.{ServeEnd}
 use Rattle.sessions.specs.declared.ending.ServeEnd.TheVariants as end
 use Rattle.sessions.specs.declared.serving.Run.{Run}

@@ -1,3 +1,4 @@
+pub mod Prelude
 pub mod Devices
 pub mod Waiting
 pub mod Writing

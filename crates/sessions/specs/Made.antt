@@ -1,14 +1,9 @@
 -- The events that one thread's calls have made, as its seats know them.
 use Rattle.std.specs.Prelude.{◌≡◌, ℕ, ◌≤◌, List, [], ◌∷◌, ◌++◌, length, map, reverse, sum_by, true}
-use Rattle.std.specs.List.{flat_map}
+use Rattle.sessions.specs.Prelude.{Event, Ghosts, Seat, Served, flat_map, met_spent, mine, seen}
 use mathlib.Core.Option.{some}
 use lib.ListN.{get_elem?}
-use Rattle.spans.specs.declared.calls.events.Event.{Event}
 use Rattle.spans.specs.Legal.{IsLegal, IsGapless}
-use Rattle.ticket_lock.specs.declared.chronicle.Chronicle.{Ghosts}
-use Rattle.ticket_lock.specs.declared.lock.Seat.{Seat}
-use Rattle.ticket_lock.specs.Seats.{seen, mine, met_spent}
-use Rattle.shared_db.specs.declared.served.Served.{Served}
 
 -- events, each behind those that came between it and the one before it
 abbrev pub woven : List (List Event × Event) → List Event

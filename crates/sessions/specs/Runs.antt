@@ -1,18 +1,10 @@
 -- What a run of a script is: its events, what it read and wrote, and how it ended.
 use Rattle.std.specs.Prelude.{◌≡◌, ℕ, ◌+◌, ◌≤◌, ◌⊎◌, Bool, true, List, [], ◌∷◌, ◌++◌, length, map, position, Some, None}
-use Rattle.text_format.specs.declared.Format.{Format}
+use Rattle.sessions.specs.Prelude.{Config, Event, Format, IsReason, RingInRange, SeatsInRange, StartsWith, fault_line, is_newline, most, script_at, script_text, spent_line, transcript_text}
 use Rattle.spans.specs.declared.calls.commands.Cmd.{Cmd}
-use Rattle.spans.specs.declared.calls.events.Event.{Event}
 use Rattle.spelled_words.specs.declared.fault.LineFault.{LineFault}
-use Rattle.word_lines.specs.Events.{fault_line, spent_line}
 use Rattle.word_lines.specs.Memory.{WantsMemory, byte_words_at}
 use Rattle.word_lines.specs.Table.{table}
-use Rattle.script.specs.Lines.{is_newline}
-use Rattle.script.specs.Scripts.{script_at, script_text}
-use Rattle.script.specs.Transcripts.{transcript_text}
-use Rattle.ticket_lock.specs.Lists.{most, StartsWith}
-use Rattle.shared_db.specs.declared.config.Config.{Config}
-use Rattle.shared_db.specs.Opening.{IsReason, SeatsInRange, RingInRange}
 use Rattle.sessions.specs.Devices.{Reads, Writes}
 use Rattle.sessions.specs.declared.ending.ServeEnd.{ServeEnd}
 use Rattle.sessions.specs.declared.ending.ServeEnd.TheVariants as end

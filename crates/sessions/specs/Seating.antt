@@ -2,14 +2,8 @@
 use Rattle.std.specs.Prelude.{◌≡◌, ℕ, List, set}
 use mathlib.Core.Option.{some}
 use lib.ListN.{get_elem?}
-use Rattle.spans.specs.declared.calls.events.Event.{Event}
-use Rattle.ticket_lock.specs.declared.chronicle.Chronicle.{Ghosts}
-use Rattle.ticket_lock.specs.declared.lock.Seat.{Seat}
-use Rattle.ticket_lock.specs.Lists.{longer, StartsWith}
-use Rattle.ticket_lock.specs.Seats.{number, seen, mine, met_spent}
-use Rattle.shared_db.specs.declared.served.Served.{Served}
+use Rattle.sessions.specs.Prelude.{Event, Ghosts, IsOf, Seat, Served, StartsWith, longer, met_spent, mine, number, seen}
 use Rattle.shared_db.specs.declared.db.Db.{Db}
-use Rattle.shared_db.specs.Seats.{IsOf}
 
 module _ {C : Ghosts Served Event} where
   -- the seat is of the database, and has this number

@@ -1,10 +1,8 @@
 -- The bytes of an input that were read and not yet taken, and what comes next in them.
 use Rattle.std.specs.Prelude.{◌≡◌, ℕ, ◌+◌, ◌-◌, ◌<◌, ◌≤◌, ◌⊎◌, Bool, true, false, List, ◌++◌, length, take, drop, position, Some, None}
-use Rattle.text_format.specs.declared.Format.{Format}
-use Rattle.text_format.specs.Limits.{line_limit}
+use Rattle.sessions.specs.Prelude.{Format, is_newline, line_limit}
 use Rattle.sessions.specs.Devices.{Reads, with_failed_read}
 use Rattle.sessions.specs.declared.lines.Lines.{Lines}
-use Rattle.script.specs.Lines.{is_newline}
 
 -- the bytes that wait
 abbrev pub waiting : Lines → List ℕ

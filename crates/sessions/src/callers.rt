@@ -1,11 +1,8 @@
 //! The callers of one database.
 ghost use Rattle.std.specs.Prelude.{◌≡◌, ◌≤◌, ◌<◌, ◌+◌, [], List, length, vec_len, IfOk, IfErr, OnErr, OnOk};
-ghost use Rattle.shared_db.specs.Opening.{IsReason, SeatsInRange, RingInRange};
-ghost use Rattle.shared_db.specs.Seats.{first_of, seat_count};
-ghost use Rattle.spans.specs.declared.calls.events.Event.{Event};
+ghost use Rattle.sessions.specs.Prelude.{Event, IsReason, RingInRange, SeatsInRange, first_of, most, seat_count};
 ghost use Rattle.sessions.specs.Seating.{AreSeated, HaveMet};
 ghost use Rattle.sessions.specs.Made.{HasMade, HasMadeMore, HasMadeNone, HasSpent, IsHistory};
-ghost use Rattle.ticket_lock.specs.Lists.{most};
 
 use engine::Engine;
 use shared_db::{Config, Db, OpenError, Seat};

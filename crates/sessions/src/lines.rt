@@ -11,8 +11,7 @@
 //! A front end asks for the [`next_line`](Lines::next_line), takes what it needs of it and advances. Where more has to
 //! be read, what the front end owes is written first, since a read may wait.
 ghost use Rattle.std.specs.Prelude.{◌≡◌, ◌≤◌, ◌<◌, ◌+◌, ◌-◌, [], true, false, position, take, drop, length, vec_len, IfOk, IfSome, OnOk, OnErr};
-ghost use Rattle.script.specs.Lines.{is_newline};
-ghost use Rattle.text_format.specs.Limits.{line_limit};
+ghost use Rattle.sessions.specs.Prelude.{is_newline, line_limit};
 
 use crate::ending::ServeEnd;
 use crate::output::Output;

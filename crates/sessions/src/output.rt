@@ -9,8 +9,7 @@
 //! output.write_last(sink, b"spent 2\n")?   waits: nothing, and the line is written
 //! ```
 ghost use Rattle.std.specs.Prelude.{◌≡◌, ◌<◌, ◌++◌, [], length, IfOk, OnOk, OnErr};
-ghost use Rattle.word_lines.specs.Commands.{command_line};
-ghost use Rattle.word_lines.specs.Events.{event_text};
+ghost use Rattle.sessions.specs.Prelude.{command_line, event_text};
 ghost use Rattle.sessions.specs.Writing.{pending_of, HasWritten};
 
 use crate::sink::{Sink, WriteFailed};

@@ -1,14 +1,8 @@
 -- A turn and what was made in it are an answered call.
 use Rattle.std.proofs.Common.{◌≡◌, ℕ, ◌+◌, ◌≤◌, List, [], ◌∷◌, ◌++◌, length, reverse, sym, ap, ◌∙◌, subst, arith}
 use Rattle.spans.specs.declared.calls.commands.Cmd.{Cmd}
-use Rattle.spans.specs.declared.calls.events.Event.{Event}
+use Rattle.shared_db.proofs.Common.{Engine, Event, Ghosts, IsSame, KeepsTurn, Seat, closed_timestamp, found, known, met_spent, mine, number, of_seat, seen}
 use Rattle.spans.specs.Legal.{IsLegal, IsGapless}
-use Rattle.engine.specs.declared.Engine.{Engine}
-use Rattle.engine.specs.Engine.{closed_timestamp}
-use Rattle.ticket_lock.specs.declared.chronicle.Chronicle.{Ghosts}
-use Rattle.ticket_lock.specs.declared.lock.Seat.{Seat}
-use Rattle.ticket_lock.specs.Lists.{of_seat}
-use Rattle.ticket_lock.specs.Seats.{number, seen, mine, known, met_spent, found, IsSame, KeepsTurn}
 use Rattle.ticket_lock.specs.Turns.{HasTurn}
 use Rattle.shared_db.specs.declared.served.Served.{Served}
 use Rattle.shared_db.specs.History.{StandsFor, closed_after}

@@ -1,10 +1,6 @@
 -- What the lock gave back is the whole history.
 use Rattle.std.proofs.Common.{ℕ, List, reverse, ◌∙◌}
-use Rattle.std.proofs.lemmas.List.{length-reverse}
-use Rattle.spans.specs.declared.calls.events.Event.{Event}
-use Rattle.engine.specs.Engine.{closed_timestamp}
-use Rattle.ticket_lock.specs.declared.chronicle.Chronicle.{Ghosts}
-use Rattle.ticket_lock.specs.declared.lock.Seat.{Seat}
+use Rattle.shared_db.proofs.Common.{Event, Ghosts, Seat, closed_timestamp, length-reverse}
 use Rattle.ticket_lock.specs.Finish.{IsMerge}
 use Rattle.shared_db.specs.declared.served.Served.{Served}
 use Rattle.shared_db.specs.declared.db.Db.{Db}

@@ -1,3 +1,4 @@
+pub mod Common
 pub mod Turning
 pub mod Answering
 pub mod Finishing

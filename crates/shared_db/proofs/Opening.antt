@@ -1,8 +1,6 @@
 -- The seats of a new lock are those of a new database.
 use Rattle.std.proofs.Common.{ap, ℕ, List}
-use Rattle.spans.specs.declared.calls.events.Event.{Event}
-use Rattle.ticket_lock.specs.declared.chronicle.Chronicle.{Ghosts}
-use Rattle.ticket_lock.specs.declared.lock.Seat.{Seat}
+use Rattle.shared_db.proofs.Common.{Event, Ghosts, Seat}
 use Rattle.ticket_lock.specs.declared.rule.View.{View}
 use Rattle.ticket_lock.specs.Seats as locks
 use Rattle.shared_db.specs.Seats.{AllNew, IsNew}

@@ -1,15 +1,12 @@
 -- One more event at the end of a history.
 use Rattle.std.proofs.Common.{◌≡◌, ℕ, ◌+◌, ◌≢◌, Bool, List, [], ◌∷◌, ◌++◌, reverse, length, sym, ap, ◌∙◌, subst, arith, append-nil, nat_eq, cond, eq-eqb, ne_eqb}
 use Rattle.std.specs.List.{All}
-use Rattle.std.proofs.lemmas.List.{append_cancel_left, append_cancel_right}
+use Rattle.shared_db.proofs.Common.{Engine, Event, append_cancel_left, append_cancel_right, of_seat}
 use Rattle.std.proofs.lemmas.List.Elements.{filter-append, All-nil, All-cons}
 use mathlib.Core.Logic.{dite}
 use native.Mathlib.Decide.{ℕ_discrete}
-use Rattle.spans.specs.declared.calls.events.Event.{Event}
-use Rattle.engine.specs.declared.Engine.{Engine}
 use Rattle.engine.specs.Engine as engines
 use Rattle.spans.proofs.Histories.{gapless_more, turned_more}
-use Rattle.ticket_lock.specs.Lists.{of_seat}
 use Rattle.ticket_lock.proofs.ListFacts.{of_more}
 use Rattle.shared_db.specs.History.{StandsFor}
 

@@ -1,14 +1,6 @@
 -- How a call ends.
 use Rattle.std.specs.Prelude.{◌≡◌, ◌≢◌, ℕ, ◌+◌, ◌≤◌, List, [], ◌∷◌, ◌++◌, reverse, length, Some, false}
-use Rattle.std.specs.List.{All}
-use Rattle.spans.specs.declared.calls.commands.Cmd.{Cmd}
-use Rattle.spans.specs.declared.calls.events.Event.{Event}
-use Rattle.spans.specs.Legal.{IsLegal, IsGapless}
-use Rattle.ticket_lock.specs.declared.chronicle.Chronicle.{Ghosts}
-use Rattle.ticket_lock.specs.declared.lock.Seat.{Seat}
-use Rattle.ticket_lock.specs.Lists.{of_seat}
-use Rattle.ticket_lock.specs.Seats.{number, seen, mine, known, met_spent, ticket, found, raised}
-use Rattle.ticket_lock.specs.Turns.{IsBusy, IsSpent}
+use Rattle.shared_db.specs.Prelude.{All, Cmd, Event, Ghosts, IsBusy, IsGapless, IsLegal, IsSpent, Seat, found, known, met_spent, mine, number, of_seat, raised, seen, ticket}
 use Rattle.shared_db.specs.declared.served.Served.{Served}
 use Rattle.shared_db.specs.declared.calls.CallDenied.{CallDenied}
 use Rattle.shared_db.specs.declared.calls.CallDenied.TheVariants.{Busy, Spent}

@@ -2,14 +2,9 @@
 use Rattle.std.specs.Prelude.{ℕ, ◌≤◌, List, [], ◌∷◌, ◌++◌, reverse}
 use Rattle.std.proofs.Common.{sym, ap, ◌∙◌, subst, le_refl, le_trans}
 use Rattle.std.proofs.lemmas.List.{reverse-append}
-use Rattle.spans.specs.declared.calls.events.Event.{Event}
-use Rattle.spans.specs.Effects.{effects_of, effect_of}
-use Rattle.spans.specs.Transactions.{closed_of}
-use Rattle.spans.specs.Legal.{IsLegal}
+use Rattle.shared_db.specs.Prelude.{Engine, Event, IsLegal, closed_of, closed_timestamp, effect_of, effects_of}
 use Rattle.spans.proofs.Legal.{right_allowed}
 use Rattle.spans.proofs.Copies.{closed_grows}
-use Rattle.engine.specs.declared.Engine.{Engine}
-use Rattle.engine.specs.Engine.{closed_timestamp}
 use Rattle.shared_db.specs.History.{StandsFor}
 use Rattle.shared_db.specs.Standing.{legal_of, closed_is}
 

@@ -1,11 +1,7 @@
 -- What an engine under the lock stands for. The lock's lists have the oldest event first, and the
 -- histories of the definitions the newest.
 use Rattle.std.specs.Prelude.{ℕ, List, reverse}
-use Rattle.spans.specs.declared.calls.events.Event.{Event}
-use Rattle.spans.specs.Effects.{effects_of}
-use Rattle.spans.specs.Transactions.{closed_of}
-use Rattle.spans.specs.Legal.{IsGapless}
-use Rattle.engine.specs.declared.Engine.{Engine}
+use Rattle.shared_db.specs.Prelude.{Engine, Event, IsGapless, closed_of, effects_of}
 use Rattle.engine.specs.Engine as engines
 
 -- the engine stands for the events, the oldest first, and their positions run from first on

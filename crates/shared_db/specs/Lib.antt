@@ -1,3 +1,4 @@
+pub mod Prelude
 pub mod History
 pub mod Standing
 pub mod Closing

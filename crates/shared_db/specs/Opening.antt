@@ -1,11 +1,8 @@
 -- How a database is opened, and when it is not.
 use Rattle.std.specs.Prelude.{◌≡◌, ◌<◌, ◌≤◌, ◌⊎◌, List, length}
-use Rattle.std.specs.List.{All}
-use Rattle.spans.specs.declared.calls.events.Event.{Event}
+use Rattle.shared_db.specs.Prelude.{All, Event, Ghosts, Seat}
 use Rattle.timestamps.specs.declared.oracle.OraclePass.{OraclePass}
 use Rattle.timestamps.specs.Passes.{IsNew as IsNewPass}
-use Rattle.ticket_lock.specs.declared.chronicle.Chronicle.{Ghosts}
-use Rattle.ticket_lock.specs.declared.lock.Seat.{Seat}
 use Rattle.shared_db.specs.declared.config.Config.{Config}
 use Rattle.shared_db.specs.declared.config.OpenError.{OpenError}
 use Rattle.shared_db.specs.declared.config.OpenError.TheVariants.{SeatCount, RingSize, NoMemory}

@@ -2,10 +2,7 @@
 use Rattle.std.specs.Prelude.{◌≡◌, ℕ, List, [], None, false}
 use mathlib.Core.Option.{some}
 use lib.ListN.{get_elem?}
-use Rattle.spans.specs.declared.calls.events.Event.{Event}
-use Rattle.ticket_lock.specs.declared.chronicle.Chronicle.{Ghosts}
-use Rattle.ticket_lock.specs.declared.lock.Seat.{Seat}
-use Rattle.ticket_lock.specs.Seats.{number, seen, mine, known, met_spent, ticket}
+use Rattle.shared_db.specs.Prelude.{Event, Ghosts, Seat, known, met_spent, mine, number, seen, ticket}
 use Rattle.ticket_lock.specs.Seats as locks
 use Rattle.shared_db.specs.declared.served.Served.{Served}
 use Rattle.shared_db.specs.declared.db.Db.{Db}

@@ -1,12 +1,7 @@
 -- What an engine that stands for a history says of it. This file alone looks into what `StandsFor` is
 -- made of: all other specs and proofs of this crate go through these three facts.
 use Rattle.std.specs.Prelude.{◌≡◌, List, length}
-use Rattle.spans.specs.declared.calls.events.Event.{Event}
-use Rattle.spans.specs.Effects.{effects_of}
-use Rattle.spans.specs.Transactions.{closed_of}
-use Rattle.spans.specs.Legal.{IsLegal}
-use Rattle.engine.specs.declared.Engine.{Engine}
-use Rattle.engine.specs.Engine.{StandsFor, closed_timestamp, steps_of, closed_timestamp_is}
+use Rattle.shared_db.specs.Prelude.{Engine, Event, IsLegal, StandsFor, closed_of, closed_timestamp, closed_timestamp_is, effects_of, steps_of}
 
 -- the history is legal
 pub legal_of : (engine : Engine) (h : List Event) → StandsFor engine h → IsLegal h

@@ -2,13 +2,7 @@
 use Rattle.std.specs.Prelude.{◌≡◌, ℕ, ◌<◌, ◌==◌, List, reverse, length, sum_by, count_by}
 use mathlib.Core.Option.{some}
 use lib.ListN.{get_elem?}
-use Rattle.spans.specs.declared.calls.events.Event.{Event}
-use Rattle.spans.specs.Legal.{IsLegal, IsGapless}
-use Rattle.engine.specs.declared.Engine.{Engine}
-use Rattle.engine.specs.Engine.{StandsFor, closed_timestamp, steps_of}
-use Rattle.ticket_lock.specs.declared.chronicle.Chronicle.{Ghosts}
-use Rattle.ticket_lock.specs.declared.lock.Seat.{Seat}
-use Rattle.ticket_lock.specs.Seats.{number, mine}
+use Rattle.shared_db.specs.Prelude.{Engine, Event, Ghosts, IsGapless, IsLegal, Seat, StandsFor, closed_timestamp, mine, number, steps_of}
 use Rattle.ticket_lock.specs.Finish.{IsPartOf}
 use Rattle.shared_db.specs.declared.served.Served.{Served}
 use Rattle.shared_db.specs.declared.db.Db.{Db}

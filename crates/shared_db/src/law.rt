@@ -1,11 +1,7 @@
 //! The law of seats: what the calls of a shared database leave is lawful, as the contract of one function.
 ghost use Rattle.std.specs.Prelude.{ℕ, List, reverse};
-ghost use Rattle.spans.specs.declared.calls.commands.Cmd.{Cmd};
-ghost use Rattle.spans.specs.declared.calls.events.Event.{Event};
+ghost use Rattle.shared_db.specs.Prelude.{Cmd, Engine, Event, Seat, seen};
 ghost use Rattle.spans.specs.Law.{IsLawful};
-ghost use Rattle.engine.specs.declared.Engine.{Engine};
-ghost use Rattle.ticket_lock.specs.declared.lock.Seat.{Seat};
-ghost use Rattle.ticket_lock.specs.Seats.{seen};
 ghost use Rattle.shared_db.specs.contracts.served.ServedChronicle.TheImpl.{ghosts};
 ghost use Rattle.shared_db.specs.declared.served.Served.{Served};
 ghost use Rattle.shared_db.specs.declared.db.Db.{Db};

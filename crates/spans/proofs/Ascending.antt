@@ -1,11 +1,6 @@
 -- Rising keys, by std's word.
 use Rattle.std.proofs.Common.{List, inl, inr, subst, sym, true, ℕ, ◌==◌, ◌≡◌, ◌∷◌, []}
-use Rattle.std.specs.List.{AllByRecursion}
-use Rattle.std.specs.List.Sorted.{IsStrictlySortedBy}
-use Rattle.std.specs.Ordering.{ordering_index}
-use Rattle.std.specs.declared.cmp.Ordering.{Ordering}
-use Rattle.std.specs.declared.cmp.Ordering.TheVariants.{Equal, Greater, Less}
-use Rattle.timestamps.specs.Bytes.{key_cmp}
+use Rattle.spans.proofs.Common.{AllByRecursion, Equal, Greater, IsStrictlySortedBy, Less, Ordering, key_cmp, ordering_index}
 use Rattle.spans.proofs.Keyed.{IsIn, RisingKeys}
 
 lower : (x : List ℕ) (keys : List (List ℕ)) → AllByRecursion (λ y. key_cmp x y ≡ Less) keys → (y : List ℕ) → IsIn y keys → key_cmp x y ≡ Less

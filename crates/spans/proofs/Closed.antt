@@ -1,8 +1,7 @@
 -- At or below closed all is decided.
-use Rattle.std.proofs.lemmas.Grind.{common_steps}
+use Rattle.spans.proofs.Common.{and_from, common_steps}
 use Rattle.std.proofs.Common.{◌≡◌, ℕ, ◌<◌, ◌≤◌, true, List, [], ◌∷◌, Option, Some, None, refl, sym, ◌∙◌, ap, arith}
 use Rattle.std.specs.Prelude.{is_some}
-use Rattle.std.proofs.lemmas.Bool.{and_from}
 use Rattle.spans.specs.Effects.{After, Effect, Begins, Writes}
 use Rattle.spans.specs.Transactions.{owner_of, closed_of, is_committed}
 use Rattle.spans.specs.Versions.{write_of, version_of, committed_version_of, visible, committed_value}

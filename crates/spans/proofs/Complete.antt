@@ -1,13 +1,8 @@
 -- How far a consumer is complete, and where it has the map.
-use Rattle.std.proofs.lemmas.Grind.{common_steps}
+use Rattle.spans.proofs.Common.{Row, and_parts, append-nil, common_steps, filter-append, filter_map-append, le-leb, lt-ltb, ltb-true, nat_tests}
 use Rattle.std.proofs.Common.{rules}
 use Rattle.std.proofs.Common.{◌≡◌, ℕ, ◌-◌, ◌<◌, ◌≤◌, ◌⊎◌, Bool, true, false, not, List, [], ◌∷◌, ◌++◌, Option, Some, None, refl, sym, ◌∙◌, ap, subst, inl, inr, arith, append_assoc}
 use Rattle.std.specs.Prelude.{nat_lt, nat_le, max, filter}
-use Rattle.std.proofs.lemmas.Bool.{and_parts, ltb-true, lt-ltb, le-leb}
-use Rattle.std.proofs.lemmas.Bool.Decides.{nat_tests}
-use Rattle.std.proofs.lemmas.List.{append-nil}
-use Rattle.std.proofs.lemmas.List.Elements.{filter-append, filter_map-append}
-use Rattle.timestamps.specs.declared.row.Row.{Row}
 use Rattle.spans.specs.declared.calls.messages.Message.{Message}
 use Rattle.spans.specs.declared.calls.messages.Message.TheVariants as messages
 use Rattle.spans.specs.Effects.{Effect}

@@ -1,10 +1,8 @@
 -- Allowed deeds keep what each read found, and so read as from one copy.
-use Rattle.std.proofs.lemmas.Grind.{common_steps}
+use Rattle.spans.proofs.Common.{and_from, and_parts, both_ways, common_steps, eqb-true, lt-ltb, nat_tests, or_left, or_right}
 use Rattle.std.proofs.Common.{rules}
 use Rattle.std.proofs.Common.{◌≡◌, ℕ, suc, ◌<◌, ◌≤◌, ◌⊎◌, ◌==◌, Bool, true, false, not, ◌&&◌, ◌||◌, List, [], ◌∷◌, Some, None, refl, sym, ◌∙◌, ap, subst, inl, inr, arith}
 use Rattle.std.specs.Prelude.{is_some, nat_le, max}
-use Rattle.std.proofs.lemmas.Bool.{and_from, or_left, or_right, eqb-true, lt-ltb, and_parts, both_ways}
-use Rattle.std.proofs.lemmas.Bool.Decides.{nat_tests}
 use Rattle.spans.specs.Effects.{After, Effect, Begins, Reads, Scans, SnapshotScans, Writes, Commits, Aborts, Closes, HardCloses, Protects, Releases, Collects, Opens, Polls, Cancels, SnapshotReads, NoEffect}
 use Rattle.spans.specs.Transactions.{owner_of, closed_of, is_committed, is_aborted, decided_through}
 use Rattle.spans.specs.Versions.{write_of, version_of, committed_version_of, visible, is_blocked, committed_value}

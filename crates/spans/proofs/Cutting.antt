@@ -1,17 +1,9 @@
 -- The parts of a span between rising keys.
-use Rattle.std.proofs.lemmas.Grind.{common_steps}
+use Rattle.spans.proofs.Common.{Equal, Greater, Less, Ordering, and-false, and_parts, at_drop_all, common_steps, is_eq, is_eq-slice_cmp, is_lt, key_cmp, or_left, or_right, ordering_reverse}
 use Rattle.std.proofs.Common.{rules}
 use Rattle.std.proofs.Common.{Bool, List, Option, Some, ap, arith, cond, drop, false, get_or, length, refl, suc, sym, true, zero, ℕ, ◌&&◌, ◌<◌, ◌≤◌, ◌||◌, ◌≡◌, ◌++◌, ◌∷◌, ◌∙◌, []}
 use Rattle.std.specs.Prelude.{bytes_eq, not}
-use Rattle.std.specs.Ordering.{is_eq, is_lt, ordering_reverse}
-use Rattle.std.specs.declared.cmp.Ordering.{Ordering}
-use Rattle.std.specs.declared.cmp.Ordering.TheVariants.{Equal, Greater, Less}
-use Rattle.std.proofs.lemmas.Bool.{or_left, or_right, and_parts}
-use Rattle.std.proofs.lemmas.List.{at_drop_all}
 use Rattle.std.proofs.lemmas.List.Kept.{AllPairs-cons}
-use Rattle.std.proofs.lemmas.Map.Text.{is_eq-slice_cmp}
-use Rattle.std.proofs.Math.Bool.{and-false}
-use Rattle.timestamps.specs.Bytes.{key_cmp}
 use Rattle.spans.specs.Keys.{in_span}
 use Rattle.spans.specs.Pieces.{AreApart, NoneOverlap, is_held}
 use Rattle.spans.specs.KeyOrder.{below_high, from_low}

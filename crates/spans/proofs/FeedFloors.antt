@@ -1,10 +1,7 @@
 -- The horizon is at or below the floor of each live feed.
-use Rattle.std.proofs.lemmas.Grind.{common_steps}
+use Rattle.spans.proofs.Common.{Row, common_steps, eqb-true, ltb-true, nat_tests}
 use Rattle.std.proofs.Common.{Bool, List, not, inr, refl, None, Option, arith, subst, suc, false, ap, true, zero, Some, inl, sym, take, map, ◌≡◌, ◌<◌, ◌≤◌, ◌==◌, ◌-◌, ◌∷◌, ◌++◌, ◌∙◌, ◌⊎◌, append_assoc, ℕ, []}
-use Rattle.std.proofs.lemmas.Bool.{eqb-true, ltb-true}
-use Rattle.std.proofs.lemmas.Bool.Decides.{nat_tests}
 use Rattle.std.specs.Prelude.{max, nat_lt, filter, min}
-use Rattle.timestamps.specs.declared.row.Row.{Row}
 use Rattle.spans.specs.Collection.{horizon_of, live_feeds, live_feed, Protection, LiveFeed, floor_after, protections_of, floor_of}
 use Rattle.spans.specs.Effects.{Collects, Opens, Polls, Cancels, Effect}
 use Rattle.spans.specs.FeedRight.{DividesList}

@@ -1,15 +1,7 @@
 -- The order of keys, and where a range begins that has the keys from a bound on.
-use Rattle.std.proofs.lemmas.Grind.{common_steps}
-use Rattle.timestamps.specs.declared.key.TheConstants.{MAX_KEY_BYTES}
+use Rattle.spans.proofs.Common.{Equal, Greater, Less, MAX_KEY_BYTES, Ordering, common_steps, is_from_start, is_le, is_lt, key_cmp, leb-false, nat_cmp, nat_cmp_total, nat_list_cmp_total, not-true, ordering_reverse, ordering_then, tied_itself}
 use Rattle.std.proofs.Common.{◌≡◌, ℕ, zero, suc, ◌<◌, ◌≤◌, true, false, List, [], ◌∷◌, length, take, Option, Some, None, refl, sym, ◌∙◌, ap, arith}
 use Rattle.std.specs.Prelude.{not, nat_le}
-use Rattle.std.specs.BTreeMap.Range.{is_from_start}
-use Rattle.std.specs.Ordering.{is_lt, is_le, nat_cmp, ordering_reverse, ordering_then}
-use Rattle.std.specs.declared.cmp.Ordering.{Ordering}
-use Rattle.std.specs.declared.cmp.Ordering.TheVariants.{Equal, Greater, Less}
-use Rattle.std.proofs.lemmas.Bool.{leb-false, not-true}
-use Rattle.std.proofs.lemmas.Cmp.{nat_cmp_total, nat_list_cmp_total, tied_itself}
-use Rattle.timestamps.specs.Bytes.{key_cmp}
 use Rattle.spans.specs.KeyOrder.{key_lt, from_low, below_high}
 use Rattle.spans.specs.Starting.{start_of}
 use Rattle.spans.proofs.Steps.{by_test}

@@ -1,16 +1,9 @@
 -- Rising keys, and the rows that they give.
-use Rattle.std.proofs.lemmas.Grind.{common_steps}
+use Rattle.spans.proofs.Common.{Equal, Greater, Less, Ordering, both_ways, common_steps, exact_bytes, key_cmp, nat_list_cmp_total, ordering_reverse}
 use Rattle.std.proofs.Common.{arith}
 use Rattle.std.proofs.Common.{◌≡◌, ℕ, ◌⊎◌, Bool, true, false, cond, List, [], ◌∷◌, Option, Some, None, refl, sym, ◌∙◌, ap, subst, inl, inr}
 use Rattle.std.specs.Prelude.{◌↔◌, filter, is_some}
-use Rattle.std.proofs.lemmas.Bool.{both_ways}
-use Rattle.std.specs.declared.cmp.Ordering.{Ordering}
-use Rattle.std.specs.declared.cmp.Ordering.TheVariants.{Less, Equal, Greater}
-use Rattle.std.specs.Ordering.{ordering_reverse}
-use Rattle.std.proofs.lemmas.Cmp.{nat_list_cmp_total}
-use Rattle.std.proofs.lemmas.Map.Lookups.{exact_bytes}
 use Rattle.spans.specs.declared.span.Span.{Span}
-use Rattle.timestamps.specs.Bytes.{key_cmp}
 use Rattle.spans.specs.Keys.{in_span, insert_where, insert_key, with_value, pairs_of, IsPairIn, KeysRise, AreRows, value_among}
 use Rattle.spans.proofs.Steps.{by_test, same_key, key_itself}
 

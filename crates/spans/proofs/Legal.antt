@@ -1,10 +1,9 @@
 -- A right reply's deed is allowed.
-use Rattle.std.proofs.lemmas.Grind.{common_steps}
+use Rattle.spans.proofs.Common.{and_parts, both_ways, common_steps, leb-false, ltb-false, not-false, or_parts}
 use Rattle.std.proofs.Common.{arith}
 use Rattle.std.proofs.Common.{rules}
 use Rattle.std.proofs.Common.{◌≡◌, ℕ, ◌==◌, Bool, true, false, not, ◌&&◌, List, [], ◌∷◌, ◌++◌, ◌-◌, length, Option, Some, None, refl, ap, inl, inr}
 use Rattle.std.specs.Prelude.{is_some, map, filter, nat_lt, nat_le, max}
-use Rattle.std.proofs.lemmas.Bool.{or_parts, and_parts, leb-false, ltb-false, both_ways, not-false}
 use Rattle.spans.specs.declared.calls.commands.Cmd.{Cmd}
 use Rattle.spans.specs.declared.calls.commands.Cmd.TheVariants.{Begin, Get, Scan, Put, Del, Commit, Abort, Close, CloseHard, Protect, Release, Collect, Open, OpenInitial, OpenEvery, OpenInitialEvery, Poll, Cancel, Stats, ReadAt, ScanAt}
 use Rattle.spans.specs.declared.calls.replies.Reply.{Reply}

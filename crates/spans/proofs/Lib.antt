@@ -1,3 +1,4 @@
+pub mod Common
 pub mod Steps
 pub mod KeyOrder
 pub mod Results

@@ -1,11 +1,7 @@
 -- What a feed's list is: the map at the cursor first, where the feed is initial, and then the stream.
-use Rattle.std.proofs.lemmas.Grind.{common_steps}
+use Rattle.spans.proofs.Common.{Row, and_from, common_steps, eq-eqb, is_lt, lt-ltb, nat_tests, or_left, or_right}
 use Rattle.std.proofs.Common.{◌≡◌, ℕ, zero, suc, ◌<◌, ◌≤◌, ◌-◌, ◌⊎◌, ◌==◌, Bool, true, false, cond, List, [], ◌∷◌, ◌++◌, map, Some, None, refl, sym, ◌∙◌, ap, inl, inr, arith, append_assoc}
 use Rattle.std.specs.Prelude.{◌↔◌, is_some}
-use Rattle.std.specs.Ordering.{is_lt}
-use Rattle.std.proofs.lemmas.Bool.{and_from, or_left, or_right, lt-ltb, eq-eqb}
-use Rattle.std.proofs.lemmas.Bool.Decides.{nat_tests}
-use Rattle.timestamps.specs.declared.row.Row.{Row}
 use Rattle.spans.specs.declared.span.Span.{Span}
 use Rattle.spans.specs.Keys.{in_span, pairs_of, IsPairIn, KeysRise}
 use Rattle.spans.specs.declared.kind.Kind.{Kind}

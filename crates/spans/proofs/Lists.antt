@@ -1,7 +1,6 @@
 -- What is taken of two lists.
-use Rattle.std.proofs.lemmas.Grind.{common_steps}
+use Rattle.spans.proofs.Common.{common_steps, length-take}
 use Rattle.std.proofs.Common.{List, [], ap, arith, length, refl, suc, take, zero, ℕ, ◌++◌, ◌-◌, ◌∷◌, ◌≡◌, ◌≤◌}
-use Rattle.std.proofs.lemmas.List.{length-take}
 
 pub take_both : {A : Type 0} (m : ℕ) (xs ys : List A) → take m xs ++ take (m - length xs) ys ≡ take m (xs ++ ys)
 take_both zero xs ys = let none : 0 - length xs ≡ 0 = omega arith in rw none refl

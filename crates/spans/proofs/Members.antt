@@ -1,12 +1,7 @@
 -- Lists that stand for sets: distinct lists of the same are of one length.
-use Rattle.std.proofs.lemmas.Grind.{common_steps}
+use Rattle.spans.proofs.Common.{All-cons, All-nil, Greater, Less, common_steps, key_cmp, nat_list_cmp_total, ordering_reverse}
 use Rattle.std.proofs.Common.{Bool, List, refl, arith, inr, subst, false, suc, ap, true, inl, sym, length, ◌≡◌, ◌≤◌, ◌⊎◌, ◌∷◌, ◌++◌, ◌∙◌, ℕ, []}
-use Rattle.std.proofs.lemmas.Cmp.{nat_list_cmp_total}
-use Rattle.std.proofs.lemmas.List.Elements.{All-nil, All-cons}
-use Rattle.std.specs.Ordering.{ordering_reverse}
 use Rattle.std.specs.Prelude.{All, filter, is_some, not, ◌+◌, ◌↔◌}
-use Rattle.std.specs.declared.cmp.Ordering.TheVariants.{Greater, Less}
-use Rattle.timestamps.specs.Bytes.{key_cmp}
 pub use Rattle.spans.specs.Members.{Has, AreDistinct}
 use Rattle.spans.specs.Effects.{Begins, Effect}
 use Rattle.spans.specs.Transactions.{is_undecided, owner_of, begun_of, undecided_timestamps}

@@ -1,9 +1,7 @@
 -- Nothing at or below closed is undecided.
-use Rattle.std.proofs.lemmas.Grind.{common_steps}
+use Rattle.spans.proofs.Common.{and_parts, common_steps, nat_tests}
 use Rattle.std.proofs.Common.{◌≡◌, ℕ, ◌-◌, ◌<◌, ◌≤◌, ◌⊎◌, ◌==◌, Bool, true, false, not, ◌&&◌, ◌||◌, List, [], ◌∷◌, map, refl, arith}
 use Rattle.std.specs.Prelude.{filter, is_some, nat_le}
-use Rattle.std.proofs.lemmas.Bool.{and_parts}
-use Rattle.std.proofs.lemmas.Bool.Decides.{nat_tests}
 use Rattle.spans.specs.Effects.{Effect, Begins, Commits, Aborts, Closes, HardCloses}
 use Rattle.spans.specs.Transactions.{owner_of, closed_of, is_committed, is_aborted, is_undecided, begun_of, least_of, decided_through}
 use Rattle.spans.proofs.Copies.{AllAllowed}

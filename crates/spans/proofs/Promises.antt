@@ -1,7 +1,6 @@
 -- Allowed deeds keep what the guide promises.
-use Rattle.std.proofs.lemmas.Grind.{common_steps}
+use Rattle.spans.proofs.Common.{common_steps, eqb-true}
 use Rattle.std.proofs.Common.{◌≡◌, ℕ, ◌+◌, ◌-◌, ◌≤◌, List, [], ◌∷◌, ◌++◌, length, Some, refl, sym, ◌∙◌, subst, inl, inr, arith}
-use Rattle.std.proofs.lemmas.Bool.{eqb-true}
 use Rattle.spans.specs.declared.calls.replies.Reply.TheVariants as replies
 use Rattle.spans.specs.declared.calls.events.Event.{Event}
 use Rattle.spans.specs.Legal.{IsLegal}

@@ -1,8 +1,7 @@
 -- Tests that refuse, the first that applies.
-use Rattle.std.proofs.lemmas.Grind.{common_steps}
+use Rattle.spans.proofs.Common.{append-nil, common_steps}
 use Rattle.std.proofs.Common.{arith}
 use Rattle.std.proofs.Common.{Bool, List, None, Some, [], refl, subst, ◌++◌, ◌∷◌, ◌≡◌}
-use Rattle.std.proofs.lemmas.List.{append-nil}
 use Rattle.spans.specs.Answer.{first_refusal, first_refusal_or}
 use Rattle.spans.specs.declared.calls.replies.Refusal.{Refusal}
 use Rattle.spans.specs.declared.calls.replies.Reply.{Reply}

@@ -1,7 +1,6 @@
 -- Rows and names in their order: by timestamp, and then by key.
-use Rattle.std.proofs.lemmas.Grind.{common_steps}
+use Rattle.spans.proofs.Common.{Row, common_steps}
 use Rattle.std.proofs.Common.{arith, true, ◌≡◌, ◌≤◌}
-use Rattle.timestamps.specs.declared.row.Row.{Row}
 use Rattle.spans.specs.Collection.{VersionName}
 use Rattle.spans.specs.Consumer.{name_lt, name_of}
 use Rattle.spans.specs.Streams.{row_lt}

@@ -1,21 +1,12 @@
 -- Sets of std as lists: of timestamps, and of keys.
-use Rattle.std.proofs.lemmas.Grind.{common_steps}
+use Rattle.spans.proofs.Common.{AllByRecursion, Equal, Greater, IsStrictlySortedBy, Less, Ordering, common_steps, is_eq-slice_cmp, key_cmp, list_any, match_ordering, nat_cmp, nat_tests, range_contains}
 use Rattle.std.proofs.Common.{List, ap, arith, refl, true, ℕ, ◌≡◌, ◌∷◌, [], Bool, ◌∙◌, ◌||◌, cond, false, ◌<◌, ◌==◌, length}
 use Rattle.std.specs.Prelude.{filter, nat_le, ◌↔◌, bytes_eq}
-use Rattle.std.specs.List.{AllByRecursion, list_any}
-use Rattle.std.specs.List.Sorted.{IsStrictlySortedBy}
-use Rattle.std.specs.Ordering.{nat_cmp, match_ordering}
 use Rattle.std.specs.BTreeMap.{is_at}
 use Rattle.std.specs.BTreeSet as sets
-use Rattle.std.specs.BTreeMap.Range.{range_contains}
-use Rattle.std.specs.declared.cmp.Ordering.TheVariants.{Less, Equal, Greater}
 use Rattle.std.specs.declared.ops.Bound.TheVariants.{Included, Unbounded}
-use Rattle.std.specs.declared.cmp.Ordering.{Ordering}
-use Rattle.std.proofs.lemmas.Bool.Decides.{nat_tests}
-use Rattle.std.proofs.lemmas.Map.Text.{is_eq-slice_cmp}
 use Rattle.spans.specs.Members.{AreDistinct, Has}
 use Rattle.spans.specs.Keys.{insert_key, insert_where}
-use Rattle.timestamps.specs.Bytes.{key_cmp}
 use Rattle.spans.proofs.Steps.{by_test}
 
 -- the range of all is the whole set

@@ -1,12 +1,7 @@
 -- The bytes of a key and a zero byte are the least above the key.
 use Rattle.std.proofs.Common.{List, ap, arith, refl, ℕ, ◌∷◌, ◌≡◌, ◌∙◌, []}
 use Rattle.std.specs.Prelude.{not, true}
-use Rattle.std.specs.Ordering.{is_lt, nat_cmp, ordering_reverse, ordering_then}
-use Rattle.std.specs.declared.cmp.Ordering.{Ordering}
-use Rattle.std.specs.declared.cmp.Ordering.TheVariants.{Equal, Greater, Less}
-use Rattle.std.proofs.lemmas.Bool.Decides.{nat_tests}
-use Rattle.std.proofs.lemmas.Cmp.{nat_cmp_total}
-use Rattle.timestamps.specs.Bytes.{key_cmp}
+use Rattle.spans.proofs.Common.{Equal, Greater, Less, Ordering, is_lt, key_cmp, nat_cmp, nat_cmp_total, nat_tests, ordering_reverse, ordering_then}
 use Rattle.spans.specs.KeyOrder.{key_lt}
 use Rattle.spans.specs.Successors.{successor}
 

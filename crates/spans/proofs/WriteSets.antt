@@ -1,15 +1,8 @@
 -- Which keys are among those that a transaction wrote.
-use Rattle.std.proofs.lemmas.Grind.{common_steps}
+use Rattle.spans.proofs.Common.{Equal, Greater, Less, Ordering, and-false, common_steps, exact_bytes, key_cmp, list_any, or_cases, or_left, or_right}
 use Rattle.std.proofs.Common.{arith}
 use Rattle.std.proofs.Common.{◌≡◌, ℕ, Bool, true, false, ◌&&◌, ◌||◌, List, [], ◌∷◌, refl, sym, ◌∙◌, ap}
 use Rattle.std.specs.Prelude.{◌↔◌, is_some, bytes_eq, filter}
-use Rattle.std.specs.List.{list_any}
-use Rattle.std.specs.declared.cmp.Ordering.{Ordering}
-use Rattle.std.specs.declared.cmp.Ordering.TheVariants.{Less, Equal, Greater}
-use Rattle.std.proofs.lemmas.Bool.{or_cases, or_left, or_right}
-use Rattle.std.proofs.lemmas.Map.Lookups.{exact_bytes}
-use Rattle.std.proofs.Math.Bool.{and-false}
-use Rattle.timestamps.specs.Bytes.{key_cmp}
 use Rattle.spans.specs.Effects.{Effect, Writes}
 use Rattle.spans.specs.Keys.{insert_where, insert_key}
 use Rattle.spans.specs.Versions.{write_of, write_set}

@@ -1,3 +1,4 @@
+pub mod Prelude
 pub mod Members
 pub mod Effects
 pub mod KeyOrder

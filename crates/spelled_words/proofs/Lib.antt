@@ -1,3 +1,4 @@
+pub mod Common
 pub mod Spellings
 pub mod Splitting
 pub mod Unescaping

@@ -1,9 +1,7 @@
 -- Spelled bytes.
-use Rattle.std.proofs.lemmas.Grind.{common_steps}
+use Rattle.spelled_words.proofs.Common.{common_steps, flat_map, le-leb, list_all}
 use Rattle.std.proofs.Common.{◌≡◌, ℕ, Bool, true, false, cond, List, [], ◌∷◌, ◌<◌, length, Option, Some, None, refl, ap, arith}
 use Rattle.std.specs.Prelude.{◌&&◌, ◌==◌, nat_le, option_and_then}
-use Rattle.std.proofs.lemmas.Bool.{le-leb}
-use Rattle.std.specs.List.{flat_map, list_all}
 use Rattle.spelled_words.specs.Spelling.{is_plain, spelled, escaped, first_at, with_front, unspelled}
 
 pub both : (a b : Bool) → (a && b) ≡ true → (a ≡ true) × (b ≡ true)

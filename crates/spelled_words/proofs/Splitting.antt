@@ -1,14 +1,11 @@
 -- The words of a text, one by one.
-use Rattle.std.proofs.lemmas.Grind.{common_steps}
+use Rattle.spelled_words.proofs.Common.{at_drop_all, at_drop_more, common_steps, length-drop, list_all, list_any, ltb-false, ltb-true, ne_eqb, onto_first, position_or_len, take_all}
 use Rattle.std.proofs.Common.{◌≡◌, Ok, Err, get_or, ℕ, ◌+◌, ◌-◌, ◌<◌, ◌≤◌, Bool, true, false, cond, List, [], ◌∷◌, length, take, drop, Option, Some, None, refl, sym, ap, ◌∙◌, inl, inr, ◌⊎◌, arith}
 use Rattle.std.specs.Prelude.{◌||◌, ◌&&◌, ◌==◌, nat_lt, not, is_some, position}
 use Rattle.std.specs.Borrow.{Bor}
 use Rattle.std.specs.Int.{from_bool}
-use Rattle.std.specs.List.{onto_first, position_or_len, list_any, list_all}
-use Rattle.std.proofs.lemmas.List.{take_all, length-drop, at_drop_more, at_drop_all}
 use Rattle.std.proofs.lemmas.List.Recursion.{is_position_or_len}
 use Rattle.std.proofs.lemmas.List.Splits.{slice_split-cons_yes, slice_split-cons_no, slice_split_first, length-slice_split}
-use Rattle.std.proofs.lemmas.Bool.{ltb-true, ltb-false, ne_eqb}
 use Rattle.spelled_words.specs.Words.{is_space, is_empty, is_printable, words, words_at, words_left}
 use Rattle.spelled_words.specs.declared.fault.LineFault.TheVariants.{WordCount}
 

@@ -1,3 +1,4 @@
+pub mod Prelude
 pub mod Spelling
 pub mod SpelledBytes
 pub mod Words

@@ -1,9 +1,7 @@
 -- Reading from left to right: the value, or the first fault that is met.
 use Rattle.std.specs.Prelude.{◌≡◌, ℕ, nat_le, ◌&&◌, if◌then◌else◌, List, [], ◌∷◌, length, codes, Option, Some, None, Result, Ok, Err, ok_or, bytes_eq}
-use Rattle.text_format.specs.declared.Format.{Format}
-use Rattle.text_format.specs.Limits.{key_limit, value_limit, bound_limit}
+use Rattle.spelled_words.specs.Prelude.{Format, bound_limit, key_limit, number_of, value_limit}
 use Rattle.spans.specs.declared.span.Span.{Span}
-use Rattle.json_lines.specs.Numbers.{number_of}
 use Rattle.spelled_words.specs.declared.fault.LineFault.{LineFault}
 use Rattle.spelled_words.specs.declared.fault.LineFault.TheVariants.{WordCount, Number, KeyLength, ValueLength, BadByte}
 use Rattle.spelled_words.specs.declared.fault.ReadError.{ReadError}

@@ -1,11 +1,9 @@
 -- Lines cut into words.
 use Rattle.std.specs.Prelude.{ℕ, ◌-◌, ◌==◌, nat_lt, nat_le, Bool, not, ◌&&◌, if◌then◌else◌, List, [], length, take, slice_index, Option, Some, None, Result, Ok, Err}
 use Rattle.std.specs.Borrow.{Bor}
-use Rattle.std.specs.List.{list_all, list_any, slice_split}
+use Rattle.spelled_words.specs.Prelude.{Format, line_limit, list_all, list_any, slice_split}
 use Rattle.spelled_words.specs.declared.fault.LineFault.{LineFault}
 use Rattle.spelled_words.specs.declared.fault.LineFault.TheVariants.{WordCount, NoNewline, LineTooLong, BadByte}
-use Rattle.text_format.specs.declared.Format.{Format}
-use Rattle.text_format.specs.Limits.{line_limit}
 
 -- only the last byte counts as the newline
 abbrev pub has_newline : List ℕ → Bool

@@ -1,10 +1,8 @@
 -- The lock begins, and issues its seats.
 use Rattle.std.proofs.Common.{◌≡◌, ℕ, suc, ◌+◌, ◌-◌, ◌<◌, cond, Bool, false, List, [], ◌∷◌, ◌++◌, map, set, sym, refl, ap, ◌∙◌, subst, arith, le_refl, true≢false, Option, Some, None}
-use Rattle.std.specs.List.{sum_by}
-use Rattle.std.proofs.lemmas.List.Sums.{sum_by-append, sum_by-cons}
+use Rattle.ticket_lock.proofs.Common.{Me, Splits, State, opening, sum_by, sum_by-append, sum_by-cons}
 use mathlib.Core.Option.{some, some-ne-none}
 use lib.ListN.{get_elem?}
-use Rattle.atomic_table.specs.Table.{State, Me, Splits, opening}
 use Rattle.ticket_lock.specs.declared.rule.SeatRecord.{SeatRecord}
 use Rattle.ticket_lock.specs.declared.rule.View.{View}
 use Rattle.ticket_lock.specs.declared.rule.Setup.{Setup}

@@ -1,12 +1,11 @@
 -- A seat loads the ticket and the serving word, and draws a ticket.
 use Rattle.std.proofs.Common.{◌≡◌, ℕ, ◌+◌, ◌<◌, ◌≤◌, ◌≢◌, eqb, cond, Bool, true, List, [], ◌∷◌, set, get_or, sym, refl, ap, ◌∙◌, subst, arith, le_refl, eq-eqb, ne_eqb, Option, Some, None}
-use Rattle.std.specs.List.{sum_by}
+use Rattle.ticket_lock.proofs.Common.{Act, Allows, Me, State, Valid, carried_after, keeps, step, stepped, sum_by}
 use mathlib.Core.Option.{some, none}
 use mathlib.Core.Logic.{dite}
 use native.Mathlib.Decide.{ℕ_discrete}
 use lib.ListN.{get_elem?}
 use prog.Atomic.{either}
-use Rattle.atomic_table.specs.Table.{State, Me, Act, keeps, step, stepped, carried_after, Valid, Allows}
 use Rattle.ticket_lock.specs.declared.rule.SeatRecord.{SeatRecord}
 use Rattle.ticket_lock.specs.declared.rule.Look.{Look}
 use Rattle.ticket_lock.specs.declared.rule.Look.TheVariants.{Serving}

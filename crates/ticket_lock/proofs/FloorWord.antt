@@ -1,9 +1,8 @@
 -- The floor word is raised and loaded.
 use Rattle.std.proofs.Common.{◌≡◌, ℕ, ◌≤◌, Bool, true, List, ◌∷◌, max, set, get_or, sym, refl, ap, ◌∙◌, subst, arith, le_refl, true≢false, Option, Some}
-use Rattle.std.specs.List.{sum_by}
+use Rattle.ticket_lock.proofs.Common.{Act, Allows, Me, State, Valid, carried_after, keeps, step, stepped, sum_by}
 use mathlib.Core.Option.{some, some-injective, none}
 use lib.ListN.{get_elem?}
-use Rattle.atomic_table.specs.Table.{State, Me, Act, keeps, step, stepped, carried_after, Valid, Allows}
 use Rattle.ticket_lock.specs.declared.rule.SeatRecord.{SeatRecord}
 use Rattle.ticket_lock.specs.declared.rule.View.{View}
 use Rattle.ticket_lock.specs.declared.rule.Setup.{Setup}

@@ -1,11 +1,8 @@
 -- What the steps have in common: views that change, come or stay while the rule holds.
 use Rattle.std.proofs.Common.{◌≡◌, ℕ, ◌+◌, ◌≤◌, Bool, true, false, List, [], ◌∷◌, ◌++◌, length, max, set, sym, refl, ◌∙◌, subst, ⊎_elim, arith, true≢false, Option, Some, None}
-use Rattle.std.specs.List.{sum_by}
-use Rattle.std.proofs.lemmas.List.Sums.{sum_by-append, sum_by-cons}
+use Rattle.ticket_lock.proofs.Common.{State, at_set, at_snoc, sum_by, sum_by-append, sum_by-cons}
 use mathlib.Core.Option.{some, some-ne-none}
 use lib.ListN.{get_elem?}
-use Rattle.atomic_table.specs.Table.{State}
-use Rattle.atomic_table.proofs.Lists.{at_set, at_snoc}
 use Rattle.ticket_lock.specs.declared.rule.Look.{Look}
 use Rattle.ticket_lock.specs.declared.rule.View.{View}
 use Rattle.ticket_lock.specs.declared.rule.Setup.{Setup}

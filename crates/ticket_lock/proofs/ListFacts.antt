@@ -1,15 +1,11 @@
 -- Lists of views and of numbers.
 use Rattle.std.proofs.Common.{◌≡◌, ℕ, zero, suc, ◌+◌, ◌<◌, ◌≤◌, ◌≢◌, eqb, nat_lt, cond, Bool, true, false, List, [], ◌∷◌, ◌++◌, length, set, sym, refl, ap, ◌∙◌, subst, ⊎_elim, arith, append_assoc, append-nil, length-append, eq-eqb, ne_eqb, Some}
-use Rattle.std.specs.List.{sum_by}
-use Rattle.std.proofs.lemmas.List.Sums.{sum_by-cons}
+use Rattle.ticket_lock.proofs.Common.{at_index, at_longer, at_set, cases_lt, lt-ltb, ltb-true, nil_from_length, set_else, sum_by, sum_by-cons}
 use Rattle.std.proofs.lemmas.List.Elements.{filter-append}
-use Rattle.std.proofs.lemmas.Bool.{ltb-true, lt-ltb, cases_lt}
-use Rattle.std.proofs.lemmas.List.{nil_from_length}
 use mathlib.Core.Option.{some, some-injective, some-ne-none}
 use mathlib.Core.Logic.{dite}
 use native.Mathlib.Decide.{ℕ_discrete}
 use lib.ListN.{get_elem?, get_or}
-use Rattle.atomic_table.proofs.Lists.{at_set, at_index, set_else, at_longer}
 use Rattle.ticket_lock.specs.Lists.{StartsWith, of_seat, span, longer}
 
 pub either_way : (b : Bool) → (b ≡ true → ⊥) → b ≡ false

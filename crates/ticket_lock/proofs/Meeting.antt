@@ -1,8 +1,7 @@
 -- Two seats tell each other what they have seen.
 use Rattle.std.proofs.Common.{◌≡◌, ℕ, ◌≤◌, true, List, [], ◌∷◌, ◌++◌, max, set, get_or, sym, refl, ap, ◌∙◌, subst, arith, le_refl, true≢false, Option, Some, None}
-use Rattle.std.specs.List.{sum_by}
+use Rattle.ticket_lock.proofs.Common.{Act, Allows, Joins, Me, Splits, State, Valid, carried_after, keeps, step, stepped, sum_by}
 use mathlib.Core.Option.{some-ne-none, none}
-use Rattle.atomic_table.specs.Table.{State, Me, Act, keeps, step, stepped, carried_after, Valid, Allows, Splits, Joins}
 use Rattle.ticket_lock.specs.declared.rule.View.{View}
 use Rattle.ticket_lock.specs.declared.rule.Setup.{Setup}
 use Rattle.ticket_lock.specs.Lists.{longer}

@@ -1,11 +1,8 @@
 -- A turn ends.
 use Rattle.std.proofs.Common.{◌≡◌, ℕ, ◌+◌, ◌≤◌, ◌≢◌, cond, Bool, true, false, List, [], ◌∷◌, ◌++◌, map, max, set, sym, refl, ap, ◌∙◌, subst, ⊎_elim, arith, append-nil, length-append, true≢false, Option, Some, None}
-use Rattle.std.specs.List.{sum_by}
-use Rattle.std.proofs.lemmas.List.Sums.{sum_by-append, sum_by-cons}
+use Rattle.ticket_lock.proofs.Common.{Allows, Me, State, at_map, at_snoc, gives, homes_after, rest, step, sum_by, sum_by-append, sum_by-cons}
 use mathlib.Core.Option.{some, some-injective, some-ne-none, none}
 use lib.ListN.{get_elem?}
-use Rattle.atomic_table.specs.Table.{State, Me, gives, step, homes_after, Allows, rest}
-use Rattle.atomic_table.proofs.Lists.{at_snoc, at_map}
 use Rattle.ticket_lock.specs.declared.rule.SeatRecord.{SeatRecord}
 use Rattle.ticket_lock.specs.declared.rule.View.{View}
 use Rattle.ticket_lock.specs.declared.rule.Setup.{Setup}

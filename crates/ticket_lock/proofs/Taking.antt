@@ -1,11 +1,10 @@
 -- A turn comes.
 use Rattle.std.proofs.Common.{◌≡◌, ℕ, ◌≤◌, cond, Bool, true, false, List, [], ◌∷◌, set, get_or, sym, refl, ap, ◌∙◌, subst, arith, le_refl, true≢false, Option, Some}
-use Rattle.std.specs.List.{sum_by}
+use Rattle.ticket_lock.proofs.Common.{Act, Allows, Me, State, Valid, carried_after, keeps, step, stepped, sum_by, takes}
 use mathlib.Core.Option.{some, some-injective, none}
 use mathlib.Core.Logic.{dite}
 use native.Mathlib.Decide.{ℕ_discrete}
 use lib.ListN.{get_elem?}
-use Rattle.atomic_table.specs.Table.{State, Me, Act, keeps, takes, step, stepped, carried_after, Valid, Allows}
 use Rattle.ticket_lock.specs.declared.rule.View.{View}
 use Rattle.ticket_lock.specs.declared.rule.Setup.{Setup}
 use Rattle.ticket_lock.specs.Lists.{span}

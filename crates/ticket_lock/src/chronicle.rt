@@ -1,3 +1,4 @@
+//! What the value behind a lock has to be: it stands for the list of all that was done to it, and has a floor.
 ghost use Rattle.std.specs.Prelude.{◌≡◌, ◌≤◌, ◌++◌, ℕ, List};
 
 /// A value that stands for the list of everything that was done to it, and has a floor: a number

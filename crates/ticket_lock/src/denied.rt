@@ -1,3 +1,5 @@
+//! The end of `try_turn` where a lock gave no turn, and why.
+
 /// Why `TicketLock::try_turn` gave no turn.
 #[derive(Drop)]
 pub enum Denied {

@@ -1,9 +1,6 @@
 -- Each step keeps the rule of the oracle's word.
 use Rattle.std.proofs.Common.{◌≡◌, ℕ, ◌+◌, ◌<◌, ◌≤◌, ◌≢◌, eqb, cond, List, [], ◌∷◌, ◌++◌, get_or, set, sym, refl, ap, ◌∙◌, subst, ⊎_elim, arith, le_refl, eq-eqb, ne_eqb}
-use Rattle.std.specs.List.{sum_by, count_by, Contains}
-use Rattle.std.proofs.lemmas.Bool.{cases_lt}
-use Rattle.std.proofs.lemmas.List.Elements.{Contains-get_or}
-use Rattle.std.proofs.lemmas.List.Sums.{sum_by-append, sum_by-cons}
+use Rattle.timestamps.proofs.Common.{Contains, Contains-get_or, cases_lt, count_by, sum_by, sum_by-append, sum_by-cons}
 use mathlib.Core.Option.{some, none}
 use mathlib.Core.Logic.{dite}
 use native.Mathlib.Decide.{ℕ_discrete}

@@ -1,3 +1,4 @@
+pub mod Common
 pub mod Numbers
 pub mod Fronts
 pub mod Words

@@ -1,11 +1,8 @@
 -- Blocks and their timestamps.
 use Rattle.std.proofs.Common.{◌≡◌, ℕ, zero, suc, ◌+◌, ◌*◌, ◌<◌, ◌≤◌, List, [], ◌∷◌, ◌++◌, length, get_or, sym, refl, ap, ◌∙◌, subst, ⊎_elim, arith}
-use Rattle.std.specs.List.{Contains, All, flat_map, count_by, slice_index}
+use Rattle.timestamps.proofs.Common.{All, All-contains, Contains, Contains-append_cases, IsStrictlyIncreasing, count_by, flat_map, get_or-le-sum_by, slice_index}
 use Rattle.std.specs.Prelude.{◌==◌, cond}
-use Rattle.std.specs.List.Sorted.{IsStrictlyIncreasing}
-use Rattle.std.proofs.lemmas.List.Elements.{All-contains, Contains-append_cases}
 use Rattle.std.proofs.lemmas.List.Concat.{flat_map-cons}
-use Rattle.std.proofs.lemmas.List.Sums.{get_or-le-sum_by}
 use Rattle.std.proofs.Common.{eq-eqb}
 use Rattle.timestamps.specs.Numbers.{numbers_from, timestamps_of, AreApart}
 

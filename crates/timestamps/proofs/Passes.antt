@@ -1,7 +1,6 @@
 -- What the steps of a draw and of a meeting leave.
 use Rattle.std.proofs.Common.{◌≡◌, ℕ, ◌<◌, ◌≢◌, List, [], sym, ap, ◌∙◌, subst}
-use Rattle.std.specs.List.{All, flat_map}
-use Rattle.std.specs.List.Sorted.{IsStrictlyIncreasing}
+use Rattle.timestamps.proofs.Common.{All, IsStrictlyIncreasing, flat_map}
 use mathlib.Core.Logic.{dite}
 use native.Mathlib.Decide.{ℕ_discrete}
 use Rattle.timestamps.specs.Blocks.{Sat, loads, draws, only_drawn, borrowing, without_lent, only_lent, taking_back}

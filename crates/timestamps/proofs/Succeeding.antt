@@ -1,8 +1,6 @@
 -- A text and a zero behind it.
 use Rattle.std.proofs.Common.{ℕ, zero, suc, List, [], ◌∷◌, ◌++◌, ◌≡◌, ◌+◌, ◌<◌, refl, sym, ap, ◌∙◌, arith, length, take, drop, get_or, true, false, bytes_eq}
-use Rattle.std.proofs.Math.Seq.{drop-append_seam, take-append_seam, take-suc}
-use Rattle.std.proofs.lemmas.List.{ext_get_or, take-append-drop}
-use Rattle.std.proofs.lemmas.Slice.Eq.{bytes_eq-Decides}
+use Rattle.timestamps.proofs.Common.{bytes_eq-Decides, drop-append_seam, ext_get_or, take-append-drop, take-append_seam, take-suc}
 use Rattle.timestamps.specs.Words.{IsPadded}
 use Rattle.timestamps.proofs.Fronts.{padded}
 use Rattle.timestamps.proofs.Words.{read_padded}

@@ -1,9 +1,7 @@
 -- What the words of some bytes are, and how they decide the order of two lists.
 use Rattle.std.proofs.Common.{ℕ, zero, suc, List, [], ◌∷◌, ◌≡◌, ◌<◌, ◌≤◌, ◌⊎◌, inl, inr, ◌+◌, ◌*◌, refl, sym, ap, ◌∙◌, arith, get_or, take, drop, nat_cmp, subst}
 use Rattle.std.proofs.Math.Nat.{mul_assoc}
-use Rattle.std.proofs.Math.Seq.{drop-nil}
-use Rattle.std.proofs.lemmas.List.{get_or-drop, get_or_past, get_or-take, length-take}
-use Rattle.std.proofs.lemmas.Bool.{cases_lt}
+use Rattle.timestamps.proofs.Common.{cases_lt, drop-nil, get_or-drop, get_or-take, get_or_past, length-take}
 use Rattle.timestamps.specs.Bytes.{key_cmp}
 use Rattle.timestamps.specs.Words.{AreBytes, front_from, front_of}
 use Rattle.timestamps.proofs.Fronts.{cmp_on, front_read, fronts_differ}

@@ -1,3 +1,4 @@
+pub mod Common
 pub mod Sameness
 pub mod Wanting
 pub mod TraceSteps

@@ -2,11 +2,8 @@
 use Rattle.std.proofs.Common.{◌≡◌, ℕ, suc, ◌+◌, ◌<◌, ◌≤◌, List, [], ◌∷◌, ◌++◌, reverse, length, take, drop, get_or, Some, refl, sym, ap, ◌∙◌, subst, arith, add-one, append_assoc}
 use Rattle.std.proofs.Math.Seq.{drop-cons}
 use Rattle.std.proofs.lemmas.List.{length-reverse, reverse-append, take-append-drop, take_more, length-take-le}
-use Rattle.spans.specs.declared.calls.events.Event.{Event}
-use Rattle.spans.specs.Effects.{effects_of}
-use Rattle.spans.specs.Legal.{IsRightEvent, IsLegal, IsGapless}
+use Rattle.trace_check.proofs.Common.{Event, IsGapless, IsLegal, IsRightEvent, effects_of, gapless_more, turned_more}
 use Rattle.trace_check.specs.Traces.{position_of_first, last_from, last_position, IsInPlace, IsTrace, IsFirstWrong}
-use Rattle.spans.proofs.Histories.{gapless_more, turned_more}
 
 -- ---- positions
 

@@ -2,14 +2,10 @@
 use Rattle.std.proofs.Common.{◌≡◌, true, List, ◌∷◌, ap, ◌∙◌, inr}
 use Rattle.spans.specs.declared.calls.replies.Reply.TheVariants.{Refused}
 use Rattle.spans.specs.declared.calls.replies.Refusal.TheVariants.{NoMemory}
-use Rattle.spans.specs.declared.calls.events.Event.{Event}
-use Rattle.spans.specs.Effects.{effect, effects_of}
+use Rattle.trace_check.proofs.Common.{Event, StandsFor, effect, effects_of, is_accepted, may_lack_memory, wanting_does_nothing}
 use Rattle.spans.specs.Answer.{answer_of}
-use Rattle.spans.specs.Legal.{is_accepted, may_lack_memory}
 use Rattle.plain_database.specs.declared.database.PlainDatabase.{PlainDatabase}
-use Rattle.plain_database.specs.Tied.{StandsFor}
 use Rattle.plain_database.proofs.Events.{stands_still}
-use Rattle.spans.proofs.Histories.{wanting_does_nothing}
 
 -- a command that may want memory found none: the database stands for that event too
 pub stands_wanting : (db : PlainDatabase) (h : List Event) (e : Event) → StandsFor db h → e.reply ≡ Refused NoMemory → is_accepted (answer_of (effects_of h) e.seat e.cmd) ≡ true → may_lack_memory e.cmd ≡ true → StandsFor db (e ∷ h)

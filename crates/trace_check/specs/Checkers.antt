@@ -1,10 +1,7 @@
 -- What a checker has taken, what it says of the next event, and what it tells of all.
 use Rattle.std.specs.Prelude.{ℕ, List, [], ◌∷◌, ◌++◌, ◌≡◌, ◌<◌, ◌↔◌, Bool, true, length, reverse}
-use Rattle.spans.specs.declared.calls.events.Event.{Event}
+use Rattle.trace_check.specs.Prelude.{Event, answer_of, effects_of, is_accepted, may_lack_memory}
 use Rattle.spans.specs.declared.report.Report.{Report}
-use Rattle.spans.specs.Answer.{answer_of}
-use Rattle.spans.specs.Effects.{effects_of}
-use Rattle.spans.specs.Legal.{is_accepted, may_lack_memory}
 use Rattle.spans.specs.Report.{IsReport, limit_in, limit_of}
 use Rattle.restarts.specs.Dump.{mark_of}
 use Rattle.plain_database.specs.declared.dump.Dump.{Dump}

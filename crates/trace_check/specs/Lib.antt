@@ -1,2 +1,3 @@
+pub mod Prelude
 pub mod Traces
 pub mod Checkers

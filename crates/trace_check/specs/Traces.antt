@@ -1,9 +1,6 @@
 -- Which lists of events, the oldest first, one database can have given, and where another list first goes wrong.
 use Rattle.std.specs.Prelude.{ℕ, List, [], ◌∷◌, ◌++◌, ◌≡◌, ◌<◌, ◌↔◌, ◌+◌, Bool, true, Option, Some, None, length, reverse}
-use Rattle.spans.specs.declared.calls.events.Event.{Event}
-use Rattle.spans.specs.Answer.{answer_of}
-use Rattle.spans.specs.Effects.{effects_of}
-use Rattle.spans.specs.Legal.{IsLegal, IsGapless, IsRightEvent, is_accepted, may_lack_memory}
+use Rattle.trace_check.specs.Prelude.{Event, IsGapless, IsLegal, IsRightEvent, answer_of, effects_of, is_accepted, may_lack_memory}
 use Rattle.plain_database.specs.declared.database.PlainDatabase.{PlainDatabase}
 use Rattle.plain_database.specs.Tied.{StandsFor}
 

@@ -1,3 +1,4 @@
+pub mod Prelude
 pub mod States
 pub mod TransactionIn
 pub mod Ties

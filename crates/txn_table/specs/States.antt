@@ -1,9 +1,8 @@
 -- How a transaction begins and how it ends.
 use Rattle.std.specs.Prelude.{None, Option, Some, option_map, unwrap_or, ℕ}
-use Rattle.spans.specs.Kept.{Transaction}
+use Rattle.txn_table.specs.Prelude.{Transaction, new_transaction}
 use Rattle.spans.specs.declared.state.State.{State}
 use Rattle.spans.specs.declared.state.State.TheVariants as states
-use Rattle.kept.specs.Table.{new_transaction}
 use Rattle.txn_table.specs.declared.ending.Outcome.{Outcome}
 use Rattle.txn_table.specs.declared.ending.Outcome.TheVariants as outcomes
 use Rattle.txn_table.specs.declared.ending.Ending.{Ending}

@@ -1,9 +1,8 @@
-//! The transactions that stand, by timestamp.
+//! The table of transactions, by timestamp: who began, how each stands, and which are undecided.
 ghost use Rattle.std.specs.Prelude.{◌≡◌, ◌&&◌, ℕ, None, IfOk, OnOk, OnErr, nat_le, nat_lt, option_map, is_none, if◌then◌else◌, length, ◌<◌, ◌^◌};
 ghost use Rattle.std.specs.List.Sorted.{IsStrictlyIncreasing};
-ghost use Rattle.spans.specs.Kept.{Transaction};
+ghost use Rattle.txn_table.specs.Prelude.{IsOldest, Transaction, is_open};
 ghost use Rattle.kept.specs.Lists.{AreThose, IsNumberOf};
-ghost use Rattle.kept.specs.Table.{IsOldest, is_open};
 ghost use Rattle.txn_table.specs.States.{begun, decided};
 ghost use Rattle.txn_table.specs.TransactionIn.{transaction_in, IsGreatest, IsSetAt};
 

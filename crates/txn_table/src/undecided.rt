@@ -1,4 +1,4 @@
-//! Undecided timestamps, in turn.
+//! The iterator over undecided timestamps.
 ghost use Rattle.std.specs.Prelude.{◌≡◌, length};
 ghost use Rattle.std.specs.Iterator.{at_most};
 ghost use Rattle.std.specs.Map.{keys_of};

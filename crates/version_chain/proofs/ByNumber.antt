@@ -1,15 +1,8 @@
 -- What is found by key, where records lie by number: after one changed, one came and one went.
-use Rattle.std.proofs.lemmas.Grind.{common_steps}
+use Rattle.version_chain.proofs.Common.{IsNumberedAt, IsOwn, Numbered, SpanMarks, both_ways, by_test, common_steps, get_or-map, is_kept, key_itself, latest_in, length-map, length-set, map-set, number_in, readers_of, same_key}
 use Rattle.std.proofs.Common.{rules}
 use Rattle.std.proofs.Common.{◌≡◌, ℕ, ◌<◌, ◌==◌, true, false, cond, List, [], ◌∷◌, length, Option, Some, None, refl, sym, ◌∙◌, ap, arith, eq-eqb}
 use Rattle.std.specs.Prelude.{◌≢◌, bytes_eq, slice_index_or, slice_set}
-use Rattle.std.proofs.lemmas.Bool.{both_ways}
-use Rattle.std.proofs.lemmas.List.{get_or-map, length-map, length-set, map-set}
-use Rattle.spans.proofs.Steps.{by_test, same_key, key_itself}
-use Rattle.key_table.specs.Numbers.{Numbered, number_in, IsNumberedAt, IsOwn}
-use Rattle.read_marks.specs.Readers.{is_kept, readers_of}
-use Rattle.read_marks.specs.Spans.{latest_in}
-use Rattle.read_marks.specs.declared.span_marks.SpanMarks.{SpanMarks}
 use Rattle.version_chain.specs.declared.record.Record.{Record}
 use Rattle.version_chain.specs.Chains.{at_key, chain_of, marked_in}
 use Rattle.version_chain.specs.ByNumber.{AreLow, IsPlaced, IsPutAt, at_number, chains_in, entries_of, readers_in, stored}

@@ -1,11 +1,7 @@
 -- A chain's versions up to a horizon, and its newest committed one there.
-use Rattle.std.proofs.lemmas.Grind.{common_steps}
+use Rattle.version_chain.proofs.Common.{and_right, by_test, common_steps, eqb-true, filter, nat_tests, newest_only, or_from}
 use Rattle.std.proofs.Common.{◌≡◌, ℕ, zero, suc, ◌<◌, ◌≤◌, ◌-◌, ◌==◌, Bool, true, false, ◌&&◌, ◌||◌, List, [], ◌∷◌, length, take, drop, get_or, All, Some, None, refl, sym, ◌∙◌, ap, inr, arith}
 use Rattle.std.specs.Prelude.{nat_le}
-use Rattle.std.specs.List.{filter}
-use Rattle.std.proofs.lemmas.Bool.{and_right, eqb-true, or_from}
-use Rattle.std.proofs.lemmas.Bool.Decides.{nat_tests}
-use Rattle.spans.proofs.Steps.{by_test, newest_only}
 use Rattle.version_chain.specs.declared.chain.Version.{Version}
 use Rattle.version_chain.specs.Versions.{AreAbove, DoRise, version_of, IsPlaceAbove}
 use Rattle.version_chain.specs.Dead.{after_if_committed, newest_of, is_dead_version, is_dead_at}

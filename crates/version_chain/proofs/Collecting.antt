@@ -1,15 +1,7 @@
 -- A collection: from key to key, and from timestamp to timestamp.
-use Rattle.std.proofs.lemmas.Grind.{common_steps}
+use Rattle.version_chain.proofs.Common.{VersionName, and-true, and_parts, both_ways, by_test, cases_lt, common_steps, distinct_filter, eqb-true, false_from_ne_true, filter, has, has_filter, has_filtered, length-filter_both, same_length}
 use Rattle.std.proofs.Common.{◌≡◌, ℕ, ◌<◌, ◌+◌, ◌-◌, ◌≤◌, ◌⊎◌, ◌==◌, Bool, true, false, cond, ◌&&◌, List, [], ◌∷◌, length, Option, Some, None, refl, sym, ◌∙◌, ap, inl, inr, arith}
 use Rattle.std.specs.Prelude.{bytes_eq, is_some, not}
-use Rattle.std.specs.List.{filter}
-use Rattle.std.proofs.lemmas.Bool.{and_parts, both_ways, cases_lt, eqb-true, false_from_ne_true}
-use Rattle.std.proofs.Math.Bool.{and-true}
-use Rattle.std.proofs.lemmas.List.Filters.{length-filter_both}
-use Rattle.spans.specs.Collection.{VersionName}
-use Rattle.spans.proofs.Members.{same_length, has_filter, distinct_filter}
-use Rattle.spans.proofs.Steps.{by_test}
-use Rattle.spans.proofs.WriteSets.{has, has_filtered}
 use Rattle.version_chain.specs.declared.chain.Version.{Version}
 use Rattle.version_chain.specs.declared.index.Index.{Index}
 use Rattle.version_chain.specs.Chains.{chain_of, found_in, HaveSameMarks}

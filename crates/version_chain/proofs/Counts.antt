@@ -1,17 +1,8 @@
 -- How many versions there are after some came or went.
-use Rattle.std.proofs.lemmas.Grind.{common_steps}
+use Rattle.version_chain.proofs.Common.{AreDistinct, Has, RisingKeys, VersionName, and_from, and_parts, by_test, common_steps, distinct_filter, eqb-true, filter, has, has_filter, has_in, has_is, in_has, key_itself, length-filter_both, length-map, rising_distinct, same_key, same_length, version_name}
 use Rattle.std.proofs.Common.{rules}
 use Rattle.std.proofs.Common.{◌≡◌, ℕ, ◌<◌, ◌≤◌, ◌-◌, ◌+◌, ◌==◌, Bool, true, false, ◌&&◌, List, [], ◌∷◌, length, map, cond, Option, Some, None, refl, sym, ◌∙◌, ap, subst, inl, inr, arith, eq-eqb}
 use Rattle.std.specs.Prelude.{bytes_eq, is_some, is_none, not, ◌↔◌}
-use Rattle.std.specs.List.{filter}
-use Rattle.std.proofs.lemmas.List.{length-map}
-use Rattle.std.proofs.lemmas.List.Filters.{length-filter_both}
-use Rattle.std.proofs.lemmas.Bool.{eqb-true, and_from, and_parts}
-use Rattle.spans.specs.Collection.{VersionName, version_name}
-use Rattle.spans.proofs.Steps.{by_test, same_key, key_itself}
-use Rattle.spans.proofs.Keyed.{RisingKeys}
-use Rattle.spans.proofs.Members.{Has, AreDistinct, same_length, has_filter, has_is, in_has, distinct_filter, rising_distinct}
-use Rattle.spans.proofs.WriteSets.{has, has_in}
 use Rattle.version_chain.specs.declared.chain.Version.{Version}
 use Rattle.version_chain.specs.Versions.{AreAbove, DoRise, version_of}
 use Rattle.version_chain.specs.Chains.{chain_of, found_in, IsChangedAt}

@@ -1,15 +1,7 @@
 -- What is dead by a horizon, and what is so after a change.
-use Rattle.std.proofs.lemmas.Grind.{common_steps}
+use Rattle.version_chain.proofs.Common.{After, and_from, both_ways, by_test, common_steps, eqb-true, false_from_ne_true, filter, is_delete, le-leb, lt-ltb, ltb-true, nat_tests, newest, newest_fewer, newest_is, newest_reaches, newest_rises, or-false, or_left, or_right}
 use Rattle.std.proofs.Common.{◌≡◌, ℕ, ◌<◌, ◌≤◌, ◌⊎◌, ◌==◌, Bool, true, false, cond, ◌&&◌, ◌||◌, List, [], ◌∷◌, Option, Some, None, refl, sym, ◌∙◌, ap, subst, inl, inr, arith}
 use Rattle.std.specs.Prelude.{is_none, not, nat_le, nat_lt}
-use Rattle.std.specs.List.{filter}
-use Rattle.std.proofs.lemmas.Bool.{and_from, or_left, or_right, eqb-true, le-leb, ltb-true, lt-ltb, both_ways, false_from_ne_true}
-use Rattle.std.proofs.lemmas.Bool.Decides.{nat_tests}
-use Rattle.std.proofs.Math.Bool.{or-false}
-use Rattle.spans.specs.Effects.{After}
-use Rattle.spans.specs.Collection.{is_delete}
-use Rattle.spans.specs.Newest.{newest}
-use Rattle.spans.proofs.Steps.{by_test, newest_is, newest_reaches, newest_fewer, newest_rises}
 use Rattle.version_chain.specs.declared.chain.Version.{Version}
 use Rattle.version_chain.specs.Versions.{AreAbove, DoRise, version_of}
 use Rattle.version_chain.specs.Stores.{after_of, is_committed}

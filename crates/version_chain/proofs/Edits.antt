@@ -1,11 +1,8 @@
 -- What a chain has after a version was put in, replaced, marked or taken out.
-use Rattle.std.proofs.lemmas.Grind.{common_steps}
+use Rattle.version_chain.proofs.Common.{by_test, common_steps, eqb-true, insert, remove}
 use Rattle.std.proofs.Common.{rules}
 use Rattle.std.proofs.Common.{◌≡◌, ℕ, zero, suc, ◌<◌, ◌≤◌, ◌-◌, ◌==◌, false, cond, List, [], ◌∷◌, length, get_or, set, Option, Some, None, refl, sym, ◌∙◌, ap, arith, subst}
-use Rattle.std.specs.List.{insert, remove}
 use Rattle.std.specs.Prelude.{option_map}
-use Rattle.std.proofs.lemmas.Bool.{eqb-true}
-use Rattle.spans.proofs.Steps.{by_test}
 use Rattle.version_chain.specs.declared.chain.Version.{Version}
 use Rattle.version_chain.specs.Versions.{AreAbove, DoRise, version_of, as_committed, IsPlaceAbove, IsPlaceOf, IsFreePlace}
 use Rattle.version_chain.proofs.Places.{above_at, rises_at, found, none_at, same_ts}

@@ -1,18 +1,9 @@
 -- Readers of a key and its versions: which reader crosses a write, and the gap of a read.
-use Rattle.std.proofs.lemmas.Grind.{common_steps}
+use Rattle.version_chain.proofs.Common.{After, AtMost, IsBetween, IsCrossed, IsPiece, and_parts, cases_lt, common_steps, is_kept, is_reader, nat_tests, newest, newest_only, option_copied, until}
 use Rattle.std.proofs.Common.{◌≡◌, ℕ, ◌<◌, ◌≤◌, ◌==◌, Bool, true, false, List, [], ◌∷◌, Option, Some, None, Result, Ok, Err, refl, sym, ◌∙◌, ap, inl, inr, arith, max, lt-ltb, ltb-true, nat_lt, option_map}
 use Rattle.std.specs.Prelude.{◌↔◌, IfSome, IsTrue, MatchOption, OnErr, OnOk, is_some}
 use Rattle.std.specs.Borrow.{Bor}
-use Rattle.std.specs.Option.{option_copied}
-use Rattle.std.proofs.lemmas.Bool.{and_parts, cases_lt}
-use Rattle.std.proofs.lemmas.Bool.Decides.{nat_tests}
-use Rattle.spans.specs.Effects.{After}
-use Rattle.spans.specs.Kept.{IsCrossed}
-use Rattle.spans.specs.Newest.{newest}
-use Rattle.spans.proofs.Steps.{newest_only}
 use Rattle.kept.specs.Finding.{IsNextAbove}
-use Rattle.kept.specs.Marks.{AtMost, IsBetween, IsPiece, until}
-use Rattle.read_marks.specs.Readers.{is_kept, is_reader}
 use Rattle.version_chain.specs.declared.chain.Version.{Version}
 use Rattle.version_chain.specs.Chains.{Stored, chain_of, marked_in}
 use Rattle.version_chain.specs.Marking.{IsCrossedIn, IsNotedOn}

@@ -1,16 +1,9 @@
 -- Versions in blocks: which block has a place, and what an edit of one block makes of all versions.
-use Rattle.std.proofs.lemmas.Grind.{common_steps}
+use Rattle.version_chain.proofs.Common.{IsPartitionPoint, IsPartitionedBy, by_test, common_steps, eqb-false, eqb-true, get_or-append_right, get_or_append_left, get_or_default, insert-append_left, insert-append_right, length-filter_both, nat_tests, remove-append_left, remove-append_right, set-append_left, set-append_right, set_split, take_more, take_more_set}
 use Rattle.std.proofs.Common.{rules}
 use Rattle.std.proofs.Common.{◌≡◌, ℕ, zero, suc, ◌+◌, ◌-◌, ◌^◌, ◌<◌, ◌≤◌, ◌==◌, Bool, true, false, List, [], ◌∷◌, ◌++◌, length, take, drop, get_or, set, All, filter, insert, remove, not, refl, sym, ap, subst, ◌∙◌, append_assoc, append-nil, arith, length-append, length-drop, length-set, take-append-drop, take_all, get_or-drop, get_or-append-add, get_or-set_same, get_or-set_other, drop-drop, drop-set-lt}
 use Rattle.std.specs.Prelude.{nat_le}
-use Rattle.std.specs.List.Sorted.{IsPartitionedBy, IsPartitionPoint}
-use Rattle.std.proofs.lemmas.Bool.{eqb-false, eqb-true}
-use Rattle.std.proofs.lemmas.Bool.Decides.{nat_tests}
-use Rattle.spans.proofs.Steps.{by_test}
-use Rattle.std.proofs.lemmas.List.{take_more, take_more_set, get_or-append_right, get_or_append_left, get_or_default, set-append_left, set-append_right, set_split}
-use Rattle.std.proofs.lemmas.List.Edits.{insert-append_left, insert-append_right, remove-append_left, remove-append_right}
 use Rattle.std.proofs.lemmas.List.Elements.{filter-append}
-use Rattle.std.proofs.lemmas.List.Filters.{length-filter_both}
 use Rattle.version_chain.specs.declared.chain.Version.{Version}
 use Rattle.version_chain.specs.declared.block.Block.{Block}
 use Rattle.version_chain.specs.Blocks.{AreNumbered, IsBlockOf, IsSound, all_in}

@@ -1,29 +1,10 @@
 -- The keys of a span are those of a range, up to the first one that is not below its end.
-use Rattle.std.proofs.lemmas.Grind.{common_steps}
+use Rattle.version_chain.proofs.Common.{IsIn, Less, Numbered, RisingKeys, Span, Unbounded, and-false, and-true, and_parts, below_high, by_test, common_steps, filter, from_low, in_span, is_at, is_eq, is_eq-slice_cmp, key_cmp, key_itself, keys_of, lookup, range_contains, same_key, start_of, starts_at, starts_before, stays_above}
 use Rattle.std.proofs.Common.{arith}
 use Rattle.timestamps.specs.declared.key.TheConstants.{MAX_KEY_BYTES}
 use Rattle.std.proofs.Common.{◌≡◌, ℕ, ◌≤◌, Bool, true, false, ◌&&◌, cond, List, [], ◌∷◌, ◌++◌, length, Option, Some, refl, sym, ◌∙◌, ap, subst, inl, inr}
 use Rattle.std.specs.Prelude.{unwrap_or}
-use Rattle.std.specs.List.{filter}
-use Rattle.std.specs.Map.{keys_of, lookup}
-use Rattle.std.specs.BTreeMap.{is_at}
-use Rattle.std.proofs.lemmas.Map.Text.{is_eq-slice_cmp}
-use Rattle.std.specs.BTreeMap.Range.{range_contains}
 use Rattle.std.specs.declared.ops.Bound.{Bound}
-use Rattle.std.specs.declared.ops.Bound.TheVariants.{Unbounded}
-use Rattle.std.specs.Ordering.{is_eq}
-use Rattle.std.specs.declared.cmp.Ordering.TheVariants.{Less}
-use Rattle.std.proofs.lemmas.Bool.{and_parts}
-use Rattle.std.proofs.Math.Bool.{and-true, and-false}
-use Rattle.timestamps.specs.Bytes.{key_cmp}
-use Rattle.spans.specs.KeyOrder.{from_low, below_high}
-use Rattle.spans.specs.Keys.{in_span}
-use Rattle.spans.specs.Starting.{start_of}
-use Rattle.spans.specs.declared.span.Span.{Span}
-use Rattle.spans.proofs.Keyed.{IsIn, RisingKeys}
-use Rattle.spans.proofs.Steps.{by_test, same_key, key_itself}
-use Rattle.spans.proofs.KeyOrder.{starts_before, starts_at, stays_above}
-use Rattle.key_table.specs.Numbers.{Numbered}
 use Rattle.version_chain.specs.declared.chain.Version.{Version}
 use Rattle.version_chain.specs.Chains.{Entry, AreFilled, chain_in, has_versions}
 use Rattle.version_chain.specs.ByNumber.{entries_of}

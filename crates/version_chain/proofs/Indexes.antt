@@ -1,19 +1,8 @@
 -- What is listed after the keys of one timestamp changed, and the tie of an index to the chains.
-use Rattle.std.proofs.lemmas.Grind.{common_steps}
+use Rattle.version_chain.proofs.Common.{BTreeMap, Excluded, Included, both_ways, by_test, common_steps, eqb-true, filter, has, has_added, insert_key, is_at, key_itself, lookup, nat_cmp, nat_tests, or_cases, range_contains, same_key}
 use Rattle.std.proofs.Common.{rules}
 use Rattle.std.proofs.Common.{◌≡◌, ℕ, ◌<◌, ◌≤◌, ◌⊎◌, ◌==◌, true, false, cond, ◌&&◌, ◌||◌, List, [], ◌∷◌, Option, Some, refl, sym, ◌∙◌, ap, subst, arith}
 use Rattle.std.specs.Prelude.{bytes_eq, ◌↔◌}
-use Rattle.std.specs.List.{filter}
-use Rattle.std.specs.Map.{lookup}
-use Rattle.std.specs.BTreeMap.{BTreeMap, is_at}
-use Rattle.std.specs.BTreeMap.Range.{range_contains}
-use Rattle.std.specs.declared.ops.Bound.TheVariants.{Excluded, Included}
-use Rattle.std.specs.Ordering.{nat_cmp}
-use Rattle.std.proofs.lemmas.Bool.{both_ways, eqb-true, or_cases}
-use Rattle.std.proofs.lemmas.Bool.Decides.{nat_tests}
-use Rattle.spans.specs.Keys.{insert_key}
-use Rattle.spans.proofs.Steps.{by_test, key_itself, same_key}
-use Rattle.spans.proofs.WriteSets.{has, has_added}
 use Rattle.version_chain.specs.Indexes.{is_among, listed_in}
 
 -- the keys of each timestamp

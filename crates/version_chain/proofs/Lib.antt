@@ -1,3 +1,4 @@
+pub mod Common
 pub mod Places
 pub mod BinarySearch
 pub mod Edits

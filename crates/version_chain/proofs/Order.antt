@@ -1,17 +1,8 @@
 -- The order of places, by timestamp and then by key.
-use Rattle.std.proofs.lemmas.Grind.{common_steps}
+use Rattle.version_chain.proofs.Common.{Equal, Greater, Less, and_from, and_left, and_right, both_ways, common_steps, eq-eqb, is_eq, is_eq-slice_cmp, is_lt, key_cmp, key_lt, le-ltb, lt-ltb, nat_list_cmp_total, nat_tests, ne_eqb, or_from, or_left, or_right, ordering_reverse, same_key, tied_itself}
 use Rattle.std.proofs.Common.{List, Option, Some, None, ap, arith, false, refl, sym, true, ℕ, ◌<◌, ◌≤◌, ◌&&◌, ◌==◌, ◌⊎◌, ◌≡◌, ◌∙◌}
 use Rattle.std.specs.Prelude.{nat_lt}
-use Rattle.std.specs.Ordering.{is_eq, is_lt, ordering_reverse}
 use Rattle.std.specs.declared.cmp.Ordering.{Ordering}
-use Rattle.std.specs.declared.cmp.Ordering.TheVariants.{Less, Equal, Greater}
-use Rattle.std.proofs.lemmas.Bool.{and_from, and_left, and_right, both_ways, eq-eqb, le-ltb, lt-ltb, ne_eqb, or_from, or_left, or_right}
-use Rattle.std.proofs.lemmas.Bool.Decides.{nat_tests}
-use Rattle.std.proofs.lemmas.Cmp.{nat_list_cmp_total, tied_itself}
-use Rattle.std.proofs.lemmas.Map.Text.{is_eq-slice_cmp}
-use Rattle.timestamps.specs.Bytes.{key_cmp}
-use Rattle.spans.specs.KeyOrder.{key_lt}
-use Rattle.spans.proofs.Steps.{same_key}
 use Rattle.version_chain.specs.Following.{is_after_place, is_before}
 
 parts : (t i : ℕ) (x y : List ℕ) → is_before t x i y ≡ true → (t < i) ⊎ ((t ≡ i) × (key_cmp x y ≡ Less))

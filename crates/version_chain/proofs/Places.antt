@@ -1,9 +1,7 @@
 -- Versions by their places, and by their timestamps.
-use Rattle.std.proofs.lemmas.Grind.{common_steps}
+use Rattle.version_chain.proofs.Common.{common_steps, get_or_default, ne_eqb}
 use Rattle.std.proofs.Common.{rules}
 use Rattle.std.proofs.Common.{◌≡◌, ℕ, zero, suc, ◌<◌, ◌≤◌, ◌-◌, ◌==◌, true, false, List, [], ◌∷◌, length, get_or, Some, None, refl, sym, ◌∙◌, ap, arith, eq-eqb}
-use Rattle.std.proofs.lemmas.Bool.{ne_eqb}
-use Rattle.std.proofs.lemmas.List.{get_or_default}
 use Rattle.version_chain.specs.declared.chain.Version.{Version}
 use Rattle.version_chain.specs.Versions.{AreAbove, DoRise, version_of, IsPlaceAbove, IsNoneUpTo, IsNewestOf, IsNoneAbove, IsLeastAbove}
 

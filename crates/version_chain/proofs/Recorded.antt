@@ -1,18 +1,8 @@
 -- What a store is seen as after one record changed, one came, and one went.
-use Rattle.std.proofs.lemmas.Grind.{common_steps}
+use Rattle.version_chain.proofs.Common.{IsCrossed, IsNumberedAt, IsOwn, IsPiece, Numbered, SpanMarks, and_parts, both_ways, by_test, common_steps, false_from_ne_true, is_kept, is_reader, key_itself, latest_in, length-set, nat_tests, number_in, readers_of, same_key}
 use Rattle.std.proofs.Common.{rules}
 use Rattle.std.proofs.Common.{◌≡◌, ℕ, ◌<◌, ◌≤◌, ◌==◌, Bool, true, false, cond, ◌&&◌, List, [], ◌∷◌, length, Option, Some, None, refl, sym, ◌∙◌, ap, subst, arith, nat_lt, lt-ltb, ltb-true, max}
 use Rattle.std.specs.Prelude.{◌↔◌, IsTrue, bytes_eq, slice_index_or, slice_set}
-use Rattle.std.proofs.lemmas.Bool.{and_parts, both_ways, false_from_ne_true}
-use Rattle.std.proofs.lemmas.Bool.Decides.{nat_tests}
-use Rattle.std.proofs.lemmas.List.{length-set}
-use Rattle.spans.proofs.Steps.{by_test, key_itself, same_key}
-use Rattle.spans.specs.Kept.{IsCrossed}
-use Rattle.kept.specs.Marks.{IsPiece}
-use Rattle.key_table.specs.Numbers.{Numbered, number_in, IsNumberedAt, IsOwn}
-use Rattle.read_marks.specs.Readers.{is_kept, is_reader, readers_of}
-use Rattle.read_marks.specs.Spans.{latest_in}
-use Rattle.read_marks.specs.declared.span_marks.SpanMarks.{SpanMarks}
 use Rattle.version_chain.specs.declared.record.Record.{Record}
 use Rattle.version_chain.specs.declared.chain.Version.{Version}
 use Rattle.version_chain.specs.Versions.{afters_of}

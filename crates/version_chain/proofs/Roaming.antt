@@ -1,25 +1,8 @@
 -- A walk over the records of a span: room is made in each, or a read is noted in each.
-use Rattle.std.proofs.lemmas.Grind.{common_steps}
+use Rattle.version_chain.proofs.Common.{AllByRecursion, AreApart, IsIn, Less, Numbered, RisingKeys, Span, both_ways, by_test, common_steps, false_from_ne_true, get_or-set_other, get_or-set_same, has, has_in, has_room, in_span, is_at, is_eq, is_eq-slice_cmp, is_kept, key_cmp, key_itself, keys_of, length-map, map-set, map-set_same, number_in, or_cases, or_right, readers_of, same_key}
 use Rattle.std.proofs.Common.{rules}
 use Rattle.std.proofs.Common.{◌≡◌, ℕ, ◌<◌, Bool, true, false, ◌||◌, ◌⊎◌, inl, inr, List, [], ◌∷◌, length, Some, refl, sym, ◌∙◌, ap, subst, arith}
 use Rattle.std.specs.Prelude.{◌≢◌, bytes_eq, slice_index_or, slice_set}
-use Rattle.std.specs.List.{AllByRecursion}
-use Rattle.std.specs.Map.{keys_of}
-use Rattle.std.specs.BTreeMap.{is_at}
-use Rattle.std.specs.Ordering.{is_eq}
-use Rattle.std.specs.declared.cmp.Ordering.TheVariants.{Less}
-use Rattle.std.proofs.lemmas.Bool.{both_ways, or_cases, or_right, false_from_ne_true}
-use Rattle.std.proofs.lemmas.List.{get_or-set_same, get_or-set_other, length-map, map-set}
-use Rattle.std.proofs.Math.Seq.{map-set_same}
-use Rattle.std.proofs.lemmas.Map.Text.{is_eq-slice_cmp}
-use Rattle.timestamps.specs.Bytes.{key_cmp}
-use Rattle.spans.specs.Keys.{in_span}
-use Rattle.spans.specs.declared.span.Span.{Span}
-use Rattle.spans.proofs.Keyed.{IsIn, RisingKeys}
-use Rattle.spans.proofs.Steps.{by_test, same_key, key_itself}
-use Rattle.spans.proofs.WriteSets.{has, has_in}
-use Rattle.key_table.specs.Numbers.{AreApart, Numbered, number_in}
-use Rattle.read_marks.specs.Readers.{has_room, is_kept, readers_of}
 use Rattle.version_chain.specs.declared.record.Record.{Record}
 use Rattle.version_chain.specs.Versions.{afters_of}
 use Rattle.version_chain.specs.ByNumber.{AreLow, chains_in, readers_in}

@@ -1,12 +1,8 @@
 -- The count and the index after one place of the chains changed, or all of one timestamp.
-use Rattle.std.proofs.lemmas.Grind.{common_steps}
+use Rattle.version_chain.proofs.Common.{RisingKeys, and_parts, by_test, common_steps, eqb-true, has, ne_eqb, same_key}
 use Rattle.std.proofs.Common.{rules}
 use Rattle.std.proofs.Common.{◌≡◌, ℕ, ◌<◌, ◌≤◌, ◌-◌, ◌==◌, Bool, true, false, cond, ◌&&◌, ◌||◌, List, length, Option, Some, None, refl, sym, ◌∙◌, ap, subst, arith}
 use Rattle.std.specs.Prelude.{bytes_eq, is_some, is_none, max, option_map}
-use Rattle.std.proofs.lemmas.Bool.{and_parts, eqb-true, ne_eqb}
-use Rattle.spans.proofs.Keyed.{RisingKeys}
-use Rattle.spans.proofs.Steps.{by_test, same_key}
-use Rattle.spans.proofs.WriteSets.{has}
 use Rattle.version_chain.specs.declared.chain.Version.{Version}
 use Rattle.version_chain.specs.declared.index.Index.{Index}
 use Rattle.version_chain.specs.Chains.{found_in, AreChangedAt, IsChangedAt}

@@ -1,16 +1,7 @@
 -- A read of a span, at the keys with a record and at those without one.
 use Rattle.std.proofs.Common.{◌≡◌, ℕ, ◌<◌, ◌≤◌, true, false, cond, ◌⊎◌, inl, inr, List, [], ◌∷◌, Option, Some, None, refl, sym, ◌∙◌, ap, subst, arith, max, nat_lt, lt-ltb, ltb-true}
 use Rattle.std.specs.Prelude.{slice_index_or}
-use Rattle.std.proofs.lemmas.Bool.{and_parts, false_from_ne_true}
-use Rattle.std.proofs.lemmas.Bool.Decides.{nat_tests}
-use Rattle.spans.specs.Keys.{in_span}
-use Rattle.spans.specs.Newest.{newest}
-use Rattle.spans.specs.declared.span.Span.{Span}
-use Rattle.kept.specs.Marks.{IsPiece}
-use Rattle.key_table.specs.Numbers.{Numbered, number_in}
-use Rattle.read_marks.specs.Readers.{is_kept, is_reader}
-use Rattle.read_marks.specs.Spans.{latest_in}
-use Rattle.read_marks.specs.declared.span_marks.SpanMarks.{SpanMarks}
+use Rattle.version_chain.proofs.Common.{IsPiece, Numbered, Span, SpanMarks, and_parts, false_from_ne_true, in_span, is_kept, is_reader, latest_in, nat_tests, newest, number_in}
 use Rattle.version_chain.specs.declared.record.Record.{Record}
 use Rattle.version_chain.specs.Chains.{Stored, chain_of, marked_in, HaveSameChains, HaveSameMarks}
 use Rattle.version_chain.specs.Versions.{afters_of}

@@ -1,16 +1,7 @@
 -- What a sweep leaves: readers that are forgotten go, and no key's marks change.
-use Rattle.std.proofs.lemmas.Grind.{common_steps}
+use Rattle.version_chain.proofs.Common.{Numbered, SpanMarks, and_parts, by_test, common_steps, filter, is_kept, is_reader, latest_in, map-set_same, nat_tests, number_in, readers_of}
 use Rattle.std.proofs.Common.{◌≡◌, ℕ, ◌<◌, ◌≤◌, ◌+◌, ◌==◌, Bool, true, false, cond, ◌&&◌, ◌⊎◌, List, [], ◌∷◌, length, Option, Some, None, refl, sym, ◌∙◌, ap, arith, nat_le, nat_lt, ltb-true}
 use Rattle.std.specs.Prelude.{slice_index_or, slice_set}
-use Rattle.std.specs.List.{filter}
-use Rattle.std.proofs.lemmas.Bool.{and_parts}
-use Rattle.std.proofs.lemmas.Bool.Decides.{nat_tests}
-use Rattle.std.proofs.Math.Seq.{map-set_same}
-use Rattle.spans.proofs.Steps.{by_test}
-use Rattle.key_table.specs.Numbers.{Numbered, number_in}
-use Rattle.read_marks.specs.Readers.{is_kept, is_reader, readers_of}
-use Rattle.read_marks.specs.Spans.{latest_in}
-use Rattle.read_marks.specs.declared.span_marks.SpanMarks.{SpanMarks}
 use Rattle.read_marks.proofs.Keeping.{kept_filter}
 use Rattle.read_marks.proofs.Splitting.{filtered_reader}
 use Rattle.version_chain.specs.declared.record.Record.{Record}

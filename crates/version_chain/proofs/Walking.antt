@@ -1,22 +1,7 @@
 -- A walk from one version to the next.
-use Rattle.std.proofs.lemmas.Grind.{common_steps}
+use Rattle.version_chain.proofs.Common.{AllByRecursion, Excluded, Included, IsIn, IsStrictlySortedBy, Less, RisingKeys, both_ways, by_test, cases_lt, common_steps, eq-eqb, eqb-true, false_from_ne_true, filter_in, has, has_in, key_lt, keys_of, lt-ltb, ltb-true, nat_cmp, nat_tests, not_itself, range_contains, ranked}
 use Rattle.std.proofs.Common.{◌≡◌, ℕ, ◌<◌, ◌≤◌, ◌⊎◌, true, false, List, [], ◌∷◌, Option, Some, None, refl, sym, ◌∙◌, subst, inl, inr, arith}
 use Rattle.std.specs.Prelude.{filter}
-use Rattle.std.specs.Map.{keys_of}
-use Rattle.std.specs.BTreeMap.Range.{range_contains}
-use Rattle.std.specs.declared.ops.Bound.TheVariants.{Included, Excluded}
-use Rattle.std.specs.Ordering.{nat_cmp}
-use Rattle.std.specs.declared.cmp.Ordering.TheVariants.{Less}
-use Rattle.std.specs.List.{AllByRecursion}
-use Rattle.std.specs.List.Sorted.{IsStrictlySortedBy}
-use Rattle.std.proofs.lemmas.Bool.{both_ways, cases_lt, eq-eqb, eqb-true, lt-ltb, ltb-true, false_from_ne_true}
-use Rattle.std.proofs.lemmas.Bool.Decides.{nat_tests}
-use Rattle.std.proofs.lemmas.Cmp.{ranked}
-use Rattle.spans.specs.KeyOrder.{key_lt}
-use Rattle.spans.proofs.Keyed.{IsIn, RisingKeys, filter_in}
-use Rattle.spans.proofs.Steps.{by_test}
-use Rattle.spans.proofs.WriteSets.{has, has_in}
-use Rattle.spans.proofs.KeyOrder.{not_itself}
 use Rattle.version_chain.specs.declared.index.Index.{Index}
 use Rattle.version_chain.specs.Indexes.{is_listed, listed_in, IsFirstBetween, IsIndexOf, AreBetween}
 use Rattle.version_chain.specs.Following.{is_after_place, is_before, IsStep, IsToCome, Walk}

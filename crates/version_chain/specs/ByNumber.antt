@@ -1,7 +1,6 @@
 -- Records in a list, by the numbers of their keys.
 use Rattle.std.specs.Prelude.{ℕ, List, [], ◌∷◌, map, ◌≡◌, ◌<◌, ◌≤◌, ◌==◌, length, slice_index_or, if◌then◌else◌, Option, Some, None}
-use Rattle.key_table.specs.Numbers.{Numbered, number_in}
-use Rattle.read_marks.specs.Readers.{readers_of}
+use Rattle.version_chain.specs.Prelude.{Numbered, number_in, readers_of}
 use Rattle.read_marks.specs.declared.span_marks.SpanMarks.{SpanMarks}
 use Rattle.version_chain.specs.declared.chain.Version.{Version}
 use Rattle.version_chain.specs.declared.record.Record.{Record}

@@ -1,11 +1,6 @@
 -- What a store says of all keys: at most one version at each key and timestamp, and which readers a key has.
 use Rattle.std.specs.Prelude.{ℕ, List, [], ◌∷◌, Bool, true, false, ◌≡◌, ◌==◌, ◌&&◌, if◌then◌else◌, bytes_eq, Option, unwrap_or}
-use Rattle.std.specs.Map.{lookup}
-use Rattle.std.specs.BTreeMap.{is_at}
-use Rattle.timestamps.specs.Bytes.{key_cmp}
-use Rattle.spans.proofs.WriteSets.{has}
-use Rattle.read_marks.specs.Readers.{is_kept}
-use Rattle.read_marks.specs.Spans.{reaches, step_at}
+use Rattle.version_chain.specs.Prelude.{has, is_at, is_kept, key_cmp, lookup, reaches, step_at}
 use Rattle.version_chain.specs.declared.chain.Version.{Version}
 use Rattle.version_chain.specs.Versions.{version_of}
 

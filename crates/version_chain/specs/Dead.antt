@@ -1,10 +1,6 @@
 -- Which versions are dead by a horizon, of what a store has alone, and what a collection leaves.
 use Rattle.std.specs.Prelude.{ℕ, List, Bool, true, ◌≡◌, ◌&&◌, ◌||◌, ◌==◌, nat_le, nat_lt, if◌then◌else◌, bytes_eq, not, length, Option, Some, None, is_some, is_none}
-use Rattle.std.specs.List.{list_any}
-use Rattle.spans.specs.Collection.{VersionName, is_delete}
-use Rattle.spans.specs.Effects.{After}
-use Rattle.spans.specs.Newest.{newest}
-use Rattle.kept.specs.Lists.{AreThose}
+use Rattle.version_chain.specs.Prelude.{After, AreThose, VersionName, is_delete, list_any, newest}
 use Rattle.version_chain.specs.declared.chain.Version.{Version}
 use Rattle.version_chain.specs.Versions.{version_of}
 use Rattle.version_chain.specs.Chains.{HaveSameMarks, found_in}

@@ -1,7 +1,6 @@
 -- The committed versions after a place, and a walk from version to version.
 use Rattle.std.specs.Prelude.{ℕ, List, Bool, true, false, ◌≡◌, ◌≤◌, ◌==◌, ◌&&◌, ◌||◌, nat_lt, is_some, MatchOption, Option, Some, None}
-use Rattle.std.specs.Borrow.{Bor}
-use Rattle.spans.specs.KeyOrder.{key_lt}
+use Rattle.version_chain.specs.Prelude.{Bor, key_lt}
 use Rattle.version_chain.specs.Chains.{found_in}
 use Rattle.version_chain.specs.Stores.{Stored, is_committed_in}
 

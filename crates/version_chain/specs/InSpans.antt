@@ -1,17 +1,9 @@
 -- The keys of a span: those with a number, and those with a version.
-use Rattle.timestamps.specs.declared.key.TheConstants.{MAX_KEY_BYTES}
+use Rattle.version_chain.specs.Prelude.{MAX_KEY_BYTES, Numbered, RisingKeys, Span, filter, from_low, in_span, key_cmp, keys_of}
 use Rattle.std.specs.Prelude.{ℕ, List, [], ◌∷◌, true, ◌≡◌, ◌≤◌, ◌&&◌, length, Option}
-use Rattle.std.specs.List.{filter}
-use Rattle.std.specs.Map.{keys_of}
 use Rattle.std.specs.BTreeMap.Range.{entries_between}
 use Rattle.std.specs.declared.ops.Bound.{Bound}
 use Rattle.std.specs.declared.ops.Bound.TheVariants.{Unbounded}
-use Rattle.timestamps.specs.Bytes.{key_cmp}
-use Rattle.key_table.specs.Numbers.{Numbered}
-use Rattle.spans.specs.KeyOrder.{from_low}
-use Rattle.spans.specs.Keys.{in_span}
-use Rattle.spans.specs.declared.span.Span.{Span}
-use Rattle.spans.proofs.Keyed.{RisingKeys}
 use Rattle.version_chain.specs.Chains.{Entry, AreFilled, has_versions}
 
 -- ---- with a number

@@ -1,9 +1,7 @@
 -- Which keys have a version at each timestamp.
 use Rattle.std.specs.Prelude.{ℕ, List, [], ◌∷◌, Bool, bytes_eq, false, if◌then◌else◌, ◌&&◌, ◌||◌, ◌==◌, ◌≡◌, ◌↔◌, ◌<◌, ◌≤◌, Option, Some, None, is_some}
-use Rattle.std.specs.Map.{lookup}
-use Rattle.std.specs.BTreeMap.{is_at}
+use Rattle.version_chain.specs.Prelude.{has, is_at, lookup}
 use Rattle.std.specs.Ordering.{nat_cmp}
-use Rattle.spans.proofs.WriteSets.{has}
 use Rattle.version_chain.specs.declared.index.Index.{Index}
 use Rattle.version_chain.specs.Chains.{Stored, found_in}
 use Rattle.version_chain.specs.Stores.{IsCountOf}

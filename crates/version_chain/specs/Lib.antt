@@ -1,3 +1,4 @@
+pub mod Prelude
 pub mod Versions
 pub mod Blocks
 pub mod Layout

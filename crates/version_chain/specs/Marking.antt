@@ -1,13 +1,7 @@
 -- What a read marks in a store.
 use Rattle.std.specs.Prelude.{ℕ, List, Bool, true, false, ◌≡◌, ◌==◌, bytes_eq, Option}
-use Rattle.spans.specs.Effects.{After}
-use Rattle.spans.specs.Kept.{IsCrossed}
-use Rattle.spans.specs.Keys.{in_span}
-use Rattle.spans.specs.Newest.{newest}
+use Rattle.version_chain.specs.Prelude.{After, IsCrossed, IsNextAbove, IsPiece, Span, in_span, newest, until}
 use Rattle.spans.specs.Newest as reads
-use Rattle.spans.specs.declared.span.Span.{Span}
-use Rattle.kept.specs.Finding.{IsNextAbove}
-use Rattle.kept.specs.Marks.{IsPiece, until}
 use Rattle.version_chain.specs.Chains.{Stored, marked_in}
 use Rattle.version_chain.specs.Stores.{version_in}
 

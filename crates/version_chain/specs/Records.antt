@@ -1,10 +1,6 @@
 -- What the records of all keys are seen as, and what their own calls say of them.
 use Rattle.std.specs.Prelude.{ℕ, List, [], ◌∷◌, true, false, length, ◌≡◌, ◌<◌, ◌≤◌, ◌⊎◌, bytes_eq, slice_index_or, if◌then◌else◌, is_none, Some}
-use Rattle.key_table.specs.Numbers.{Numbered, number_in, IsOwn}
-use Rattle.read_marks.specs.Readers.{has_room, is_kept, is_reader, readers_of}
-use Rattle.read_marks.specs.Spans.{latest_in}
-use Rattle.spans.specs.Keys.{in_span}
-use Rattle.spans.specs.declared.span.Span.{Span}
+use Rattle.version_chain.specs.Prelude.{IsOwn, Numbered, Span, has_room, in_span, is_kept, is_reader, latest_in, number_in, readers_of}
 use Rattle.version_chain.specs.declared.chain.Version.{Version}
 use Rattle.version_chain.specs.declared.record.Record.{Record}
 use Rattle.version_chain.specs.declared.chains.Chains.{Chains}

@@ -1,8 +1,6 @@
 -- What a store means: which version each key has at each timestamp, and whether it is committed.
 use Rattle.std.specs.Prelude.{ℕ, List, Bool, false, true, ◌≡◌, ◌<◌, ◌≤◌, ◌==◌, ◌&&◌, ◌||◌, if◌then◌else◌, bytes_eq, Option, Some, None, option_map, is_some, length}
-use Rattle.spans.specs.Effects.{After}
-use Rattle.spans.specs.Collection.{VersionName}
-use Rattle.kept.specs.Lists.{AreThose, IsNumberOf}
+use Rattle.version_chain.specs.Prelude.{After, AreThose, IsNumberOf, VersionName}
 use Rattle.version_chain.specs.declared.chain.Version.{Version}
 pub use Rattle.version_chain.specs.Chains.{HaveSameMarks, Stored, marked_in}
 use Rattle.version_chain.specs.Chains.{found_in}

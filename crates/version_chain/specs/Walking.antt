@@ -1,7 +1,6 @@
 -- What a walk over versions has ahead: keys of one timestamp, and later timestamps.
-use Rattle.std.specs.Borrow.{Bor}
+use Rattle.version_chain.specs.Prelude.{Bor, IsIn, RisingKeys}
 use Rattle.std.specs.Prelude.{ℕ, List, MatchOption, [], ◌∷◌, true, ◌↔◌, ◌≡◌, ◌⊎◌, Option, Some, None}
-use Rattle.spans.proofs.Keyed.{IsIn, RisingKeys}
 use Rattle.version_chain.specs.Indexes.{AreBetween, listed_in}
 use Rattle.version_chain.specs.Following.{IsToCome, Walk}
 

@@ -1,4 +1,4 @@
-//! Blocks of versions, in the order of their timestamps.
+//! One block of a long row of versions: which one a place is in, and how blocks are halved, thinned and dropped.
 ghost use Rattle.std.specs.Prelude.{◌≡◌, ◌<◌, ◌≤◌, ◌^◌, ◌++◌, [], drop, length, take, not};
 ghost use Rattle.std.specs.List.{filter};
 ghost use Rattle.version_chain.specs.declared.chain.Version.{Version};

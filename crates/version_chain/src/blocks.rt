@@ -1,4 +1,4 @@
-//! A long row of versions, in blocks.
+//! A long row of versions, in blocks: read, inserted and dropped by place.
 ghost use Rattle.std.specs.Prelude.{◌≡◌, ◌<◌, ◌≤◌, length, drop, slice_set, slice_index_or, not, false, IfOk, OnOk, OnErr};
 ghost use Rattle.std.specs.List.{All, filter, insert, remove};
 ghost use Rattle.version_chain.specs.declared.chain.Version.{Version};

@@ -1,4 +1,4 @@
-//! The versions of one key.
+//! The versions of one key, found by timestamp: the newest at one, the one at a place, and what is undecided or dead.
 ghost use Rattle.std.specs.Prelude.{◌≡◌, ℕ, ◌<◌, ◌≤◌, ◌+◌, ◌^◌, ◌==◌, ◌↔◌, [], ◌∷◌, suc, length, slice_index_or, if◌then◌else◌, MatchOption, MatchResult, Some, None, IsTrue, IfOk, OnOk, OnErr, is_none, option_map, not, false};
 ghost use Rattle.std.specs.Option.{option_copied};
 ghost use Rattle.version_chain.specs.declared.chain.Version.{Version};

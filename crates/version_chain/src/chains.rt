@@ -1,11 +1,9 @@
-//! The records of all keys, and the latest reader of the keys without one.
+//! The records of all keys, each call on one of them or on those of a span, and the latest reader of the keys without
+//! one.
 ghost use Rattle.std.specs.Prelude.{◌≡◌, ◌↔◌, ℕ, List, [], Some, None, MatchOption, IfOk, OnOk, OnErr, IsTrue, is_some, is_none, option_map, true, false, bytes_eq, ◌&&◌, if◌then◌else◌, ◌<◌, ◌≤◌, ◌-◌, length, nat_lt, vec_len, vec_capacity};
 ghost use Rattle.std.specs.List.{filter};
 ghost use Rattle.std.specs.Option.{option_copied};
-ghost use Rattle.spans.specs.KeyOrder.{key_lt};
-ghost use Rattle.spans.proofs.Keyed.{RisingKeys};
-ghost use Rattle.key_table.specs.Numbers.{number_in};
-ghost use Rattle.read_marks.specs.Spans.{latest_in};
+ghost use Rattle.version_chain.specs.Prelude.{RisingKeys, key_lt, latest_in, number_in};
 ghost use Rattle.version_chain.specs.declared.chain.Version.{Version};
 ghost use Rattle.version_chain.specs.declared.record.Record.{Record};
 ghost use Rattle.version_chain.specs.Versions.{as_committed, IsNoneUpTo, IsNewestOf, IsNoneAbove, IsLeastAbove};

@@ -1,14 +1,11 @@
 //! The keys of a span: those with a number, and those with a version.
-ghost use Rattle.timestamps.specs.declared.key.TheConstants.{MAX_KEY_BYTES};
+ghost use Rattle.version_chain.specs.Prelude.{AreApart, MAX_KEY_BYTES, RisingKeys, below_high};
 ghost use Rattle.std.specs.Prelude.{◌≡◌, ◌≤◌, length};
 ghost use Rattle.std.specs.Map.{keys_of};
 ghost use Rattle.std.specs.Map.Iter.{TakesFirst, deref_pair};
 ghost use Rattle.std.specs.Iterator.{at_most};
 ghost use Rattle.std.specs.Range.Bound.{bound_map};
-ghost use Rattle.spans.specs.KeyOrder.{below_high};
 ghost use Rattle.spans.specs.Starting.{start_of};
-ghost use Rattle.spans.proofs.Keyed.{RisingKeys};
-ghost use Rattle.key_table.specs.Numbers.{AreApart};
 ghost use Rattle.version_chain.specs.ByNumber.{chains_in, entries_of};
 ghost use Rattle.version_chain.specs.InSpans.{filled, numbered_in};
 

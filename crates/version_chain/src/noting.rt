@@ -1,4 +1,4 @@
-//! What a scan does to the records of its span.
+//! How a scan's read is noted in the records that its span has, which have room for it.
 ghost use Rattle.std.specs.Prelude.{◌≡◌, ◌<◌, length, OnOk};
 ghost use Rattle.version_chain.specs.ByNumber.{AreLow, chains_in, readers_in};
 ghost use Rattle.version_chain.specs.Records.{AreNoted, HaveRoom};

@@ -1,8 +1,7 @@
-//! What is kept of one key.
+//! What is kept of one key: its versions and its readers.
 ghost use Rattle.std.specs.Prelude.{◌≡◌, ◌↔◌, ◌<◌, ◌≤◌, ℕ, [], IfSome, IsTrue, true, false};
 ghost use Rattle.std.specs.Option.{option_copied};
-ghost use Rattle.spans.specs.Kept.{IsCrossed};
-ghost use Rattle.read_marks.specs.Readers.{has_room, is_kept, readers_of};
+ghost use Rattle.version_chain.specs.Prelude.{IsCrossed, has_room, is_kept, readers_of};
 ghost use Rattle.version_chain.specs.Marking.{IsNotedOn};
 ghost use Rattle.version_chain.specs.Versions.{afters_of, ts_or};
 

@@ -1,12 +1,10 @@
-//! The versions of all keys, by key.
+//! The store that `mvto_rules` and `catch_up` call: the records of all keys, and the index by timestamp in step with
+//! them.
 ghost use Rattle.std.specs.Prelude.{◌≡◌, ◌↔◌, ℕ, List, ◌≤◌, ◌<◌, ◌&&◌, None, Some, MatchOption, IfOk, OnOk, OnErr, suc, ◌^◌, is_some, nat_lt, true, false};
 ghost use Rattle.std.specs.Option.{option_copied};
 ghost use Rattle.std.specs.List.{filter};
 ghost use Rattle.std.specs.Map.{keys_of};
-ghost use Rattle.spans.specs.Keys.{in_span};
-ghost use Rattle.spans.proofs.Keyed.{RisingKeys};
-ghost use Rattle.kept.specs.Finding.{IsNextAbove};
-ghost use Rattle.kept.specs.Marks.{until};
+ghost use Rattle.version_chain.specs.Prelude.{IsNextAbove, RisingKeys, in_span, until};
 ghost use Rattle.version_chain.specs.Walking.{IsBeside, keys_ahead};
 ghost use Rattle.version_chain.specs.Chains.{Entry, AreFilled, HaveSameMarks, found_in, has_versions, marked_in};
 ghost use Rattle.version_chain.specs.Dead.{is_dead_in, ArePartlyThinned, IsCollectedIn};

@@ -1,13 +1,7 @@
 -- What is written of a command is read so.
 use Rattle.std.proofs.Common.{◌≡◌, ℕ, ◌^◌, ◌<◌, ◌≤◌, false, List, [], ◌∷◌, ◌++◌, length, Ok, refl, sym, ap, ◌∙◌, arith}
 use Rattle.std.specs.Prelude.{decimal, nat_lt}
-use Rattle.std.specs.List.{AllByRecursion}
-use Rattle.std.proofs.lemmas.Bool.{le-ltb, eq-eqb}
-use Rattle.std.proofs.lemmas.List.{append-nil}
-use Rattle.std.proofs.lemmas.List.Splits.{join_with_byte-slice_split}
-use Rattle.text_format.specs.Limits.{line_limit}
-use Rattle.text_format.specs.declared.Format.{Format}
-use Rattle.spans.specs.declared.calls.commands.Cmd.{Cmd}
+use Rattle.word_lines.proofs.Common.{AllByRecursion, Cmd, Format, append-nil, eq-eqb, join_with_byte-slice_split, le-ltb, line_limit}
 use Rattle.word_lines.specs.declared.table.Form.{Form}
 use Rattle.word_lines.specs.Table.{layout_of, pieces_of, row, table}
 use Rattle.word_lines.specs.Words.{text_at, words, words_at}

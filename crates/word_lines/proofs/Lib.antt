@@ -1,3 +1,4 @@
+pub mod Common
 pub use Rattle.json_lines.proofs.NumberWords
 pub use Rattle.spelled_words.proofs.Spellings
 pub use Rattle.spelled_words.proofs.Splitting

@@ -1,21 +1,11 @@
 -- What is read as a command is written so.
-use Rattle.std.proofs.lemmas.Grind.{common_steps}
+use Rattle.word_lines.proofs.Common.{AllByRecursion, BadByte, Cmd, Format, LineFault, LineTooLong, NoNewline, UnknownCommand, WordCount, append-nil, bytes_eq-Decides, common_steps, eq-eqb, eqb-true, join_with_byte-slice_split, le-ltb, length-append, line_limit, list_all, list_any, nil_from_length, not-false}
 use Rattle.std.proofs.Common.{◌≡◌, ℕ, ◌+◌, ◌-◌, ◌<◌, Bool, true, false, cond, List, [], ◌∷◌, ◌++◌, length, take, Option, Some, Ok, Err, refl, sym, ap, subst, ◌∙◌, arith}
 use Rattle.std.specs.Prelude.{decimal, map, bytes_eq, ok_or, not, ◌==◌, nat_lt}
-use Rattle.std.specs.List.{AllByRecursion, list_all, list_any}
-use Rattle.std.proofs.lemmas.Bool.{eqb-true, eq-eqb, le-ltb, not-false}
-use Rattle.std.proofs.lemmas.List.{append-nil, nil_from_length, length-append}
-use Rattle.std.proofs.lemmas.List.Splits.{join_with_byte-slice_split}
-use Rattle.std.proofs.lemmas.Slice.Eq.{bytes_eq-Decides}
-use Rattle.text_format.specs.declared.Format.{Format}
-use Rattle.spans.specs.declared.calls.commands.Cmd.{Cmd}
 use Rattle.spans.specs.declared.calls.commands.Cmd.TheVariants as cmd
-use Rattle.spelled_words.specs.declared.fault.LineFault.{LineFault}
-use Rattle.spelled_words.specs.declared.fault.LineFault.TheVariants.{WordCount, UnknownCommand, LineTooLong, NoNewline, BadByte}
 use Rattle.word_lines.specs.declared.table.Verb.{Verb}
 use Rattle.word_lines.specs.declared.table.Verb.TheVariants as verb
 use Rattle.word_lines.specs.declared.table.Form.{Form}
-use Rattle.text_format.specs.Limits.{line_limit}
 use Rattle.word_lines.specs.Words.{has_newline, without_newline, text_at, is_printable, is_empty, words, words_at}
 use Rattle.word_lines.specs.Table.{Signature, Parts, Row, arity, layout_of, pieces, pieces_of, row, row_of, table, verbs}
 use Rattle.word_lines.specs.Commands.{joined, parts_words, words_in, words_of, command_line}

@@ -1,14 +1,9 @@
 -- The parts of a command, word by word.
-use Rattle.std.proofs.lemmas.Grind.{common_steps}
+use Rattle.word_lines.proofs.Common.{AllByRecursion, Cmd, Format, IsKey, LineFault, common_steps}
 use Rattle.std.proofs.Common.{arith}
 use Rattle.std.proofs.Common.{◌≡◌, List, ◌∷◌, [], ◌++◌, ℕ, Result, Ok, refl, subst, append_assoc}
 use Rattle.std.specs.Prelude.{decimal}
-use Rattle.std.specs.List.{AllByRecursion}
-use Rattle.text_format.specs.declared.Format.{Format}
-use Rattle.spelled_words.specs.declared.fault.LineFault.{LineFault}
-use Rattle.json_lines.specs.Messages.{IsKey}
 use Rattle.word_lines.specs.Spelling.{spelling}
-use Rattle.spans.specs.declared.calls.commands.Cmd.{Cmd}
 use Rattle.word_lines.specs.Commands.{bound_word, parts_words, words_of}
 use Rattle.word_lines.specs.Limits.{IsNumber, IsValue, IsSpan, AreParts, IsCommand}
 use Rattle.word_lines.specs.Reading.{◌>>=◌, number_at, key_at, value_at, span_at, number_and_key_at, number_and_span_at, opening_at, opening_every_at, parts_at}

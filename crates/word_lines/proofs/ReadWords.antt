@@ -1,18 +1,11 @@
 -- What is read of words is written so, and what is written of words is read so.
-use Rattle.std.proofs.lemmas.Grind.{common_steps}
+use Rattle.word_lines.proofs.Common.{BadByte, Format, IsKey, KeyLength, LineFault, Number, ValueLength, bound_limit, bytes_eq-Decides, common_steps, false_from_ne_true, key_limit, le-leb, lt-ltb, ltb-true, value_limit}
 use Rattle.std.proofs.Common.{◌≡◌, ℕ, ◌<◌, ◌≤◌, Bool, true, false, cond, List, [], ◌∷◌, length, Option, Some, None, Result, Ok, Err, refl, ap, subst, ◌∙◌, arith}
 use Rattle.std.specs.Prelude.{codes, decimal, bytes_eq, ok_or, ◌&&◌, nat_le}
-use Rattle.std.proofs.lemmas.Bool.{ltb-true, lt-ltb, le-leb, false_from_ne_true}
-use Rattle.std.proofs.lemmas.Slice.Eq.{bytes_eq-Decides}
-use Rattle.text_format.specs.Limits.{key_limit, value_limit, bound_limit}
-use Rattle.text_format.specs.declared.Format.{Format}
 use Rattle.spans.specs.declared.span.Span.{Span}
-use Rattle.spelled_words.specs.declared.fault.LineFault.{LineFault}
-use Rattle.spelled_words.specs.declared.fault.LineFault.TheVariants.{Number, KeyLength, ValueLength, BadByte}
 use Rattle.word_lines.specs.Numbers.{number_of}
 use Rattle.word_lines.specs.Spelling.{spelling, bytes_of, AreBytes}
 use Rattle.word_lines.specs.Commands.{bound_word}
-use Rattle.json_lines.specs.Messages.{IsKey}
 use Rattle.word_lines.specs.Limits.{IsNumber, IsValue, IsBound, IsSpan}
 use Rattle.word_lines.specs.Reading.{◌>>=◌, word_at, number_at, session_at, bytes_at, key_at, value_at, bound_at, span_at}
 use Rattle.word_lines.proofs.NumberWords.{number_found, number_only}

@@ -1,8 +1,7 @@
 -- What stands in a buffer stays there: the lemmas of `json_lines`, where this crate's functions name them.
 use Rattle.std.proofs.Common.{◌≡◌, ℕ, ◌+◌, ◌<◌, ◌≤◌, ◌^◌, List, ◌++◌, length, length-append, decimal, vec_len, Vec, Result, Ok, Err, OnErr, ap, arith}
-use Rattle.std.specs.Global.{Global}
+use Rattle.word_lines.proofs.Common.{Global, length-decimal-le}
 use Rattle.std.specs.declared.alloc.AllocError.{AllocError}
-use Rattle.std.proofs.lemmas.Fmt.{length-decimal-le}
 use Rattle.json_lines.specs.Writing.{Keeps}
 pub use Rattle.json_lines.proofs.Writing.{keeps_text, keeps_same, keeps_then, on_error, undone, keeping}
 

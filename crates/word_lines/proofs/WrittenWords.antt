@@ -1,17 +1,9 @@
 -- What is written of a command is words, and not too long.
-use Rattle.std.proofs.lemmas.Grind.{common_steps}
+use Rattle.word_lines.proofs.Common.{AllByRecursion, Cmd, Format, bound_limit, common_steps, decimal_nonempty, flat_map, key_limit, le-leb, length-append, length-decimal-le, line_limit, list_all, list_all-append, value_limit}
 use Rattle.std.proofs.Common.{rules}
 use Rattle.std.proofs.Common.{◌≡◌, ℕ, ◌+◌, ◌*◌, ◌/◌, ◌%◌, ◌<◌, ◌≤◌, Bool, true, false, cond, List, [], ◌∷◌, ◌++◌, length, Option, Some, None, refl, ap, ◌∙◌, lit<, arith}
 use Rattle.std.specs.Prelude.{decimal, ◌==◌}
-use Rattle.std.specs.List.{AllByRecursion, list_all, flat_map}
-use Rattle.std.proofs.lemmas.Bool.{le-leb}
-use Rattle.std.proofs.lemmas.Fmt.{decimal_nonempty, length-decimal-le}
-use Rattle.std.proofs.lemmas.List.{length-append}
-use Rattle.std.proofs.lemmas.List.Folds.{list_all-append}
-use Rattle.text_format.specs.Limits.{key_limit, value_limit, bound_limit, line_limit}
 use Rattle.text_format.specs.declared.Format.TheVariants.{One, Two}
-use Rattle.text_format.specs.declared.Format.{Format}
-use Rattle.spans.specs.declared.calls.commands.Cmd.{Cmd}
 use Rattle.word_lines.specs.Spelling.{is_plain, hex_digit, escape, spelled, spelling, AreBytes}
 use Rattle.word_lines.specs.Commands.{joined, bound_word, parts_words, words_of}
 use Rattle.word_lines.specs.Table.{Signature, Nothing, Number, Numbers, NumberKey, NumberKeyValue, NumberSpan, SpanNumber, SpanNumbers, Parts, layout_of, pieces_of}

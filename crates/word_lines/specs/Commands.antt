@@ -1,7 +1,6 @@
 -- The text of a command.
 use Rattle.std.specs.Prelude.{ℕ, List, [], ◌∷◌, ◌++◌, codes, decimal, Option, Some, None}
-use Rattle.std.specs.List.{join_with_byte}
-use Rattle.spans.specs.declared.calls.commands.Cmd.{Cmd}
+use Rattle.word_lines.specs.Prelude.{Cmd, join_with_byte}
 use Rattle.spans.specs.declared.calls.commands.Cmd.TheVariants as cmd
 use Rattle.word_lines.specs.Spelling.{spelling}
 use Rattle.word_lines.specs.Table.{Signature, Nothing, Number, Numbers, NumberKey, NumberKeyValue, NumberSpan, SpanNumber, SpanNumbers, Parts, Pieces, layout_of, pieces_of}

@@ -1,7 +1,6 @@
 -- The text of an event, and the lines that can end the output of a run.
 use Rattle.std.specs.Prelude.{ℕ, List, [], ◌∷◌, ◌++◌, codes, decimal}
-use Rattle.spans.specs.declared.calls.events.Event.{Event}
-use Rattle.spelled_words.specs.declared.fault.LineFault.{LineFault}
+use Rattle.word_lines.specs.Prelude.{Event, LineFault}
 use Rattle.word_lines.specs.Commands.{joined, words_of}
 use Rattle.word_lines.specs.Replies.{reply_words, following_lines}
 use Rattle.word_lines.specs.Faults.{code_of, name_of}

@@ -1,3 +1,4 @@
+pub mod Prelude
 pub use Rattle.json_lines.specs.Writing
 pub use Rattle.json_lines.specs.Numbers
 pub use Rattle.json_lines.specs.Messages

@@ -1,14 +1,8 @@
 -- The commands, replies and events that have a text of a format: their keys, values and bounds are no longer than it lets them be.
 use Rattle.std.specs.Prelude.{ℕ, ◌≤◌, ◌<◌, ◌^◌, List, length, Option, Some, None}
-use Rattle.std.specs.List.{AllByRecursion}
-use Rattle.spans.specs.declared.calls.events.Event.{Event}
-use Rattle.spans.specs.declared.calls.replies.Refusal.{Refusal}
+use Rattle.word_lines.specs.Prelude.{AllByRecursion, Cmd, Event, Format, Refusal, Reply, Span}
 use Rattle.spans.specs.declared.calls.replies.Refusal.TheVariants as refusal
-use Rattle.spans.specs.declared.calls.replies.Reply.{Reply}
 use Rattle.spans.specs.declared.calls.replies.Reply.TheVariants as reply
-use Rattle.spans.specs.declared.calls.commands.Cmd.{Cmd}
-use Rattle.spans.specs.declared.span.Span.{Span}
-use Rattle.text_format.specs.declared.Format.{Format}
 use Rattle.text_format.specs.Limits.{value_limit, bound_limit, line_limit}
 use Rattle.word_lines.specs.Events.{heading_text}
 use Rattle.json_lines.specs.Messages.{IsKey, IsAfter, IsMessage}

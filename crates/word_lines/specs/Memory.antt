@@ -1,9 +1,6 @@
 -- Which lines may want memory to be read (this project).
 use Rattle.std.specs.Prelude.{◌≡◌, ℕ, true, List, [], take, drop, Result, Ok, IsOkAnd}
-use Rattle.std.specs.List.{list_any}
-use Rattle.text_format.specs.declared.Format.{Format}
-use Rattle.spelled_words.specs.declared.fault.LineFault.{LineFault}
-use Rattle.spelled_words.specs.Memory.{is_long}
+use Rattle.word_lines.specs.Prelude.{Format, LineFault, is_long, list_any}
 use Rattle.word_lines.specs.declared.table.Verb.{Verb}
 use Rattle.word_lines.specs.Words.{words, text_at}
 use Rattle.word_lines.specs.Table.{Row, Signature, NumberKey, NumberKeyValue, NumberSpan, SpanNumber, SpanNumbers, layout_of}

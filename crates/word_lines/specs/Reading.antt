@@ -1,9 +1,7 @@
 -- Reading a line from left to right: the command, or the first fault that is met. How a word is read as a number, a key, a
 -- value or a span is `spelled_words`' own.
 use Rattle.std.specs.Prelude.{◌≡◌, ℕ, ◌==◌, nat_lt, if◌then◌else◌, List, length, Result, Ok, Err, ok_or}
-use Rattle.text_format.specs.declared.Format.{Format}
-use Rattle.spans.specs.declared.calls.commands.Cmd.{Cmd}
-use Rattle.spelled_words.specs.declared.fault.LineFault.{LineFault}
+use Rattle.word_lines.specs.Prelude.{Cmd, Format, LineFault}
 use Rattle.spelled_words.specs.declared.fault.LineFault.TheVariants.{WordCount, UnknownCommand, Session}
 use Rattle.word_lines.specs.declared.table.Verb.{Verb}
 use Rattle.word_lines.specs.declared.table.Verb.TheVariants as verb

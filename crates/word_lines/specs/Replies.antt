@@ -1,9 +1,7 @@
 -- The text of a reply: its words, a newline, and the lines that follow.
 use Rattle.std.specs.Prelude.{ℕ, List, [], ◌∷◌, ◌++◌, codes, decimal, length, Some, None}
-use Rattle.std.specs.List.{flat_map}
-use Rattle.spans.specs.declared.calls.replies.Reply.{Reply}
+use Rattle.word_lines.specs.Prelude.{Refusal, Reply, flat_map}
 use Rattle.spans.specs.declared.calls.replies.Reply.TheVariants as reply
-use Rattle.spans.specs.declared.calls.replies.Refusal.{Refusal}
 use Rattle.spans.specs.declared.calls.replies.Refusal.TheVariants as refusal
 use Rattle.word_lines.specs.Spelling.{spelling}
 use Rattle.word_lines.specs.Commands.{joined}

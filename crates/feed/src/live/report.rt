@@ -1,7 +1,6 @@
 //! What a report tells of a feed.
 ghost use Rattle.std.specs.Prelude.{◌≡◌, IfOk, max};
-ghost use Rattle.kept.specs.Places.{row_floor};
-ghost use Rattle.kept.specs.Reports.{complete_at, feed_report, resolved_at, told_through};
+ghost use Rattle.feed.specs.Prelude.{complete_at, feed_report, resolved_at, row_floor, told_through};
 
 use crate::live::LiveFeed;
 use crate::place::RowName;

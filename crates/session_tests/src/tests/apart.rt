@@ -1,6 +1,5 @@
 //! Threads one after the other: what one has left, the next one finds.
-ghost use Rattle.shared_db.specs.Seats.{IsOf};
-ghost use Rattle.races.specs.Playing.{IsIdle};
+ghost use Rattle.session_tests.specs.Prelude.{IsIdle, IsOf};
 
 use super::seats::last;
 use super::texts::{commands_of, transcript_of};

@@ -1,6 +1,5 @@
 //! Seats and passes of a database with no other thread beside them: calls that wait for nobody, floors, and leases.
-ghost use Rattle.shared_db.specs.Seats.{AllNew, IsOf};
-ghost use Rattle.races.specs.Playing.{IsIdle};
+ghost use Rattle.session_tests.specs.Prelude.{AllNew, IsIdle, IsOf};
 ghost use Rattle.timestamps.specs.Passes.{IsOf as IsPassOf};
 
 use shared_db::{Config, Db, Seat};

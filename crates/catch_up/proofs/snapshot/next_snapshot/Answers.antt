@@ -1,6 +1,5 @@
 use Rattle.std.proofs.Common.{List, arith, length, subst, sym, ◌<◌}
-use Rattle.std.specs.Option.{option_copied}
-use Rattle.version_chain.specs.Chains.{Entry}
+use Rattle.catch_up.proofs.Common.{Entry, option_copied}
 use Rattle.catch_up.proofs.Firsts.{IsSnapping, snap_begins, snap_goes_on}
 use Rattle.catch_up.proofs.snapshot.next_snapshot.Goals as goal
 

@@ -1,7 +1,5 @@
 use Rattle.std.proofs.Common.{ap, append_assoc, get_or, length, sym, take, ℕ, List, [], ◌∷◌, ◌+◌, ◌++◌, ◌<◌, ◌≡◌, ◌∙◌}
-use Rattle.std.specs.List.{flat_map}
-use Rattle.std.proofs.lemmas.List.{append-nil, take_more}
-use Rattle.std.proofs.lemmas.List.Concat.{flat_map-append}
+use Rattle.embedded.proofs.Common.{append-nil, flat_map, flat_map-append, take_more}
 use Rattle.embedded.specs.Typed.{pair_bytes}
 use Rattle.embedded.proofs.message_bytes.put_rows.Goals as goal
 

@@ -1,9 +1,6 @@
 use Rattle.std.proofs.Common.{◌≡◌, ◌<◌, List, [], ◌∷◌, length, Ok, Err, arith, inl, subst}
 use Rattle.std.specs.Prelude.{Result, OnErr}
-use Rattle.spans.specs.declared.calls.commands.Cmd.{Cmd}
-use Rattle.spans.specs.declared.calls.messages.Message.{Message}
-use Rattle.spans.specs.declared.calls.replies.Reply.{Reply}
-use Rattle.spans.specs.declared.calls.replies.Reply.TheVariants.{Messages}
+use Rattle.embedded.proofs.Common.{Cmd, Message, Messages, Reply}
 use Rattle.embedded.specs.Typed.{IsBulk}
 use Rattle.embedded.proofs.typed.copy_reply.Goals as goal
 

@@ -1,8 +1,6 @@
 use Rattle.std.proofs.Common.{ap, ◌∙◌}
 use Rattle.std.specs.Prelude.{option_map}
-use Rattle.spans.specs.Effects.{effects_of}
-use Rattle.spans.proofs.Legal.{legal_allowed}
-use Rattle.kept.specs.Places.{place_floor}
+use Rattle.engine.proofs.Common.{effects_of, legal_allowed, place_floor}
 use Rattle.engine.proofs.Progress.{feed_floor_is}
 use Rattle.engine.proofs.Engine.floor.Goals as goal
 

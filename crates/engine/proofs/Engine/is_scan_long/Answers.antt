@@ -1,8 +1,6 @@
 use Rattle.std.proofs.Common.{ap, sym, ◌∙◌}
-use Rattle.std.specs.Option.{is_some}
+use Rattle.engine.proofs.Common.{effects_of, is_some, transaction_tests}
 use Rattle.std.specs.Prelude.{◌&&◌}
-use Rattle.spans.specs.Answer.{transaction_tests}
-use Rattle.spans.specs.Effects.{effects_of}
 use Rattle.engine.specs.Layers.{feeds_of, kept_of}
 use Rattle.engine.specs.Room.{most_rows, passes, scan_end}
 use Rattle.engine.proofs.TooLong.{ends_long, usable_is}

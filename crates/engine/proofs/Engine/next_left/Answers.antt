@@ -1,10 +1,6 @@
 use Rattle.std.proofs.Common.{subst, ◌≡◌}
-use Rattle.std.proofs.lemmas.Result.{IfOk-weaker}
-use Rattle.std.specs.Option.{option_copied}
+use Rattle.engine.proofs.Common.{IfOk-weaker, Stored, effects_of, option_copied, versions_of}
 use Rattle.std.specs.Prelude.{IfOk}
-use Rattle.spans.specs.Effects.{effects_of}
-use Rattle.mvto_rules.specs.Holding.{versions_of}
-use Rattle.version_chain.specs.Stores.{Stored}
 use Rattle.engine.specs.Dumping.{IsNextRow, next_left}
 use Rattle.engine.proofs.RowsLeft.{next_is}
 use Rattle.engine.proofs.Engine.next_left.Goals as goal

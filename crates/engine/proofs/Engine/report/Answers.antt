@@ -1,7 +1,5 @@
 use Rattle.std.proofs.Common.{false}
-use Rattle.std.proofs.lemmas.Result.{IfOk-weaker}
-use Rattle.spans.specs.Effects.{effects_of}
-use Rattle.spans.specs.Report.{IsReport}
+use Rattle.engine.proofs.Common.{IfOk-weaker, IsReport, effects_of}
 use Rattle.kept.specs.Reports.{IsKeptReport}
 use Rattle.kept.proofs.Reporting.{report_is}
 use Rattle.engine.specs.Layers.{kept_of}

@@ -1,10 +1,8 @@
 use Rattle.std.proofs.Common.{rules, ◌++◌, ◌∷◌, map, reverse, length, sym, ap, ◌∙◌, subst, arith}
 use Rattle.std.proofs.lemmas.Grind.{common_steps}
-use Rattle.std.proofs.lemmas.List.{length_push}
-use Rattle.spans.specs.Legal.{IsGapless}
+use Rattle.engine.proofs.Common.{IsGapless, gapless_more, length_push, turned_more}
 use Rattle.engine.specs.Runs.{call_of}
 use Rattle.engine.specs.Engine.{StandsFor}
-use Rattle.spans.proofs.Histories.{gapless_more, turned_more}
 use Rattle.engine.proofs.Runs.{calls_more}
 use Rattle.engine.proofs.Engine.run_in.Goals as goal
 

@@ -1,7 +1,5 @@
 use Rattle.std.proofs.Common.{arith, sym, ◌∙◌, ◌≤◌}
-use Rattle.spans.specs.Collection.{horizon_of}
-use Rattle.spans.specs.Effects.{effects_of}
-use Rattle.spans.proofs.Legal.{legal_allowed}
+use Rattle.engine.proofs.Common.{effects_of, horizon_of, legal_allowed}
 use Rattle.engine.specs.Layers.{feeds_of, kept_of}
 use Rattle.engine.proofs.Versions.{known_is, told_is}
 use Rattle.engine.proofs.Engine.version_at.Goals as goal

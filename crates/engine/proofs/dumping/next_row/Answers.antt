@@ -1,6 +1,5 @@
 use Rattle.std.proofs.Common.{arith, inl, inr, subst, sym, ◌∙◌}
-use Rattle.std.proofs.lemmas.Bool.{both_ways, cases_lt}
-use Rattle.std.specs.Option.{option_copied}
+use Rattle.engine.proofs.Common.{both_ways, cases_lt, option_copied}
 use Rattle.engine.specs.Dumping.{IsNextRow}
 use Rattle.engine.proofs.RowsLeft.{first_left, first_taken}
 use Rattle.engine.proofs.dumping.next_row.Goals as goal

@@ -1,9 +1,6 @@
 use Rattle.std.proofs.Common.{◌≡◌, None, take}
 use Rattle.std.specs.Prelude.{option_map}
-use Rattle.std.specs.Option.{option_copied}
-use Rattle.spans.specs.Consumer.{name_of}
-use Rattle.spans.specs.Feeds.{last_resolved}
-use Rattle.spans.specs.Kept.{last_name}
+use Rattle.feed.proofs.Common.{last_name, last_resolved, name_of, option_copied}
 use Rattle.feed.proofs.place.place_behind.Given as goal
 
 abbrev pub invariant-loop-message : goal.invariant-loop-message

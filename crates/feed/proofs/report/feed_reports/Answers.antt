@@ -1,7 +1,6 @@
 use Rattle.std.proofs.Common.{◌≡◌, subst}
 use Rattle.std.specs.Prelude.{filter_map}
-use Rattle.std.proofs.lemmas.Result.{IfOk-weaker}
-use Rattle.kept.specs.Reports.{AreLive}
+use Rattle.feed.proofs.Common.{AreLive, IfOk-weaker}
 use Rattle.feed.specs.Reports.{place_at, report_at}
 use Rattle.feed.proofs.Reports.{live_reports}
 use Rattle.feed.proofs.report.feed_reports.Goals as goal

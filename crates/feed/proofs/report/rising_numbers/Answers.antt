@@ -1,6 +1,5 @@
 use Rattle.std.proofs.Common.{subst}
-use Rattle.std.specs.List.Sorted.{IsPermutation}
-use Rattle.std.specs.Map.{keys_of}
+use Rattle.feed.proofs.Common.{IsPermutation, keys_of}
 use Rattle.feed.proofs.Reports.{numbers_those, sorted_rise}
 use Rattle.feed.proofs.report.rising_numbers.Goals as goal
 

@@ -1,6 +1,5 @@
 use Rattle.std.proofs.Common.{◌≡◌, ◌∙◌, ◌++◌, List, ℕ, Option, ap, rules}
-use Rattle.std.specs.List.{flat_map}
-use Rattle.replica.specs.Replicas.{view_in}
+use Rattle.follow.proofs.Common.{flat_map, view_in}
 use Rattle.follow.specs.Reports.{change_line}
 use Rattle.follow.proofs.Tellings.{added_more, added_all}
 use Rattle.follow.proofs.texts.put_changes.Goals as goal

@@ -1,6 +1,5 @@
 use Rattle.std.proofs.Common.{◌≡◌, ◌++◌}
-use Rattle.std.specs.List.{flat_map}
-use Rattle.replica.specs.Replicas.{view_in}
+use Rattle.follow.proofs.Common.{flat_map, view_in}
 use Rattle.follow.specs.Reports.{change_line}
 use Rattle.follow.proofs.texts.put_changes.Given as goal
 

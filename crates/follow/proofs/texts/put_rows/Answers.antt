@@ -1,6 +1,5 @@
 use Rattle.std.proofs.Common.{◌++◌, List, ℕ, ap}
-use Rattle.std.specs.List.{flat_map}
-use Rattle.word_lines.specs.Replies.{row_line}
+use Rattle.follow.proofs.Common.{flat_map, row_line}
 use Rattle.follow.proofs.Tellings.{added_more, added_all}
 use Rattle.follow.proofs.texts.put_rows.Goals as goal
 

@@ -1,7 +1,6 @@
 use Rattle.std.proofs.Common.{◌≡◌, ◌++◌, None}
 use Rattle.std.specs.Vec.Iter.{into_iter_items}
-use Rattle.restarts.specs.Rows.{row_commands}
-use Rattle.dump_lines.specs.Lines.{lines_of}
+use Rattle.jobs.proofs.Common.{lines_of, row_commands}
 use Rattle.jobs.proofs.dump.put_rows.Given as goal
 
 abbrev pub invariant-loop-row : goal.invariant-loop-row

@@ -1,6 +1,5 @@
 use Rattle.std.proofs.Common.{rules, ◌≡◌, length, sym}
-use Rattle.std.proofs.lemmas.Bool.{eqb-true}
-use Rattle.std.proofs.lemmas.List.{append-nil}
+use Rattle.json_lines.proofs.Common.{append-nil, eqb-true}
 use Rattle.json_lines.proofs.Base64.{base64_empty}
 use Rattle.json_lines.proofs.base64_text.put_last.Goals as goal
 

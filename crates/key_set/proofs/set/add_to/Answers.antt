@@ -1,10 +1,8 @@
 use Rattle.std.proofs.Common.{◌∙◌, ap, sym}
 use Rattle.std.specs.Prelude.{not}
-use Rattle.spans.specs.Keys.{insert_key}
+use Rattle.key_set.proofs.Common.{any_err, insert_key, put_is}
 use Rattle.key_set.proofs.Sets.{found_is, put_again}
 use Rattle.key_set.proofs.set.add_to.Goals as goal
-use Rattle.spans.proofs.Sets.{put_is}
-use Rattle.spans.proofs.Results.{any_err}
 
 pub returns-then-contains-clause-new : goal.returns-then-contains-clause-new
 returns-then-contains-clause-new c = ap not (sym c.if-contains.true ∙ c.contains.ensures ∙ found_is c.args.key.now c.args.keys.now.keys)

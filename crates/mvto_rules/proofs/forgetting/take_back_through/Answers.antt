@@ -1,7 +1,6 @@
 use Rattle.std.proofs.Common.{[], ap, arith, inl, length, refl, subst, sym, ◌≡◌, ◌≤◌, ◌∙◌}
 use Rattle.std.specs.Prelude.{IfSome}
-use Rattle.timestamps.specs.declared.ts.TheConstants.{MAX}
-use Rattle.version_chain.specs.Stores.{AreDroppedAt}
+use Rattle.mvto_rules.proofs.Common.{AreDroppedAt, MAX}
 use Rattle.mvto_rules.proofs.Closing.{IsTakingBack, taken_in_range, taking_begins, taking_ends, taking_goes_on}
 use Rattle.mvto_rules.proofs.forgetting.take_back_through.Goals as goal
 

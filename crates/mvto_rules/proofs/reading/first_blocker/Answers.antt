@@ -1,6 +1,5 @@
 use Rattle.std.proofs.Common.{ap, arith, subst, sym, ◌<◌, ◌∙◌}
-use Rattle.std.specs.Map.{keys_of}
-use Rattle.std.specs.Option.{option_copied}
+use Rattle.mvto_rules.proofs.Common.{keys_of, option_copied}
 use Rattle.mvto_rules.proofs.Seeing.{is_stopped, unstopped}
 use Rattle.mvto_rules.proofs.Walking.{IsSeeking, seek_begins, seek_goes_on, stopped_at, there_at}
 use Rattle.mvto_rules.proofs.reading.first_blocker.Goals as goal

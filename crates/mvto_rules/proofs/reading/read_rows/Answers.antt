@@ -1,8 +1,5 @@
 use Rattle.std.proofs.Common.{ap, arith, rules, subst, sym, ◌<◌, ◌≡◌, ◌∙◌, []}
-use Rattle.std.specs.Map.{keys_of}
-use Rattle.std.specs.Map.Iter.{deref_pair}
-use Rattle.std.specs.Option.{option_copied}
-use Rattle.std.proofs.lemmas.Map.Iter.{rest_all}
+use Rattle.mvto_rules.proofs.Common.{deref_pair, keys_of, option_copied, rest_all}
 use Rattle.mvto_rules.specs.Scans.{first_blocker}
 use Rattle.mvto_rules.proofs.Listing.{IsListing, list_begins, list_ends, list_goes_on}
 use Rattle.mvto_rules.proofs.Seeing.{is_stopped, unstopped}

@@ -1,7 +1,5 @@
 use Rattle.std.proofs.Common.{[], refl, subst, sym, ◌≡◌, ◌∙◌}
-use Rattle.std.specs.Map.Iter.{deref_pair}
-use Rattle.std.specs.Option.{option_copied}
-use Rattle.std.proofs.lemmas.Map.Iter.{rest_all}
+use Rattle.mvto_rules.proofs.Common.{deref_pair, option_copied, rest_all}
 use Rattle.mvto_rules.proofs.Ending.{IsEnding, ending_begins, ending_ends, ending_goes_on, ending_stops}
 use Rattle.mvto_rules.proofs.Walking.{there_at}
 use Rattle.mvto_rules.proofs.room.find_end.Goals as goal

@@ -1,7 +1,5 @@
 use Rattle.std.proofs.Common.{refl, rules, subst, sym, ◌≡◌, []}
-use Rattle.std.specs.Map.Iter.{deref_pair}
-use Rattle.std.specs.Option.{option_copied}
-use Rattle.std.proofs.lemmas.Map.Iter.{rest_all}
+use Rattle.mvto_rules.proofs.Common.{deref_pair, option_copied, rest_all}
 use Rattle.mvto_rules.proofs.Listing.{IsListing, list_begins, list_ends, list_goes_on}
 use Rattle.mvto_rules.proofs.Walking.{there_at}
 use Rattle.mvto_rules.proofs.snapshots.rows_at.Goals as goal

@@ -1,6 +1,5 @@
 use Rattle.std.proofs.Common.{reverse}
-use Rattle.script.specs.Transcripts.{transcript_text}
-use Rattle.text_format.specs.declared.Format.TheVariants.{Two}
+use Rattle.pipes.proofs.Common.{Two, transcript_text}
 use Rattle.pipes.proofs.Pipes.{kept_text, race_text, run_text, transcript_says}
 use Rattle.pipes.proofs.laws.law_of_pipes.Goals as goal
 

@@ -1,7 +1,5 @@
 use Rattle.std.proofs.Common.{◌∙◌, ap, sym, max, min, map}
-use Rattle.spans.specs.Transactions.{least_of}
-use Rattle.spans.specs.Collection.{Protection, protections_of, floor_of, live_feeds}
-use Rattle.spans.proofs.Horizon.{least_join}
+use Rattle.plain_feeds.proofs.Common.{Protection, floor_of, least_join, least_of, live_feeds, protections_of}
 use Rattle.plain_feeds.proofs.horizon.horizon_reached.Goals as goal
 
 pub returns : goal.returns

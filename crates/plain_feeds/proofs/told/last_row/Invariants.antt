@@ -1,8 +1,6 @@
 use Rattle.std.proofs.Common.{◌≡◌, None, take}
 use Rattle.std.specs.Prelude.{option_map}
-use Rattle.std.specs.Option.{option_copied}
-use Rattle.spans.specs.Consumer.{name_of}
-use Rattle.spans.specs.Kept.{last_name}
+use Rattle.plain_feeds.proofs.Common.{last_name, name_of, option_copied}
 use Rattle.plain_feeds.proofs.told.last_row.Given as goal
 
 abbrev pub invariant-loop-message : goal.invariant-loop-message

@@ -1,9 +1,7 @@
 use Rattle.std.proofs.Common.{◌≡◌, ◌<◌, suc, List, [], ◌∷◌, ◌++◌, length, rules, refl, ap, sym, subst, set, arith, All}
-use Rattle.std.specs.Vec.Iter.{into_iter_items}
-use Rattle.std.proofs.lemmas.List.Elements.{All-rest}
+use Rattle.races.proofs.Common.{All-rest, each_read, into_iter_items}
 use mathlib.Core.Option.{some}
 use lib.ListN.{get_elem?}
-use Rattle.ticket_lock.proofs.ListFacts.{each_read}
 use Rattle.races.proofs.Giving.{AreLeft, none_given, one_given, all_given}
 use Rattle.races.proofs.calls.lists_of.Goals as goal
 

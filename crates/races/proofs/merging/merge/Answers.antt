@@ -1,7 +1,6 @@
 use Rattle.std.proofs.Common.{sym, subst, rules}
 use Rattle.std.specs.Prelude.{IsPermutation}
-use Rattle.std.specs.List.Sorted.{IsNonDecreasingBy}
-use Rattle.std.proofs.lemmas.List.Sorted.{IsNonDecreasingBy-from_sort_by_key}
+use Rattle.races.proofs.Common.{IsNonDecreasingBy, IsNonDecreasingBy-from_sort_by_key}
 use Rattle.races.specs.Merging.{position_of, events_of, IsBreak}
 use Rattle.races.proofs.Refusing.{reason}
 use Rattle.races.proofs.merging.merge.Goals as goal

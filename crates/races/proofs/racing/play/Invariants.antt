@@ -1,8 +1,6 @@
 use Rattle.std.proofs.Common.{◌≡◌, ◌≤◌, ◌+◌, ◌++◌, vec_len}
 use Rattle.std.specs.Prelude.{vec_capacity}
-use Rattle.std.specs.Vec.Iter.{into_iter_items, into_iter_len}
-use Rattle.shared_db.specs.Seats.{IsOf}
-use Rattle.ticket_lock.specs.Seats.{mine, IsSame}
+use Rattle.races.proofs.Common.{IsOf, IsSame, into_iter_items, into_iter_len, mine}
 use Rattle.races.specs.Playing.{commands_of}
 use Rattle.races.proofs.racing.play.Given as goal
 

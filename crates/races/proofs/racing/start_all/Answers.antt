@@ -1,7 +1,5 @@
 use Rattle.std.proofs.Common.{◌≡◌, [], ◌∷◌, ◌++◌, rules}
-use Rattle.std.specs.Vec.Iter.{into_iter_items}
-use Rattle.std.proofs.lemmas.List.Elements.{All-push, All-rest, All-same}
-use Rattle.shared_db.specs.Seats.{IsOf}
+use Rattle.races.proofs.Common.{All-push, All-rest, All-same, IsOf, into_iter_items}
 use Rattle.races.specs.Playing.{IsIdle}
 use Rattle.races.proofs.Starting.{one_more}
 use Rattle.races.proofs.racing.start_all.Goals as goal

@@ -1,6 +1,5 @@
 use Rattle.std.proofs.Common.{◌≡◌, ◌+◌, ◌++◌, map, All, vec_len}
-use Rattle.std.specs.Vec.Iter.{into_iter_items, into_iter_len}
-use Rattle.shared_db.specs.Seats.{IsOf}
+use Rattle.races.proofs.Common.{IsOf, into_iter_items, into_iter_len}
 use Rattle.races.specs.Playing.{IsIdle}
 use Rattle.races.proofs.racing.start_all.Given as goal
 

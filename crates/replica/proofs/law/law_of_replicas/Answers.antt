@@ -1,11 +1,7 @@
 use Rattle.std.proofs.Common.{◌≡◌, ℕ, Some}
-use Rattle.spans.specs.Effects.{effects_of}
-use Rattle.spans.specs.Feeds.{Feed, feed_of}
-use Rattle.spans.specs.Consumer.{ConsumerIsRight}
+use Rattle.replica.proofs.Common.{ConsumerIsRight, Feed, effects_of, fed, feed_of, feed_rises, feeding, views}
 use Rattle.spans.proofs.Legal.{legal_allowed}
-use Rattle.spans.proofs.Feeding.{fed, feed_rises, feeding}
 use Rattle.spans.proofs.Taking.{told_taken}
-use Rattle.spans.proofs.Viewing.{views}
 use Rattle.spans.proofs.GoingOn.{complete_is_right}
 use Rattle.replica.proofs.Completing.{replica_is_right, starts_initial, starts_seeded}
 use Rattle.replica.proofs.law.law_of_replicas.Goals as goal

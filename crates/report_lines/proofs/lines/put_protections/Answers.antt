@@ -1,6 +1,5 @@
 use Rattle.std.proofs.Common.{refl}
-use Rattle.std.specs.List.{flat_map}
-use Rattle.json_lines.proofs.Writing.{on_error, keeps_then, keeps_text}
+use Rattle.report_lines.proofs.Common.{flat_map, keeps_text, keeps_then, on_error}
 use Rattle.report_lines.specs.Lines.{protection_line}
 use Rattle.report_lines.proofs.Writing.{one_more}
 use Rattle.report_lines.proofs.lines.put_protections.Goals as goal

@@ -1,6 +1,5 @@
 use Rattle.std.proofs.Common.{◌≡◌, ◌++◌, drop}
-use Rattle.std.specs.List.{flat_map}
-use Rattle.json_lines.specs.Writing.{Keeps}
+use Rattle.report_lines.proofs.Common.{Keeps, flat_map}
 use Rattle.report_lines.specs.Lines.{protection_line}
 use Rattle.report_lines.proofs.lines.put_protections.Given as goal
 

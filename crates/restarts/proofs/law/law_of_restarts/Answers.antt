@@ -1,9 +1,5 @@
 use Rattle.std.proofs.Common.{List, [], ℕ, sym}
-use Rattle.spans.specs.Effects.{effects_of}
-use Rattle.spans.specs.declared.calls.events.Event.{Event}
-use Rattle.spans.proofs.Legal.{legal_allowed}
-use Rattle.kept.proofs.AfterCloses.{open_is}
-use Rattle.kept.specs.StandsFor.{StandsFor}
+use Rattle.restarts.proofs.Common.{Event, StandsFor, effects_of, legal_allowed, open_is}
 use Rattle.restarts.specs.Dump.{dump, rebuilt}
 use Rattle.restarts.specs.Restart.{CanRestart}
 use Rattle.restarts.proofs.Alike.{committed_begun, map_same, none_lives, stream_same}

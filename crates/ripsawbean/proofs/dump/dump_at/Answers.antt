@@ -1,6 +1,5 @@
 use Rattle.std.proofs.Common.{length, subst}
-use Rattle.spans.specs.Effects.{effects_of}
-use Rattle.embedded.specs.Dumping.{IsPiece}
+use Rattle.ripsawbean.proofs.Common.{IsPiece, effects_of}
 use Rattle.embedded.specs.declared.dumping.DumpPlace.{DumpPlace}
 use Rattle.ripsawbean.proofs.Dumping.{told_piece}
 use Rattle.ripsawbean.proofs.dump.dump_at.Goals as goal

@@ -1,6 +1,5 @@
 use Rattle.std.proofs.Common.{List, ℕ, drop, ◌++◌, ◌+◌, ◌∙◌, ap, refl, arith}
-use Rattle.std.proofs.lemmas.Result.{err_from_is_err_and}
-use Rattle.script.specs.Transcripts.{events_text, transcript_text}
+use Rattle.sessions.proofs.Common.{err_from_is_err_and, events_text, transcript_text}
 use Rattle.sessions.specs.Writing.{pending_of}
 use Rattle.sessions.proofs.Transcripts.{more_taken, nothing_taken, one_kept}
 use Rattle.sessions.proofs.whole.write_transcript.Goals as goal

@@ -1,6 +1,5 @@
 use Rattle.std.proofs.Common.{◌≡◌, [], ap, sym, ◌∙◌}
-use Rattle.std.proofs.lemmas.Bool.{eqb-true}
-use Rattle.std.proofs.lemmas.List.{nil_from_length}
+use Rattle.version_chain.proofs.Common.{eqb-true, nil_from_length}
 use Rattle.version_chain.specs.declared.block.Block.{Block}
 use Rattle.version_chain.specs.Blocks.{all_in}
 use Rattle.version_chain.proofs.InBlocks.{emptied}

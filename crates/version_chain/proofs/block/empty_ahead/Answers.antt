@@ -1,6 +1,5 @@
 use Rattle.std.proofs.Common.{◌≡◌, [], ap, arith, get_or, sym, ◌∙◌}
-use Rattle.std.proofs.lemmas.Bool.{eqb-true}
-use Rattle.std.proofs.lemmas.List.{nil_from_length}
+use Rattle.version_chain.proofs.Common.{eqb-true, nil_from_length}
 use Rattle.version_chain.proofs.InBlocks.{empty_more}
 use Rattle.version_chain.proofs.block.empty_ahead.Goals as goal
 

@@ -1,6 +1,5 @@
 use Rattle.std.proofs.Common.{◌≡◌, ℕ, ◌+◌, ◌<◌, ◌≤◌, ◌^◌, ◌++◌, ◌∙◌, length, decimal, vec_len, Vec, arith}
-use Rattle.std.specs.Global.{Global}
-use Rattle.spelled_words.specs.declared.fault.LineFault.{LineFault}
+use Rattle.word_lines.proofs.Common.{Global, LineFault}
 use Rattle.word_lines.specs.Faults.{code_of, name_of}
 use Rattle.word_lines.proofs.Writing.{keeps_on, keeps_same, numbered, on_error}
 use Rattle.word_lines.proofs.events.put_fault.Goals as goal

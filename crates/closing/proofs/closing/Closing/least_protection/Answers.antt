@@ -1,5 +1,4 @@
-use Rattle.std.specs.BTreeSet.{contains}
-use Rattle.std.specs.BTreeMap.{is_at}
+use Rattle.closing.proofs.Common.{contains, is_at}
 use Rattle.spans.proofs.Sets.{none_in}
 use Rattle.closing.specs.Ties.{pair_cmp}
 use Rattle.closing.proofs.Least.{first_least, none_least}

@@ -1,7 +1,5 @@
 use Rattle.std.proofs.Common.{ap, arith, is_some, refl, ◌+◌, ◌∙◌}
-use Rattle.std.specs.BTreeMap.{get}
-use Rattle.std.specs.BTreeSet.{contains}
-use Rattle.std.specs.Ordering.{nat_cmp}
+use Rattle.closing.proofs.Common.{contains, get, nat_cmp}
 use Rattle.closing.specs.Ties.{pair_cmp}
 use Rattle.closing.proofs.Numbers.{insert_last, newest_push, none_beyond, number_stands, numbered_push}
 use Rattle.closing.proofs.Tying.{alike_again, alike_put}

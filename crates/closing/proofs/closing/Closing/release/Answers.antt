@@ -1,7 +1,5 @@
 use Rattle.std.proofs.Common.{sym, ap, ◌∙◌}
-use Rattle.std.specs.BTreeMap.{get}
-use Rattle.std.specs.BTreeSet.{contains}
-use Rattle.std.specs.Ordering.{nat_cmp}
+use Rattle.closing.proofs.Common.{contains, get, nat_cmp}
 use Rattle.closing.specs.Ties.{pair_cmp}
 use Rattle.std.specs.Prelude.{is_some}
 use Rattle.closing.proofs.Numbers.{newest_removed, number_stands, numbered_removed}

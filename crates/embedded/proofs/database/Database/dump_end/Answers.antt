@@ -1,7 +1,6 @@
 use Rattle.std.proofs.Common.{◌≡◌, ap, ◌∙◌}
 use Rattle.std.specs.Prelude.{min}
-use Rattle.spans.specs.Effects.{effects_of}
-use Rattle.restarts.specs.Dump.{mark_of}
+use Rattle.embedded.proofs.Common.{effects_of, mark_of}
 use Rattle.embedded.proofs.DumpTexts.{mark_is}
 use Rattle.embedded.proofs.database.Database.dump_end.Goals as goal
 

@@ -1,6 +1,5 @@
 use Rattle.std.proofs.Common.{◌≤◌, arith}
-use Rattle.spans.specs.Effects.{effects_of}
-use Rattle.restarts.specs.Dump.{mark_of}
+use Rattle.embedded.proofs.Common.{effects_of, mark_of}
 use Rattle.embedded.specs.declared.dumping.DumpPiece.{DumpPiece}
 use Rattle.embedded.specs.Dumping.{IsPiece}
 use Rattle.embedded.proofs.DumpPieces.{piece_of_texts, rest_of}

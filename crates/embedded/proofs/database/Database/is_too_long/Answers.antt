@@ -1,8 +1,5 @@
 use Rattle.std.proofs.Common.{arith, false, sym, ℕ, Bool, List, ◌==◌, ◌≡◌}
-use Rattle.std.proofs.lemmas.Bool.Decides.{nat_tests}
-use Rattle.std.proofs.lemmas.Result.{IfOk-weaker}
-use Rattle.spans.specs.Effects.{Effect, effects_of}
-use Rattle.spans.specs.declared.calls.commands.Cmd.{Cmd}
+use Rattle.embedded.proofs.Common.{Cmd, Effect, IfOk-weaker, effects_of, nat_tests}
 use Rattle.engine.specs.Room.{is_long}
 use Rattle.embedded.specs.Several.{is_too_long}
 use Rattle.embedded.proofs.database.Database.is_too_long.Goals as goal

@@ -1,6 +1,5 @@
 use Rattle.std.proofs.Common.{◌≡◌, Some, refl, sym, subst, ◌∙◌}
-use Rattle.spans.specs.declared.calls.events.Event.{Event}
-use Rattle.spans.specs.Effects.{event}
+use Rattle.embedded.proofs.Common.{Event, event}
 use Rattle.embedded.specs.Typed.{IsBulk}
 use Rattle.embedded.proofs.Stepping.{stands_next, bulk_no_read}
 use Rattle.embedded.proofs.database.Database.make.Goals as goal

@@ -1,7 +1,5 @@
 use Rattle.std.proofs.Common.{◌≡◌, ◌-◌, List, length}
-use Rattle.spans.specs.Collection.{horizon_of}
-use Rattle.spans.specs.Effects.{effects_of}
-use Rattle.spans.specs.declared.calls.events.Event.{Event}
+use Rattle.embedded.proofs.Common.{Event, effects_of, horizon_of}
 use Rattle.embedded.specs.DumpTexts.{filled}
 use Rattle.embedded.specs.Embedded.{StandsFor}
 use Rattle.embedded.proofs.database.Database.put_more.Given as goal

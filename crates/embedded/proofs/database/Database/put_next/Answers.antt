@@ -1,7 +1,5 @@
 use Rattle.std.proofs.Common.{◌≡◌, ◌∷◌, ◌++◌, Some, ap, sym, ◌∙◌}
-use Rattle.spans.specs.Effects.{effects_of}
-use Rattle.dump_lines.specs.Lines.{row_text}
-use Rattle.engine.specs.Dumping.{next_left}
+use Rattle.embedded.proofs.Common.{effects_of, next_left, row_text}
 use Rattle.embedded.specs.Dumping.{place_of, rows_behind}
 use Rattle.embedded.specs.declared.dumping.DumpPlace.{DumpPlace}
 use Rattle.embedded.proofs.DumpRows.{next_row}

@@ -1,6 +1,5 @@
 use Rattle.std.proofs.Common.{◌≡◌, List, ℕ, [], Option, Some, subst}
-use Rattle.std.proofs.lemmas.Result.{IfOk-weaker}
-use Rattle.spans.specs.Effects.{effects_of}
+use Rattle.embedded.proofs.Common.{IfOk-weaker, effects_of}
 use Rattle.embedded.specs.declared.dumping.DumpPlace.{DumpPlace}
 use Rattle.embedded.specs.DumpTexts.{AreTexts, IsNextText, filled}
 use Rattle.embedded.proofs.DumpTexts.{first_then}

@@ -1,7 +1,5 @@
 use Rattle.std.proofs.Common.{arith, ◌≤◌}
-use Rattle.std.proofs.lemmas.List.{take_rest}
-use Rattle.spans.specs.Collection.{horizon_of}
-use Rattle.spans.specs.Effects.{effects_of}
+use Rattle.embedded.proofs.Common.{effects_of, horizon_of, take_rest}
 use Rattle.embedded.proofs.VersionKeys.{key_within, told_more}
 use Rattle.embedded.proofs.database.Database.versions_at.Goals as goal
 

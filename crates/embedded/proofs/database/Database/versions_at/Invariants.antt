@@ -1,6 +1,5 @@
 use Rattle.std.proofs.Common.{◌-◌, ◌≤◌, List, length}
-use Rattle.spans.specs.Effects.{effects_of}
-use Rattle.spans.specs.declared.calls.events.Event.{Event}
+use Rattle.embedded.proofs.Common.{Event, effects_of}
 use Rattle.embedded.specs.Embedded.{StandsFor}
 use Rattle.embedded.proofs.VersionKeys.{HaveTold}
 use Rattle.embedded.proofs.database.Database.versions_at.Given as goal

@@ -1,12 +1,7 @@
 use Rattle.std.proofs.Common.{None, Some, ap, inl, inr, refl, subst, sym, ℕ, ◌≡◌, ◌∙◌}
-use Rattle.spans.specs.Answer.{first_refusal}
-use Rattle.kept.specs.Changes.{IsAlike}
-use Rattle.kept.specs.Replies.{kept_opening_tests}
+use Rattle.engine.proofs.Common.{IsAlike, IsPut, first_refusal, is_opened, kept_opening_tests, opened_at, place_in, uncut}
 use Rattle.kept.proofs.Staying.{alike_self}
 use Rattle.mvto_rules.proofs.AtClosed.{none_unless}
-use Rattle.feed.specs.Live.{opened_at}
-use Rattle.feed.specs.Standing.{IsPut, place_in}
-use Rattle.feed.proofs.Serving.{is_opened, uncut}
 use Rattle.engine.specs.Layers.{kept_of}
 use Rattle.engine.proofs.OpeningReplies.{open_done, open_refused, open_wanting, opens_low}
 use Rattle.engine.proofs.layers.Layers.open_feed.Goals as goal

@@ -1,14 +1,6 @@
 use Rattle.std.proofs.Common.{List, ap, inl, refl, subst, ℕ, ◌≡◌, ◌∙◌}
-use Rattle.spans.specs.declared.calls.commands.Cmd.TheVariants.{Poll}
-use Rattle.spans.specs.declared.calls.messages.Message.{Message}
-use Rattle.spans.specs.declared.calls.replies.Reply.TheVariants.{Messages}
-use Rattle.kept.specs.Answered.{IsAnswered}
-use Rattle.version_chain.specs.Stores.{Stored}
-use Rattle.closing.specs.Standing.{closed_in}
-use Rattle.feed.specs.Live.{cut_at_max}
-use Rattle.feed.specs.Standing.{IsPolledBy, Standing, opened_in, place_in}
-use Rattle.feed.proofs.Serving.{is_moved, uncut}
-use Rattle.mvto_rules.specs.Holding.{closing_of, versions_of}
+use Rattle.engine.proofs.Common.{IsAnswered, IsPolledBy, Message, Messages, Poll, Stored, closed_in, closing_of, cut_at_max, is_moved, opened_in, place_in, uncut, versions_of}
+use Rattle.feed.specs.Standing.{Standing}
 use Rattle.engine.specs.Layers.{kept_of}
 use Rattle.engine.specs.declared.layers.Layers.{Layers}
 use Rattle.engine.proofs.FeedReplies.{poll_done}

@@ -1,6 +1,5 @@
 use Rattle.std.proofs.Common.{ap, map, refl, reverse, sym, ◌∙◌}
-use Rattle.spans.specs.Report.{protection_report}
-use Rattle.closing.specs.Standing.{Standing, protections_in}
+use Rattle.engine.proofs.Common.{Standing, protection_report, protections_in}
 use Rattle.engine.specs.Layers.{feeds_of}
 use Rattle.engine.proofs.layers.Layers.report.Goals as goal
 

@@ -1,7 +1,6 @@
 use Rattle.std.proofs.Common.{sym}
 use Rattle.std.specs.Prelude.{nat_eq}
-use Rattle.std.specs.BTreeSet.{contains}
-use Rattle.indexmap.specs.IndexMap.{get}
+use Rattle.feed.proofs.Common.{contains, get}
 use Rattle.feed.specs.Ties.{pair_cmp}
 use Rattle.feed.proofs.Tying.{alike_taken, numbered_less}
 use Rattle.feed.proofs.feeds.Feeds.cancel.Goals as goal

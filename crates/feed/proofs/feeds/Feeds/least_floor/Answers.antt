@@ -1,5 +1,4 @@
-use Rattle.std.specs.BTreeSet.{contains}
-use Rattle.std.specs.BTreeMap.{is_at}
+use Rattle.feed.proofs.Common.{contains, is_at}
 use Rattle.spans.proofs.Sets.{none_in}
 use Rattle.feed.specs.Standing.{Standing}
 use Rattle.feed.specs.Ties.{pair_cmp}

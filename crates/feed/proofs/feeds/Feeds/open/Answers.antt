@@ -1,12 +1,7 @@
 use Rattle.std.proofs.Common.{Some, ap, arith, max, refl, subst, sym, ◌+◌, ◌≡◌, ◌≤◌, ◌∙◌}
 use Rattle.std.specs.Prelude.{nat_eq}
-use Rattle.std.specs.BTreeSet.{contains}
-use Rattle.std.specs.BTreeMap.{is_at}
-use Rattle.std.specs.List.{list_any}
+use Rattle.feed.proofs.Common.{contains, get, is_at, list_any, place_floor, start_at}
 use Rattle.spans.proofs.Listing.{start_low}
-use Rattle.indexmap.specs.IndexMap.{get}
-use Rattle.spans.specs.Feeds.{start_at}
-use Rattle.kept.specs.Places.{place_floor}
 use Rattle.feed.specs.Ties.{AreTied, pair_cmp}
 use Rattle.feed.proofs.Tying.{alike_put, none_beyond, numbered_set}
 use Rattle.feed.proofs.feeds.Feeds.open.Goals as goal

@@ -1,8 +1,7 @@
 use Rattle.std.proofs.Common.{Some, ap, subst, sym, ◌≡◌, ◌∙◌}
 use Rattle.std.specs.Prelude.{is_some, nat_eq}
-use Rattle.std.specs.Map.{lookup}
+use Rattle.feed.proofs.Common.{Place, lookup}
 use Rattle.std.proofs.lemmas.Map.Steps.{set_value_same}
-use Rattle.spans.specs.Kept.{Place}
 use Rattle.feed.specs.Live.{arrived_at, cut_at_max}
 use Rattle.feed.specs.Standing.{IsPolledBy, IsPut, Lives, Standing, place_in}
 use Rattle.feed.specs.Telling.{IsTold}

@@ -1,6 +1,5 @@
 use Rattle.std.proofs.Common.{None, ap, ◌∙◌}
-use Rattle.spans.specs.Feeds.{last_resolved}
-use Rattle.spans.specs.Kept.{last_name}
+use Rattle.feed.proofs.Common.{last_name, last_resolved}
 use Rattle.feed.proofs.Telling.{next_few, told_due}
 use Rattle.feed.proofs.live.LiveFeed.next_messages.Goals as goal
 

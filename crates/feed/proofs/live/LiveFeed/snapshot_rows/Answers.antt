@@ -1,9 +1,5 @@
 use Rattle.std.proofs.Common.{ap, subst, ◌≡◌}
-use Rattle.std.proofs.lemmas.Result.{IfOk-weaker}
-use Rattle.std.specs.Option.{option_copied}
-use Rattle.spans.specs.Kept.{Place}
-use Rattle.spans.specs.declared.span.Span.{Span}
-use Rattle.catch_up.specs.Firsts.{AreNextFirsts}
+use Rattle.feed.proofs.Common.{AreNextFirsts, IfOk-weaker, Place, Span, option_copied}
 use Rattle.feed.specs.Firsts.{AreNextFirstsAt}
 use Rattle.feed.proofs.Catching.{firsts_next, firsts_none}
 use Rattle.feed.proofs.live.LiveFeed.snapshot_rows.Goals as goal

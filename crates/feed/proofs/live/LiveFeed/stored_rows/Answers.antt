@@ -1,10 +1,6 @@
 use Rattle.std.proofs.Common.{ap, sym, ◌&&◌, ◌∙◌}
-use Rattle.std.proofs.lemmas.Result.{IfOk-weaker}
+use Rattle.feed.proofs.Common.{AreNextIn, IfOk-weaker, Place, is_after_name, option_copied}
 use Rattle.std.specs.Prelude.{nat_lt}
-use Rattle.std.specs.Option.{option_copied}
-use Rattle.spans.specs.Consumer.{is_after_name}
-use Rattle.spans.specs.Kept.{Place}
-use Rattle.catch_up.specs.Left.{AreNextIn}
 use Rattle.feed.specs.Firsts.{AreNextStoredAt}
 use Rattle.feed.proofs.Catching.{stored_next}
 use Rattle.feed.proofs.live.LiveFeed.stored_rows.Goals as goal

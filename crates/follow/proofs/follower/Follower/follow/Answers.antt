@@ -1,14 +1,8 @@
 use Rattle.std.proofs.Common.{◌≡◌, ◌∙◌, ◌+◌, ℕ, true, List, [], Err, refl, sym, ap, subst, arith}
-use Rattle.std.proofs.lemmas.Result.{err_from_is_err_and}
-use Rattle.spans.specs.declared.calls.messages.Message.{Message}
+use Rattle.follow.proofs.Common.{HasReadOn, IsSought, Lines, Message, Reads, Writes, err_from_is_err_and, has_ended, pending_of, waiting}
 use Rattle.sessions.specs.declared.ending.ServeEnd.{ServeEnd}
 use Rattle.sessions.specs.declared.ending.ServeEnd.TheVariants as end
-use Rattle.sessions.specs.declared.lines.Lines.{Lines}
 use Rattle.sessions.specs.declared.output.Output.{Output}
-use Rattle.sessions.specs.Devices.{Reads, Writes}
-use Rattle.sessions.specs.NextLines.{HasReadOn, IsSought}
-use Rattle.sessions.specs.Waiting.{waiting, has_ended}
-use Rattle.sessions.specs.Writing.{pending_of}
 use Rattle.follow.specs.declared.ending.FollowEnd.{FollowEnd}
 use Rattle.follow.specs.declared.ending.FollowEnd.TheVariants as ends
 use Rattle.follow.specs.declared.follower.Follower.{Follower}

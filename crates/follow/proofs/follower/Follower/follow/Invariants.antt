@@ -1,6 +1,5 @@
 use Rattle.std.proofs.Common.{◌≡◌, List, []}
-use Rattle.spans.specs.declared.calls.messages.Message.{Message}
-use Rattle.sessions.specs.Writing.{pending_of}
+use Rattle.follow.proofs.Common.{Message, pending_of}
 use Rattle.follow.specs.declared.options.FollowOptions.{FollowOptions}
 use Rattle.follow.specs.Steps.{IsFresh, IsGoing}
 use Rattle.follow.proofs.follower.Follower.follow.Given as goal

@@ -1,10 +1,7 @@
 use Rattle.std.proofs.Common.{◌≡◌, ◌∙◌, List, ℕ, ap, sym, subst, true, refl, Ok, Err}
 use Rattle.std.specs.Prelude.{◌≢◌}
-use Rattle.word_lines.specs.Words.{text_at}
-use Rattle.json_lines.specs.declared.fault.MessageFault.{MessageFault}
+use Rattle.follow.proofs.Common.{IsMessage, MessageFault, message_at, message_line, text_at}
 use Rattle.json_lines.specs.declared.fault.MessageFault.TheVariants as message
-use Rattle.json_lines.specs.Messages.{IsMessage, message_line}
-use Rattle.json_lines.specs.Tests.{message_at}
 use Rattle.follow.specs.declared.fault.FollowError.{FollowError}
 use Rattle.follow.specs.declared.fault.FollowError.TheVariants as errors
 use Rattle.follow.specs.declared.follower.Follower.{Follower}

@@ -1,6 +1,5 @@
 use Rattle.std.proofs.Common.{◌∙◌, ◌++◌, List, ℕ, ap, refl, subst, sym}
-use Rattle.std.proofs.lemmas.Result.{err_from_is_err_and}
-use Rattle.sessions.specs.Writing.{pending_of}
+use Rattle.follow.proofs.Common.{err_from_is_err_and, pending_of}
 use Rattle.follow.specs.declared.fault.FollowError.{FollowError}
 use Rattle.follow.specs.Steps.{IsOver, end_by}
 use Rattle.follow.proofs.Steps.{over_wanting, over_refused, go_told, go_taken}

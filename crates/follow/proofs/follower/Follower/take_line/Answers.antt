@@ -1,7 +1,6 @@
 use Rattle.std.proofs.Common.{◌++◌, ◌∷◌, ◌+◌, []}
-use Rattle.sessions.specs.Writing.{pending_of}
+use Rattle.follow.proofs.Common.{IfErr-weaker, on_ok_weaker, pending_of}
 use Rattle.follow.proofs.Steps.{go_passed, go_holding, goes_on_still, over_misread}
-use Rattle.std.proofs.lemmas.Result.{IfErr-weaker, on_ok_weaker}
 use Rattle.follow.proofs.follower.Follower.take_line.Goals as goal
 
 pub returns-in-Ok-None-clause-ok : goal.returns-in-Ok-None-clause-ok

@@ -1,5 +1,4 @@
-use Rattle.replica.specs.Replicas.{view_in}
-use Rattle.std.proofs.lemmas.Result.{on_ok_weaker}
+use Rattle.follow.proofs.Common.{on_ok_weaker, view_in}
 use Rattle.follow.proofs.Tellings.{shows_listed}
 use Rattle.follow.proofs.telling.Telling.show.Goals as goal
 

@@ -1,6 +1,5 @@
 use Rattle.std.proofs.Common.{rules, ◌≡◌, subst}
-use Rattle.std.proofs.lemmas.Result.{err_from_is_err_and}
-use Rattle.sessions.specs.Writing.{HasBegun}
+use Rattle.jobs.proofs.Common.{HasBegun, err_from_is_err_and}
 use Rattle.jobs.specs.Races.{text_of_answer}
 use Rattle.jobs.proofs.answer.RaceAnswer.write.Goals as goal
 

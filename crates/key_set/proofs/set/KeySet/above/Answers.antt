@@ -1,6 +1,5 @@
 use Rattle.std.proofs.Common.{◌∙◌, rules, subst, sym}
-use Rattle.spans.specs.KeyOrder.{key_lt}
-use Rattle.spans.proofs.Keyed.{RisingKeys, filter_rises}
+use Rattle.key_set.proofs.Common.{RisingKeys, filter_rises, key_lt}
 use Rattle.key_set.proofs.Sets.{all_above, rising_all}
 use Rattle.key_set.proofs.set.KeySet.above.Goals as goal
 

@@ -1,8 +1,7 @@
 use Rattle.std.proofs.Common.{◌∙◌, ap, sym}
 use Rattle.std.proofs.lemmas.Result.{on_err_weaker}
 use Rattle.std.specs.Prelude.{not}
-use Rattle.spans.proofs.WriteSets.{has}
-use Rattle.spans.proofs.Results.{any_err}
+use Rattle.key_set.proofs.Common.{any_err, has}
 use Rattle.key_set.proofs.Sets.{found_above, found_at, in_ok, none_below, rises_above, rises_below, rising_is, whole_is}
 use Rattle.key_set.proofs.set.KeySet.add.Goals as goal
 

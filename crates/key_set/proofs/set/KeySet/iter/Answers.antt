@@ -1,10 +1,8 @@
 use Rattle.std.proofs.Common.{◌∙◌, ap, subst, sym}
-use Rattle.spans.proofs.Keyed.{RisingKeys}
-use Rattle.spans.proofs.Sets.{all_within}
+use Rattle.key_set.proofs.Common.{RisingKeys, all_within, key_cmp}
 use Rattle.key_set.specs.Sets.{keys_in}
 use Rattle.key_set.proofs.Sets.{rising_all}
 use Rattle.key_set.proofs.set.KeySet.iter.Goals as goal
-use Rattle.timestamps.specs.Bytes.{key_cmp}
 
 pub returns-clause-keys : goal.returns-clause-keys
 returns-clause-keys c = c.of.ensures ∙ ap (λ o. keys_in o c.range.result) c.as_ref.ensures.value ∙ ap (keys_in c.self.inside.least) (c.range.ensures.between tt ∙ all_within key_cmp c.self.inside.others.keys) ∙ c.self.view_is

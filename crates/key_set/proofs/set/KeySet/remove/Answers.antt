@@ -1,8 +1,6 @@
 use Rattle.std.proofs.Common.{◌∷◌, ◌∙◌, ap, subst, sym}
 use Rattle.std.specs.Prelude.{bytes_eq}
-use Rattle.std.specs.Set.{remove_key}
-use Rattle.spans.proofs.Keyed.{RisingKeys}
-use Rattle.spans.proofs.WriteSets.{has}
+use Rattle.key_set.proofs.Common.{RisingKeys, has, remove_key}
 use Rattle.key_set.specs.Sets.{AreInOrder, keys_in}
 use Rattle.key_set.proofs.Sets.{found_above, found_at, none_below, none_taken, rising_is, taken_above, taken_first, taken_found, taken_rises, whole_is}
 use Rattle.key_set.proofs.set.KeySet.remove.Goals as goal

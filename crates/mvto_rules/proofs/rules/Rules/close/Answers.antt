@@ -1,7 +1,5 @@
 use Rattle.std.proofs.Common.{ap, arith, rules, subst, sym, ◌≤◌, ◌∙◌}
-use Rattle.std.proofs.lemmas.Bool.Decides.{nat_tests}
-use Rattle.timestamps.specs.declared.ts.TheConstants.{MAX}
-use Rattle.closing.specs.Standing.{closed_in, made_in, protections_in}
+use Rattle.mvto_rules.proofs.Common.{MAX, closed_in, made_in, nat_tests, protections_in}
 use Rattle.mvto_rules.specs.Closings.{AreMarksForgotten}
 use Rattle.mvto_rules.specs.Holding.{holding}
 use Rattle.mvto_rules.proofs.Closing.{close_done, close_outside, closed_so}

@@ -1,11 +1,7 @@
 use Rattle.std.specs.Prelude.{nat_lt}
-use Rattle.kept.specs.Changes.{IsClosedAt}
+use Rattle.mvto_rules.proofs.Common.{IsClosedAt, MAX, closed_in, is_committed_in, made_in, nat_tests, protections_in, version_in}
 use Rattle.mvto_rules.proofs.Noting.{same_marks}
 use Rattle.std.proofs.Common.{ap, arith, ◌&&◌, rules, subst, sym, ◌≤◌, ◌∙◌}
-use Rattle.std.proofs.lemmas.Bool.Decides.{nat_tests}
-use Rattle.timestamps.specs.declared.ts.TheConstants.{MAX}
-use Rattle.closing.specs.Standing.{closed_in, made_in, protections_in}
-use Rattle.version_chain.specs.Stores.{is_committed_in, version_in}
 use Rattle.mvto_rules.specs.Closings.{AreMarksForgotten}
 use Rattle.mvto_rules.specs.Holding.{holding}
 use Rattle.mvto_rules.proofs.Closing.{closed_so, hard_closed, hard_done, hard_outside}

@@ -1,12 +1,8 @@
 use Rattle.std.proofs.Common.{ap, arith, rules, ◌≡◌, ◌≤◌, ◌∙◌}
 use Rattle.std.specs.Prelude.{max, min}
-use Rattle.std.proofs.lemmas.Bool.Decides.{nat_tests}
-use Rattle.timestamps.specs.declared.ts.TheConstants.{MAX}
-use Rattle.closing.specs.Standing.{closed_in}
-use Rattle.kept.specs.Collecting.{reached}
+use Rattle.mvto_rules.proofs.Common.{MAX, closed_in, is_committed_in, nat_tests, reached, version_in}
 use Rattle.mvto_rules.specs.Holding.{holding}
 use Rattle.mvto_rules.proofs.Collections.{collect_done, collect_outside, held_back}
-use Rattle.version_chain.specs.Stores.{is_committed_in, version_in}
 use Rattle.mvto_rules.proofs.Noting.{same_marks}
 use Rattle.mvto_rules.proofs.rules.Rules.collect.Goals as goal
 

@@ -1,8 +1,7 @@
 use Rattle.std.proofs.Common.{ap, cond, ◌&&◌, ◌∙◌}
 use Rattle.std.specs.Prelude.{None, nat_lt}
 use std.Path.{fun_ext}
-use Rattle.version_chain.specs.Stores.{is_committed_in, marked_in}
-use Rattle.txn_table.specs.TransactionIn.{transaction_in}
+use Rattle.mvto_rules.proofs.Common.{is_committed_in, marked_in, transaction_in}
 use Rattle.mvto_rules.specs.Holding.{holding, marked_of, transactions_of}
 use Rattle.mvto_rules.proofs.rules.Rules.forget_closed.Goals as goal
 

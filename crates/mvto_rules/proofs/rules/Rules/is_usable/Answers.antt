@@ -1,8 +1,7 @@
 use Rattle.std.proofs.Common.{ap, not, sym, ◌≡◌, ◌∙◌, ℕ}
 use Rattle.std.specs.Prelude.{Err, IfErr, None, Ok, OnOk, Result, Some, is_some}
 use Rattle.std.specs.Result.{is_ok}
-use Rattle.spans.specs.declared.calls.replies.Refusal.{Refusal}
-use Rattle.kept.specs.Table.{refusal}
+use Rattle.mvto_rules.proofs.Common.{Refusal, refusal}
 use Rattle.mvto_rules.specs.Holding.{Holds}
 use Rattle.mvto_rules.specs.declared.rules.Rules.{Rules}
 use Rattle.mvto_rules.proofs.rules.Rules.is_usable.Goals as goal

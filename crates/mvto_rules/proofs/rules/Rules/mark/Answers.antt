@@ -1,6 +1,5 @@
-use Rattle.std.proofs.lemmas.Result.{on_err_weaker, on_ok_weaker}
+use Rattle.mvto_rules.proofs.Common.{on_err_weaker, on_ok_weaker, version_in}
 use Rattle.mvto_rules.proofs.Noting.{gap_read, past_until, stays}
-use Rattle.version_chain.specs.Stores.{version_in}
 use Rattle.mvto_rules.proofs.rules.Rules.mark.Goals as goal
 
 pub mark-requires-clause-high : goal.mark-requires-clause-high

@@ -1,11 +1,5 @@
 use Rattle.std.proofs.Common.{ap, arith, refl, subst, sym, ◌<◌, ◌∙◌}
-use Rattle.std.specs.Option.{option_copied}
-use Rattle.spans.specs.Legal.{is_accepted}
-use Rattle.spans.specs.declared.calls.replies.Reply.TheVariants.{Found}
-use Rattle.spans.proofs.Results.{any_err}
-use Rattle.kept.specs.Changes.{IsReadBy}
-use Rattle.kept.specs.Finding.{seen}
-use Rattle.version_chain.specs.Stores.{is_committed_in, version_in}
+use Rattle.mvto_rules.proofs.Common.{Found, IsReadBy, any_err, is_accepted, is_committed_in, option_copied, seen, version_in}
 use Rattle.mvto_rules.specs.Holding.{holding}
 use Rattle.mvto_rules.specs.Sights.{sight_of}
 use Rattle.mvto_rules.proofs.Noting.{own_is_read}

@@ -1,6 +1,5 @@
 use Rattle.std.proofs.Common.{ap, arith, sym, ◌∙◌}
-use Rattle.spans.proofs.Results.{any_err}
-use Rattle.closing.specs.Standing.{closed_in, made_in, protections_in}
+use Rattle.mvto_rules.proofs.Common.{any_err, closed_in, made_in, protections_in}
 use Rattle.mvto_rules.specs.Holding.{holding}
 use Rattle.mvto_rules.proofs.AtClosed.{none_unless, protect_done, protect_outside, protect_refused, protect_wanting}
 use Rattle.mvto_rules.proofs.rules.Rules.try_protect.Goals as goal

@@ -1,6 +1,5 @@
 use Rattle.std.proofs.Common.{None, subst, ◌≡◌, ◌∙◌}
-use Rattle.spans.proofs.Results.{any_err}
-use Rattle.kept.specs.Changes.{IsScannedBy}
+use Rattle.mvto_rules.proofs.Common.{IsScannedBy, any_err}
 use Rattle.mvto_rules.specs.Holding.{holding}
 use Rattle.mvto_rules.specs.Readings.{IsReading}
 use Rattle.mvto_rules.specs.Scans.{first_blocker, keys_in}

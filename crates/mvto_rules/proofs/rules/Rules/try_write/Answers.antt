@@ -1,16 +1,8 @@
 use Rattle.std.proofs.Common.{ap, false, subst, sym, true, ◌≡◌, ◌∙◌}
-use Rattle.std.specs.Option.{option_copied}
-use Rattle.spans.specs.Legal.{is_accepted}
-use Rattle.spans.specs.declared.calls.replies.Reply.TheVariants.{Written}
-use Rattle.spans.proofs.Results.{any_err}
-use Rattle.kept.specs.Changes.{IsAbortedBy}
-use Rattle.kept.specs.Replies.{unless_refused}
+use Rattle.mvto_rules.proofs.Common.{IsAbortedBy, IsCrossedIn, IsWrittenTo, Written, any_err, is_accepted, is_committed_in, option_copied, unless_refused, version_in}
 use Rattle.version_chain.specs.declared.store.Wrote.TheVariants.{Crossed, Done}
-use Rattle.version_chain.specs.Marking.{IsCrossedIn}
-use Rattle.version_chain.specs.Stores.{IsWrittenTo}
 use Rattle.mvto_rules.specs.Holding.{holding}
 use Rattle.mvto_rules.proofs.Replies.{write_refused, write_tested}
-use Rattle.version_chain.specs.Stores.{is_committed_in, version_in}
 use Rattle.mvto_rules.proofs.Noting.{is_late, isnt_late, same_held, same_marks}
 use Rattle.mvto_rules.proofs.rules.Rules.try_write.Goals as goal
 

@@ -1,9 +1,7 @@
 use Rattle.std.proofs.Common.{◌≡◌, List, [], ◌∷◌, ◌++◌, length, map, refl, sym, ◌∙◌, ap, subst}
 use Rattle.std.proofs.lemmas.Iterator.Adapters.{YieldsList-from_vec}
 use Rattle.std.proofs.lemmas.Iterator.Consumers.{YieldsList-end, YieldsList-turn}
-use Rattle.std.proofs.lemmas.List.Elements.{All-get_or, AllZip-push}
-use Rattle.spans.specs.declared.report.FeedReport.{FeedReport}
-use Rattle.plain_feeds.specs.FeedTie.{IsOpened}
+use Rattle.plain_database.proofs.Common.{All-get_or, AllZip-push, FeedReport, IsOpened}
 use Rattle.plain_database.specs.Reports.{AreCounted, IsCounted}
 use Rattle.plain_database.proofs.database.PlainDatabase.all_counted.Goals as goal
 

@@ -1,6 +1,5 @@
 use Rattle.std.proofs.Common.{sym, ap}
-use Rattle.spans.specs.Legal.{is_accepted}
-use Rattle.spans.proofs.Results.{any_err}
+use Rattle.plain_database.proofs.Common.{any_err, is_accepted}
 use Rattle.plain_database.proofs.Replies.{get_none, get_found, get_blocked}
 use Rattle.plain_database.proofs.database.PlainDatabase.answer_get.Goals as goal
 

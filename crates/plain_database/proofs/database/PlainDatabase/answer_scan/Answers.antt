@@ -1,7 +1,5 @@
 use Rattle.std.proofs.Common.{refl, sym, ap}
-use Rattle.spans.specs.Effects.{effects_of}
-use Rattle.spans.specs.Legal.{is_accepted}
-use Rattle.spans.proofs.Results.{any_err}
+use Rattle.plain_database.proofs.Common.{any_err, effects_of, is_accepted}
 use Rattle.plain_database.specs.Replies.{rows_seen}
 use Rattle.plain_database.proofs.ScanReplies.{scan_blocked, scan_found}
 use Rattle.plain_database.proofs.database.PlainDatabase.answer_scan.Goals as goal

@@ -1,7 +1,6 @@
 use Rattle.std.proofs.Common.{◌∙◌, ap, sym}
 use Rattle.std.specs.Prelude.{option_map}
-use Rattle.spans.specs.declared.calls.replies.Refusal.TheVariants.{Blocked}
-use Rattle.spans.specs.Effects.{effects_of}
+use Rattle.plain_database.proofs.Common.{Blocked, effects_of}
 use Rattle.plain_database.proofs.Scanning.{blocked_is}
 use Rattle.plain_database.proofs.database.PlainDatabase.blocked_in.Goals as goal
 

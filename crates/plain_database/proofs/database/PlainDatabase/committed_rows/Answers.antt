@@ -1,7 +1,5 @@
 use Rattle.std.proofs.Common.{◌∙◌}
-use Rattle.std.proofs.lemmas.Result.{IfOk-weaker}
-use Rattle.spans.specs.Effects.{effects_of}
-use Rattle.spans.proofs.Legal.{legal_allowed}
+use Rattle.plain_database.proofs.Common.{IfOk-weaker, effects_of, legal_allowed}
 use Rattle.plain_database.proofs.Scanning.{committed_rows_are}
 use Rattle.plain_database.proofs.database.PlainDatabase.committed_rows.Goals as goal
 

@@ -1,9 +1,5 @@
 use Rattle.std.proofs.Common.{◌≡◌, ◌≤◌, ◌∙◌, ap, arith}
-use Rattle.timestamps.specs.declared.ts.TheConstants.{MAX}
-use Rattle.spans.specs.Effects.{effects_of}
-use Rattle.restarts.specs.Dump.{mark_of}
-use Rattle.restarts.specs.Rows.{left_rows}
-use Rattle.restarts.proofs.InRange.{has_mark}
+use Rattle.plain_database.proofs.Common.{MAX, effects_of, has_mark, left_rows, mark_of}
 use Rattle.plain_database.proofs.database.PlainDatabase.dump.Goals as goal
 
 pub returns : goal.returns

@@ -1,7 +1,5 @@
 use Rattle.std.proofs.Common.{subst, sym}
-use Rattle.std.proofs.lemmas.Result.{IfOk-weaker}
-use Rattle.spans.specs.Effects.{effects_of}
-use Rattle.spans.specs.Report.{AreFeeds}
+use Rattle.plain_database.proofs.Common.{AreFeeds, IfOk-weaker, effects_of}
 use Rattle.plain_database.proofs.Reporting.{feeds_counted}
 use Rattle.plain_database.proofs.database.PlainDatabase.feed_reports.Goals as goal
 

@@ -1,11 +1,6 @@
 use Rattle.std.proofs.Common.{◌≡◌, ◌≤◌, ◌∙◌, ap, arith, sym, subst}
-use Rattle.std.proofs.lemmas.Result.{IfOk-weaker}
+use Rattle.plain_database.proofs.Common.{IfOk-weaker, MAX, all_keys, effects_of, is_left, left_rows, legal_allowed, stream_of}
 use Rattle.std.specs.Prelude.{filter}
-use Rattle.timestamps.specs.declared.ts.TheConstants.{MAX}
-use Rattle.spans.specs.Effects.{effects_of}
-use Rattle.spans.specs.Streams.{stream_of}
-use Rattle.spans.proofs.Legal.{legal_allowed}
-use Rattle.restarts.specs.Rows.{all_keys, is_left, left_rows}
 use Rattle.plain_database.specs.Answering.{AfterEach}
 use Rattle.plain_database.specs.Dumps.{AreCommitted, AreLeftOf}
 use Rattle.plain_database.proofs.Dumping.{stream_rows, streamed_committed}

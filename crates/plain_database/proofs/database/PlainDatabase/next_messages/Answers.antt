@@ -1,14 +1,5 @@
 use Rattle.std.proofs.Common.{◌≡◌, ◌≤◌, ◌∙◌, Option, Some, subst, refl, arith}
-use Rattle.std.proofs.lemmas.Bool.{both_ways}
-use Rattle.std.proofs.lemmas.Result.{IfOk-weaker}
-use Rattle.timestamps.specs.declared.ts.TheConstants.{MAX}
-use Rattle.spans.specs.Effects.{effects_of}
-use Rattle.spans.specs.Feeds.{feed_of, told_to}
-use Rattle.spans.specs.Transactions.{closed_of}
-use Rattle.spans.proofs.Feeding.{feeding}
-use Rattle.spans.proofs.Legal.{legal_allowed}
-use Rattle.plain_feeds.specs.declared.record.FeedRecord.{FeedRecord}
-use Rattle.plain_feeds.specs.Records.{IsToldIn}
+use Rattle.plain_database.proofs.Common.{FeedRecord, IfOk-weaker, IsToldIn, MAX, both_ways, closed_of, effects_of, feed_of, feeding, legal_allowed, told_to}
 use Rattle.plain_database.proofs.ClosedRange.{closed_in_range}
 use Rattle.plain_database.proofs.Scanning.{committed_is}
 use Rattle.plain_database.proofs.PollSteps.{nothing_closed, nothing_next, rows_of_record}

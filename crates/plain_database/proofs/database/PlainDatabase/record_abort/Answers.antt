@@ -1,6 +1,5 @@
 use Rattle.std.proofs.Common.{refl}
-use Rattle.spans.specs.declared.calls.commands.Cmd.TheVariants.{Abort}
-use Rattle.spans.specs.declared.calls.replies.Reply.TheVariants.{Aborted}
+use Rattle.plain_database.proofs.Common.{Abort, Aborted}
 use Rattle.plain_database.proofs.Events.{stands_aborts}
 use Rattle.plain_database.proofs.database.PlainDatabase.record_abort.Goals as goal
 

@@ -1,8 +1,5 @@
 use Rattle.std.proofs.Common.{None, refl, sym}
-use Rattle.std.proofs.lemmas.Result.{on_ok_weaker}
-use Rattle.spans.specs.declared.calls.commands.Cmd.TheVariants.{Del}
-use Rattle.spans.specs.declared.calls.replies.Reply.TheVariants.{Refused, Written}
-use Rattle.spans.specs.declared.calls.replies.Refusal.TheVariants.{TooLate}
+use Rattle.plain_database.proofs.Common.{Del, Refused, TooLate, Written, on_ok_weaker}
 use Rattle.plain_database.proofs.Events.{stands_writes, stands_aborts, late_is, stands_still, del_does_nothing}
 use Rattle.plain_database.proofs.database.PlainDatabase.record_del.Goals as goal
 

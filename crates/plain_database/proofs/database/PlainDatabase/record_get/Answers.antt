@@ -1,5 +1,4 @@
-use Rattle.std.proofs.lemmas.Result.{on_ok_weaker}
-use Rattle.spans.specs.declared.calls.commands.Cmd.TheVariants.{Get}
+use Rattle.plain_database.proofs.Common.{Get, on_ok_weaker}
 use Rattle.plain_database.proofs.Events.{stands_reads, stands_still, get_does_nothing}
 use Rattle.plain_database.proofs.database.PlainDatabase.record_get.Goals as goal
 

@@ -1,8 +1,5 @@
 use Rattle.std.proofs.Common.{◌≡◌, Some, refl, sym}
-use Rattle.std.proofs.lemmas.Result.{on_ok_weaker}
-use Rattle.spans.specs.declared.calls.commands.Cmd.TheVariants.{Put}
-use Rattle.spans.specs.declared.calls.replies.Reply.TheVariants.{Refused, Written}
-use Rattle.spans.specs.declared.calls.replies.Refusal.TheVariants.{TooLate}
+use Rattle.plain_database.proofs.Common.{Put, Refused, TooLate, Written, on_ok_weaker}
 use Rattle.plain_database.proofs.Events.{stands_writes, stands_aborts, late_is, stands_still, put_does_nothing}
 use Rattle.plain_database.proofs.database.PlainDatabase.record_put.Goals as goal
 

@@ -1,6 +1,4 @@
-use Rattle.std.proofs.lemmas.Result.{on_ok_weaker}
-use Rattle.spans.specs.declared.calls.commands.Cmd.TheVariants.{Scan}
-use Rattle.spans.specs.Effects.{effects_of}
+use Rattle.plain_database.proofs.Common.{Scan, effects_of, on_ok_weaker}
 use Rattle.plain_database.proofs.SpanReads.{source_visible}
 use Rattle.plain_database.proofs.Events.{stands_scans, stands_still, scan_does_nothing}
 use Rattle.plain_database.proofs.database.PlainDatabase.record_scan.Goals as goal

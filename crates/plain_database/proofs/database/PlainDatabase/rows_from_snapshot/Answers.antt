@@ -1,9 +1,5 @@
 use Rattle.std.proofs.Common.{◌≡◌, ◌-◌, ◌≤◌, None, ◌∙◌, ap, subst, take, length, arith}
-use Rattle.std.specs.Option.{option_copied}
-use Rattle.spans.specs.Transactions.{closed_of}
-use Rattle.spans.proofs.Feeding.{feeding}
-use Rattle.plain_feeds.specs.Records.{feed_part}
-use Rattle.plain_versions.specs.Streams.{AreRowsAfter}
+use Rattle.plain_database.proofs.Common.{AreRowsAfter, closed_of, feed_part, feeding, option_copied}
 use Rattle.plain_database.proofs.LeftRows.{both_first, is_in_snapshot, snapshot_left}
 use Rattle.plain_database.proofs.database.PlainDatabase.rows_from_snapshot.Goals as goal
 

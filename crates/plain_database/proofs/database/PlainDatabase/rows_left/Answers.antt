@@ -1,7 +1,5 @@
 use Rattle.std.proofs.Common.{◌∙◌, ap, subst, take}
-use Rattle.std.specs.Option.{option_copied}
-use Rattle.std.proofs.lemmas.Result.{IfOk-weaker}
-use Rattle.plain_versions.specs.Streams.{AreRowsAfter}
+use Rattle.plain_database.proofs.Common.{AreRowsAfter, IfOk-weaker, option_copied}
 use Rattle.plain_database.proofs.LeftRows.{stream_left}
 use Rattle.plain_database.proofs.database.PlainDatabase.rows_left.Goals as goal
 

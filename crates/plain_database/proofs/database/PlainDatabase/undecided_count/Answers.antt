@@ -1,5 +1,4 @@
-use Rattle.spans.specs.Effects.{effects_of}
-use Rattle.spans.proofs.Legal.{legal_allowed}
+use Rattle.plain_database.proofs.Common.{effects_of, legal_allowed}
 use Rattle.plain_database.proofs.Undecided.{open_count}
 use Rattle.plain_database.proofs.database.PlainDatabase.undecided_count.Goals as goal
 

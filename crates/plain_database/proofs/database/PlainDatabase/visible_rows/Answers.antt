@@ -1,6 +1,5 @@
 use Rattle.std.proofs.Common.{◌∙◌}
-use Rattle.std.proofs.lemmas.Result.{IfOk-weaker}
-use Rattle.spans.specs.Effects.{effects_of}
+use Rattle.plain_database.proofs.Common.{IfOk-weaker, effects_of}
 use Rattle.plain_database.proofs.Scanning.{visible_rows_are}
 use Rattle.plain_database.proofs.database.PlainDatabase.visible_rows.Goals as goal
 

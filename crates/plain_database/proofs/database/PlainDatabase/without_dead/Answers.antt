@@ -1,6 +1,5 @@
 use Rattle.std.proofs.Common.{◌∙◌, ◌++◌, ◌∷◌, [], ap, false, true, sym}
-use Rattle.spans.specs.Effects.{effects_of}
-use Rattle.timestamps.specs.declared.row.Row.{Row}
+use Rattle.plain_database.proofs.Common.{Row, effects_of}
 use Rattle.plain_database.proofs.Dumping.{left_more}
 use Rattle.plain_database.proofs.database.PlainDatabase.without_dead.Goals as goal
 use Rattle.plain_database.proofs.database.PlainDatabase.without_dead.Goals.{then-is_left+in_ok-copy+in_ok-push, else-is_left}

@@ -1,6 +1,5 @@
 use Rattle.std.proofs.Common.{ap, sym, ◌∙◌, ◌||◌}
-use Rattle.std.specs.BTreeMap.{insert_entry}
-use Rattle.std.specs.Ordering.{nat_cmp}
+use Rattle.plain_database.proofs.Common.{insert_entry, nat_cmp}
 use Rattle.plain_database.specs.Reads.{is_read_across, lies_between, least_source}
 use Rattle.plain_database.proofs.Reading.{one_more_reader}
 use Rattle.plain_database.proofs.readers.Readers.add.Goals as goal

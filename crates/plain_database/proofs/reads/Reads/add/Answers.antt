@@ -1,10 +1,6 @@
 use Rattle.std.proofs.Common.{ap, sym, subst, ◌∙◌, ◌≡◌, ◌||◌, Some}
 use Rattle.std.specs.Prelude.{is_some}
-use Rattle.std.specs.Map.{lookup}
-use Rattle.std.specs.BTreeMap.{is_at}
-use Rattle.std.proofs.lemmas.Map.Steps.{set_value_same}
-use Rattle.std.proofs.lemmas.Result.{on_ok_weaker, on_err_weaker}
-use Rattle.timestamps.specs.Bytes.{key_cmp}
+use Rattle.plain_database.proofs.Common.{is_at, key_cmp, lookup, on_err_weaker, on_ok_weaker, set_value_same}
 use Rattle.plain_database.specs.Reads.{HasReadToo, across_in, lies_between}
 use Rattle.plain_database.proofs.Reading.{ArePut, one_more_read}
 use Rattle.plain_database.proofs.reads.Reads.add.Goals as goal

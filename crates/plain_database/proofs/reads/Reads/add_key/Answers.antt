@@ -1,7 +1,5 @@
 use Rattle.std.proofs.Common.{ap, sym, subst, ◌∙◌, ◌≡◌, ◌||◌, None}
-use Rattle.std.specs.Map.{lookup}
-use Rattle.std.specs.BTreeMap.{is_at}
-use Rattle.timestamps.specs.Bytes.{key_cmp}
+use Rattle.plain_database.proofs.Common.{is_at, key_cmp, lookup}
 use Rattle.plain_database.specs.Reads.{HasReadToo, across_in, is_read_across, lies_between}
 use Rattle.plain_database.proofs.Reading.{ArePut, one_more_read}
 use Rattle.plain_database.proofs.reads.Reads.add_key.Goals as goal

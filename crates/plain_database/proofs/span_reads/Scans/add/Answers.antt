@@ -1,10 +1,6 @@
 use Rattle.std.proofs.Common.{ap, sym, ◌∙◌, ◌≡◌, ◌&&◌, ◌||◌, Some}
 use Rattle.std.specs.Prelude.{nat_lt}
-use Rattle.std.specs.Map.{lookup, set_value}
-use Rattle.std.specs.BTreeMap.{is_at}
-use Rattle.std.specs.Ordering.{nat_cmp}
-use Rattle.std.proofs.lemmas.Map.Steps.{set_value_same}
-use Rattle.std.proofs.lemmas.Result.{on_ok_weaker, on_err_weaker}
+use Rattle.plain_database.proofs.Common.{is_at, lookup, nat_cmp, on_err_weaker, on_ok_weaker, set_value, set_value_same}
 use Rattle.plain_database.specs.SpanReads.{is_scan_across, scan_goes_across, scan_of}
 use Rattle.plain_database.proofs.SpanReading.{later_scan}
 use Rattle.plain_database.proofs.span_reads.Scans.add.Goals as goal

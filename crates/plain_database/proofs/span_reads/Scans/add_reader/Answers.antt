@@ -1,8 +1,6 @@
 use Rattle.std.proofs.Common.{ap, sym, subst, ◌∙◌, ◌≡◌, ◌&&◌, ◌||◌, ◌++◌, ◌∷◌, [], None}
 use Rattle.std.specs.Prelude.{nat_lt}
-use Rattle.std.specs.Map.{lookup}
-use Rattle.std.specs.BTreeMap.{is_at, insert_entry}
-use Rattle.std.specs.Ordering.{nat_cmp}
+use Rattle.plain_database.proofs.Common.{insert_entry, is_at, lookup, nat_cmp}
 use Rattle.plain_database.specs.SpanReads.{is_scan_across, scan_goes_across}
 use Rattle.plain_database.proofs.SpanReading.{first_scan}
 use Rattle.plain_database.proofs.span_reads.Scans.add_reader.Goals as goal

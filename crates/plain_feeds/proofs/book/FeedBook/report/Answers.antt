@@ -1,6 +1,5 @@
 use Rattle.std.proofs.Common.{false, ◌∙◌, ap, subst, sym}
-use Rattle.std.proofs.lemmas.Result.{IfOk-weaker}
-use Rattle.spans.specs.Report.{AreFeeds}
+use Rattle.plain_feeds.proofs.Common.{AreFeeds, IfOk-weaker}
 use Rattle.plain_feeds.specs.Reports.{AreOpened, reports_in}
 use Rattle.plain_feeds.proofs.Reporting.{feeds_reported, opened_reported}
 use Rattle.plain_feeds.proofs.book.FeedBook.report.Goals as goal

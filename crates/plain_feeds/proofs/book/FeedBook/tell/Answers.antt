@@ -1,6 +1,5 @@
 use Rattle.std.proofs.Common.{◌≡◌, ◌-◌, ◌∷◌, length, ap, subst, sym, arith}
-use Rattle.std.proofs.lemmas.Result.{on_ok_weaker}
-use Rattle.spans.specs.Effects.{Polls}
+use Rattle.plain_feeds.proofs.Common.{Polls, on_ok_weaker}
 use Rattle.plain_feeds.specs.Records.{changed_at, telling}
 use Rattle.plain_feeds.specs.FeedTie.{FeedsTied}
 use Rattle.plain_feeds.proofs.FeedTies.{feeds_tell}

@@ -1,6 +1,5 @@
 use Rattle.std.proofs.Common.{sym, subst, ◌≡◌, [], Some}
-use Rattle.std.specs.BTreeMap.{insert_entry}
-use Rattle.timestamps.specs.Bytes.{key_cmp}
+use Rattle.plain_versions.proofs.Common.{insert_entry, key_cmp}
 use Rattle.plain_versions.specs.Chains.{versions_at, IsWritten}
 use Rattle.plain_versions.specs.Versions.{IsVersionSet}
 use Rattle.plain_versions.proofs.Changes.{IsPutAt, added}

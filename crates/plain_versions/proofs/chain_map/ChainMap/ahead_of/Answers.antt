@@ -1,11 +1,5 @@
 use Rattle.std.proofs.Common.{◌∙◌, ap, subst, rules, ◌≡◌}
-use Rattle.std.specs.BTreeMap.Range.{entries_between}
-use Rattle.std.specs.Map.{keys_of}
-use Rattle.std.specs.declared.ops.Bound.TheVariants.{Unbounded}
-use Rattle.timestamps.specs.Bytes.{key_cmp}
-use Rattle.spans.specs.Starting.{start_of}
-use Rattle.spans.proofs.Ascending.{rising_keys}
-use Rattle.spans.proofs.Keyed.{RisingKeys}
+use Rattle.plain_versions.proofs.Common.{RisingKeys, Unbounded, entries_between, key_cmp, keys_of, rising_keys, start_of}
 use Rattle.plain_versions.proofs.InSpans.{are_ahead}
 use Rattle.plain_versions.proofs.chain_map.ChainMap.ahead_of.Goals as goal
 

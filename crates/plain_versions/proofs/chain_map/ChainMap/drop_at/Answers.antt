@@ -1,8 +1,6 @@
 use Rattle.std.proofs.Common.{ap, sym, subst, ◌≡◌, ◌&&◌, ◌==◌, ℕ, List, Some, None, cond}
 use Rattle.std.specs.Prelude.{is_some, bytes_eq}
-use Rattle.std.specs.Map.{lookup}
-use Rattle.std.specs.BTreeMap.{is_at}
-use Rattle.timestamps.specs.Bytes.{key_cmp}
+use Rattle.plain_versions.proofs.Common.{is_at, key_cmp, lookup}
 use Rattle.plain_versions.specs.Chains.{or_none, version_at}
 use Rattle.plain_versions.specs.Versions.{IsVersionSet}
 use Rattle.plain_versions.proofs.Changes.{IsPutAt, version_put}

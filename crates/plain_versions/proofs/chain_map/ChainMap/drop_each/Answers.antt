@@ -1,9 +1,6 @@
 use Rattle.std.proofs.Common.{ap, sym, rules, refl, ◌∙◌, ◌==◌, ◌&&◌, List, ℕ, Option, None, cond}
 use Rattle.std.specs.Prelude.{bytes_eq}
-use Rattle.std.specs.BTreeMap.{is_at}
-use Rattle.std.specs.List.{list_any}
-use Rattle.timestamps.specs.Bytes.{key_cmp}
-use Rattle.spans.specs.Effects.{After}
+use Rattle.plain_versions.proofs.Common.{After, is_at, key_cmp, list_any}
 use Rattle.plain_versions.specs.Chains.{version_at}
 use Rattle.plain_versions.proofs.Changes.{dropped_next, nothing_next, other_way}
 use Rattle.plain_versions.proofs.chain_map.ChainMap.drop_each.Goals as goal

@@ -1,9 +1,5 @@
 use Rattle.std.proofs.Common.{◌≡◌, ◌==◌, ◌&&◌, ℕ, List, None, cond}
-use Rattle.std.specs.BTreeMap.{is_at}
-use Rattle.std.specs.BTreeSet.{contains}
-use Rattle.std.specs.List.{list_any}
-use Rattle.std.specs.Map.{keys_of}
-use Rattle.timestamps.specs.Bytes.{key_cmp}
+use Rattle.plain_versions.proofs.Common.{contains, is_at, key_cmp, keys_of, list_any}
 use Rattle.plain_versions.specs.Chains.{version_at}
 use Rattle.plain_versions.proofs.chain_map.ChainMap.drop_each.Given as goal
 

@@ -1,11 +1,7 @@
 use Rattle.std.proofs.Common.{ap, sym, ◌∙◌, subst, ◌≡◌, Some}
 use Rattle.std.specs.Prelude.{is_some}
-use Rattle.std.specs.Map.{lookup}
-use Rattle.std.specs.BTreeMap.{is_at}
+use Rattle.plain_versions.proofs.Common.{is_at, key_cmp, lookup, on_err_weaker, on_ok_weaker, rising_keys}
 use Rattle.std.proofs.lemmas.Map.Steps.{set_value_same}
-use Rattle.std.proofs.lemmas.Result.{on_ok_weaker, on_err_weaker}
-use Rattle.timestamps.specs.Bytes.{key_cmp}
-use Rattle.spans.proofs.Ascending.{rising_keys}
 use Rattle.plain_versions.specs.Chains.{IsWritten}
 use Rattle.plain_versions.proofs.Changes.{changed}
 use Rattle.plain_versions.proofs.chain_map.ChainMap.write.Goals as goal

@@ -1,8 +1,6 @@
 use Rattle.std.proofs.Common.{ap, arith, inl, inr, rules, ◌≡◌, ◌∙◌, List, ℕ}
 use Rattle.std.specs.Prelude.{is_some}
-use Rattle.std.specs.BTreeSet.{contains}
-use Rattle.std.proofs.lemmas.Result.{on_ok_weaker}
-use Rattle.timestamps.specs.Bytes.{key_cmp}
+use Rattle.plain_versions.proofs.Common.{contains, key_cmp, on_ok_weaker}
 use Rattle.plain_versions.specs.Chains.{version_at}
 use Rattle.plain_versions.proofs.AddedRows.{beside_added, far_beside, nothing_beside}
 use Rattle.plain_versions.proofs.chains.Chains.add_beside.Goals as goal

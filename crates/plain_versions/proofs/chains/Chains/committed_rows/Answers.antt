@@ -1,6 +1,5 @@
 use Rattle.std.proofs.Common.{ap, sym, ◌∙◌, ◌++◌}
-use Rattle.std.proofs.lemmas.List.{append-nil}
-use Rattle.spans.specs.Newest.{newest}
+use Rattle.plain_versions.proofs.Common.{append-nil, newest}
 use Rattle.plain_versions.specs.Chains.{Stored}
 use Rattle.plain_versions.specs.Versions.{Chain, settled}
 use Rattle.plain_versions.proofs.ByKey.{all_rows, rows_of}

@@ -1,8 +1,5 @@
 use Rattle.std.proofs.Common.{ap, sym, ◌∙◌, List, ℕ, Option, None, cond}
-use Rattle.std.specs.BTreeMap.{is_at}
-use Rattle.std.specs.List.{list_any}
-use Rattle.std.specs.Ordering.{nat_cmp}
-use Rattle.spans.specs.Effects.{After}
+use Rattle.plain_versions.proofs.Common.{After, is_at, list_any, nat_cmp}
 use Rattle.plain_versions.specs.Chains.{version_at}
 use Rattle.plain_versions.proofs.Changes.{gone_next}
 use Rattle.plain_versions.proofs.chains.Chains.drop_undecided.Goals as goal

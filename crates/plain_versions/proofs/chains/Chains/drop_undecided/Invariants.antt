@@ -1,8 +1,5 @@
 use Rattle.std.proofs.Common.{◌≡◌, ℕ, List, None, cond}
-use Rattle.std.specs.BTreeMap.{is_at}
-use Rattle.std.specs.List.{list_any}
-use Rattle.std.specs.Map.{keys_of}
-use Rattle.std.specs.Ordering.{nat_cmp}
+use Rattle.plain_versions.proofs.Common.{is_at, keys_of, list_any, nat_cmp}
 use Rattle.plain_versions.specs.Chains.{version_at}
 use Rattle.plain_versions.specs.Transactions.{is_undecided_at}
 use Rattle.plain_versions.proofs.chains.Chains.drop_undecided.Given as goal

@@ -1,7 +1,5 @@
 use Rattle.std.proofs.Common.{ap, subst, sym, ◌∙◌, ◌≡◌}
-use Rattle.std.specs.Map.{lookup}
-use Rattle.std.specs.BTreeMap.{is_at}
-use Rattle.timestamps.specs.Bytes.{key_cmp}
+use Rattle.plain_versions.proofs.Common.{is_at, key_cmp, lookup}
 use Rattle.plain_versions.specs.InSpans.{within}
 use Rattle.plain_versions.specs.Sources.{source_at}
 use Rattle.plain_versions.proofs.ByKey.{AreByKey, by_key, by_key_within, none_seen, source_more}

@@ -1,9 +1,5 @@
 use Rattle.std.proofs.Common.{◌≡◌, ℕ, List, None, true}
-use Rattle.std.specs.Map.{lookup}
-use Rattle.std.specs.BTreeMap.{is_at}
-use Rattle.timestamps.specs.Bytes.{key_cmp}
-use Rattle.spans.specs.Keys.{in_span}
-use Rattle.spans.specs.Newest.{newest}
+use Rattle.plain_versions.proofs.Common.{in_span, is_at, key_cmp, lookup, newest}
 use Rattle.plain_versions.specs.Chains.{version_at}
 use Rattle.plain_versions.specs.Sources.{source_at}
 use Rattle.plain_versions.proofs.ByKey.{AreByKey}

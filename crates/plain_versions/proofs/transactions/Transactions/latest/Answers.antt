@@ -1,6 +1,5 @@
 use Rattle.std.proofs.Common.{◌≡◌, ℕ, ◌≤◌, true, false, Option, Some, None, ap, inr, refl, arith}
-use Rattle.std.proofs.lemmas.Bool.Decides.{nat_tests}
-use Rattle.std.specs.Ordering.{is_lt, nat_cmp}
+use Rattle.plain_versions.proofs.Common.{is_lt, nat_cmp, nat_tests}
 use Rattle.std.specs.Prelude.{IsSome, is_some}
 use Rattle.plain_versions.proofs.transactions.Transactions.latest.Goals as goal
 

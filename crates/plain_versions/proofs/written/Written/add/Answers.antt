@@ -1,13 +1,7 @@
 use Rattle.std.proofs.Common.{rules, ap, sym, ◌≡◌, ◌∙◌, ◌||◌, Some, None}
-use Rattle.std.proofs.lemmas.List.{nil_from_length}
+use Rattle.plain_versions.proofs.Common.{is_at, key_cmp, list_any, lookup, nat_cmp, nil_from_length, one_more}
 use Rattle.std.specs.Prelude.{bytes_eq}
-use Rattle.std.specs.Map.{lookup}
-use Rattle.std.specs.BTreeMap.{is_at}
 use Rattle.std.specs.BTreeMap.Entry.{entry_value, map_with_value}
-use Rattle.std.specs.Ordering.{nat_cmp}
-use Rattle.std.specs.List.{list_any}
-use Rattle.timestamps.specs.Bytes.{key_cmp}
-use Rattle.spans.proofs.Sets.{one_more}
 use Rattle.plain_versions.specs.Written.{is_among}
 use Rattle.plain_versions.proofs.Listing.{listed_put}
 use Rattle.plain_versions.proofs.written.Written.add.Goals as goal

@@ -1,9 +1,6 @@
 use Rattle.std.proofs.Common.{ap, sym, ◌∙◌, Some, cond, false, ◌≡◌}
 use Rattle.std.specs.Prelude.{is_some, bytes_eq}
-use Rattle.std.specs.Map.{lookup}
-use Rattle.std.specs.BTreeMap.{is_at}
-use Rattle.std.specs.Ordering.{nat_cmp}
-use Rattle.spans.proofs.Sets.{one_less}
+use Rattle.plain_versions.proofs.Common.{is_at, lookup, nat_cmp, one_less}
 use Rattle.plain_versions.specs.Written.{is_among}
 use Rattle.plain_versions.proofs.Listing.{IsPutAt, unlisted}
 use Rattle.plain_versions.proofs.written.Written.remove.Goals as goal

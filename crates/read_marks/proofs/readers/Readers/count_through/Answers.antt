@@ -1,6 +1,5 @@
 use Rattle.std.proofs.Common.{get_or, arith}
-use Rattle.std.proofs.lemmas.Bool.{le-leb, lt-leb}
-use Rattle.std.proofs.lemmas.List.{get_or_default}
+use Rattle.read_marks.proofs.Common.{get_or_default, le-leb, lt-leb}
 use Rattle.read_marks.proofs.readers.Readers.count_through.Goals as goal
 
 pub loop-left-preserved : goal.loop-left-preserved

@@ -1,6 +1,5 @@
 use Rattle.std.proofs.Common.{refl, sym}
-use Rattle.std.proofs.lemmas.List.{nil_from_length}
-use Rattle.std.specs.Cmp.Lexicographic.{nat_list_cmp_total}
+use Rattle.read_marks.proofs.Common.{nat_list_cmp_total, nil_from_length}
 use Rattle.read_marks.proofs.Steps.{step_at-last, step_at-none, ComeFirst-reached}
 use Rattle.read_marks.proofs.span_marks.SpanMarks.latest_at.Goals as goal
 

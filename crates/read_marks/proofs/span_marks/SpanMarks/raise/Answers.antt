@@ -1,6 +1,5 @@
 use Rattle.std.proofs.Common.{false, refl, sym, ◌∙◌, ◌≡◌, ap, max}
-use Rattle.spans.specs.Keys.{in_span}
-use Rattle.spans.proofs.WriteSets.{has}
+use Rattle.read_marks.proofs.Common.{has, in_span}
 use Rattle.read_marks.specs.Spans.{lent, raised, reaches, step_at}
 use Rattle.read_marks.proofs.Raising.{picks, spanned, written_between}
 use Rattle.read_marks.proofs.Rising.{raised_range}

@@ -1,7 +1,5 @@
 use Rattle.std.proofs.Common.{◌≡◌, sym, ◌∙◌, ap, Some, None}
-use Rattle.std.specs.Map.{lookup, set_value}
-use Rattle.std.specs.BTreeMap.{is_at}
-use Rattle.timestamps.specs.Bytes.{key_cmp}
+use Rattle.read_marks.proofs.Common.{is_at, key_cmp, lookup, set_value}
 use Rattle.std.specs.Prelude.{bytes_eq}
 use Rattle.std.proofs.Common.{arith}
 use Rattle.read_marks.specs.Spans.{raised}

@@ -1,11 +1,6 @@
 use Rattle.std.proofs.Common.{◌≡◌, ℕ, List, ap, sym, ◌∙◌, None}
-use Rattle.std.specs.Cmp.Lexicographic.{nat_list_cmp_total}
-use Rattle.std.specs.Map.{lookup}
-use Rattle.std.specs.BTreeMap.{insert_entry, is_at}
-use Rattle.std.proofs.lemmas.Result.{on_err_weaker, on_ok_weaker}
+use Rattle.read_marks.proofs.Common.{insert_entry, is_at, key_cmp, lookup, nat_list_cmp_total, none_of, on_err_weaker, on_ok_weaker}
 use Rattle.std.proofs.lemmas.Map.{none_passes_from_lookup}
-use Rattle.timestamps.specs.Bytes.{key_cmp}
-use Rattle.spans.proofs.Steps.{none_of}
 use Rattle.read_marks.specs.Spans.{reaches, step_at}
 use Rattle.read_marks.proofs.Low.{either_way, low_alike}
 use Rattle.read_marks.proofs.Steps.{step-insert}

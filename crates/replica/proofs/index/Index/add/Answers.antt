@@ -1,11 +1,6 @@
 use Rattle.std.proofs.Common.{ap, sym, ◌≡◌, ◌∙◌, ◌||◌, Some, None, refl, rules, subst}
-use Rattle.std.proofs.lemmas.List.{nil_from_length}
+use Rattle.replica.proofs.Common.{is_at, key_cmp, list_any, lookup, nil_from_length, one_more}
 use Rattle.std.specs.Prelude.{bytes_eq, is_some}
-use Rattle.std.specs.List.{list_any}
-use Rattle.std.specs.Map.{lookup}
-use Rattle.std.specs.BTreeMap.{is_at}
-use Rattle.timestamps.specs.Bytes.{key_cmp}
-use Rattle.spans.proofs.Sets.{one_more}
 use Rattle.spans.proofs.Results.{any_err}
 use Rattle.replica.specs.Indexes.{is_among}
 use Rattle.replica.proofs.Listed.{ArePutAt, listed_put, listed_same}

@@ -1,7 +1,5 @@
 use Rattle.std.proofs.Common.{sym, ◌∙◌, ap}
-use Rattle.std.specs.Map.{lookup}
-use Rattle.std.specs.BTreeMap.{is_at}
-use Rattle.timestamps.specs.Bytes.{key_cmp}
+use Rattle.replica.proofs.Common.{is_at, key_cmp, lookup}
 use Rattle.replica.proofs.Keys.{keys_in_set}
 use Rattle.replica.proofs.index.Index.keys_of.Goals as goal
 

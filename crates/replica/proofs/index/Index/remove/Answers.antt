@@ -1,11 +1,6 @@
 use Rattle.std.proofs.Common.{ap, sym, ◌∙◌, Some, None, cond, false, rules, ◌≡◌}
-use Rattle.std.proofs.lemmas.List.{nil_from_length}
+use Rattle.replica.proofs.Common.{is_at, key_cmp, list_any, lookup, nil_from_length, one_less}
 use Rattle.std.specs.Prelude.{is_some, bytes_eq}
-use Rattle.std.specs.Map.{lookup}
-use Rattle.std.specs.BTreeMap.{is_at}
-use Rattle.std.specs.List.{list_any}
-use Rattle.timestamps.specs.Bytes.{key_cmp}
-use Rattle.spans.proofs.Sets.{one_less}
 use Rattle.replica.specs.Indexes.{is_among}
 use Rattle.replica.proofs.Listed.{ArePutAt, listed_less, put_at_twice}
 use Rattle.replica.proofs.index.Index.remove.Goals as goal

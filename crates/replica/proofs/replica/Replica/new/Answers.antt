@@ -1,7 +1,6 @@
 use Rattle.std.proofs.Common.{rules, ◌≡◌, true, false, sym, subst}
-use Rattle.std.proofs.lemmas.Bool.{both_ways}
+use Rattle.replica.proofs.Common.{KeysRise, both_ways}
 use Rattle.std.proofs.lemmas.Result.{err_from_is_err_and}
-use Rattle.spans.specs.Keys.{KeysRise}
 use Rattle.replica.specs.Starts.{AreInside}
 use Rattle.replica.proofs.replica.Replica.new.Goals as goal
 

@@ -30,15 +30,10 @@ use denote.Triple.Spec.{triple_of}
 use denote.Triple.Call.{calls_at}
 use denote.Triple.Table.{framed}
 use denote.Triple.Walked.{Stays, stay_dropped, walk_of, says, ends_at}
-use Rattle.std.proofs.alloc.Calls.{Goes-blank}
+use Rattle.ripsawbean.proofs.Common.{Goes-blank, box_in, box_out, box_owns, dict, ghosts, passed, proved_at}
 use Rattle.std.proofs.BoxSteps.Form as form
-use Rattle.std.proofs.BoxSteps.Steps.{box_out, box_in}
-use Rattle.std.proofs.raw_atomic.Walks.{proved_at}
-use Rattle.std.specs.Box.Ownership.{box_owns}
 use Rattle.std.specs.contracts.boxed.Box.into_raw as callee
 use Rattle.std.proofs.boxed.Box.into_raw.Met.{met}
-use Rattle.std.specs.contracts.impls.GlobalAllocator.TheImpl.{ghosts, dict}
-use Rattle.std.proofs.impls.GlobalAllocator.TheImpl.Met.{passed}
 use Rattle.ripsawbean.proofs.Destruct++none.drop.Code as drops
 use Rattle.ripsawbean.specs.Heap.{token}
 use Rattle.ripsawbean.proofs.Heap.{Z, LZ, lets_go, boxed, Boxed}

@@ -21,8 +21,7 @@ use denote.RawPtr.{Ptr, block_ptr, null_ptr, in_a_block}
 use denote.Signature.{plain, types_at}
 use denote.Steps.{nothing, peeks, heard}
 use denote.Triple.Walked.{Stays, stay_dropped, Goes-dropped, walk_of, says, ends_at}
-use Rattle.std.proofs.raw_atomic.Walks.{proved_at}
-use Rattle.std.specs.Box.Ownership.{box_owns}
+use Rattle.ripsawbean.proofs.Common.{box_owns, proved_at}
 use Rattle.embedded_replica.specs.contracts.consumer.Consumer.{the_row as R}
 use Rattle.ripsawbean.specs.Heap.{token}
 use Rattle.ripsawbean.specs.Handles.{keeps}

@@ -19,8 +19,7 @@ use denote.Memory.{lone}
 use denote.RawPtr.{Ptr, block_ptr, null_ptr, in_a_block}
 use denote.Steps.{nothing}
 use denote.Triple.Walked.{Stays, stay_dropped, Goes-dropped, walk_of, says, ends_at}
-use Rattle.std.proofs.raw_atomic.Walks.{proved_at}
-use Rattle.std.specs.Box.Ownership.{box_owns}
+use Rattle.ripsawbean.proofs.Common.{box_owns, proved_at}
 use Rattle.embedded_replica.specs.contracts.consumer.Consumer.{the_row as R}
 use Rattle.embedded_replica.proofs.consumer.Consumer.TheLaws.{the_row_laws}
 use Rattle.ripsawbean.specs.Heap.{token}

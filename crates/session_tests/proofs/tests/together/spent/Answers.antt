@@ -1,7 +1,5 @@
 use Rattle.std.proofs.Common.{◌≡◌, [], ◌∷◌, ◌++◌, rules}
-use Rattle.std.specs.Vec.Iter.{into_iter_items}
-use Rattle.std.proofs.lemmas.List.Elements.{All-same, All-push, All-rest}
-use Rattle.shared_db.specs.Seats.{IsOf}
+use Rattle.session_tests.proofs.Common.{All-push, All-rest, All-same, IsOf, into_iter_items}
 use Rattle.session_tests.proofs.Each.{at_place}
 use Rattle.session_tests.proofs.tests.together.spent.Goals as goal
 

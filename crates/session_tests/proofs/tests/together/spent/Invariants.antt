@@ -1,6 +1,5 @@
 use Rattle.std.proofs.Common.{All}
-use Rattle.std.specs.Vec.Iter.{into_iter_items}
-use Rattle.shared_db.specs.Seats.{IsOf}
+use Rattle.session_tests.proofs.Common.{IsOf, into_iter_items}
 use Rattle.session_tests.proofs.tests.together.spent.Given as goal
 
 abbrev pub invariant-loop-one : goal.invariant-loop-one

@@ -1,9 +1,7 @@
 use Rattle.std.proofs.Common.{◌≡◌, ◌∙◌, sym, subst, rules, [], ◌∷◌, ◌++◌, set}
-use Rattle.std.proofs.lemmas.Result.{IfOk-weaker, IfErr-weaker}
+use Rattle.sessions.proofs.Common.{IfErr-weaker, IfOk-weaker, IsAnswered, IsSpent}
 use mathlib.Core.Option.{some}
 use lib.ListN.{get_elem?}
-use Rattle.ticket_lock.specs.Turns.{IsSpent}
-use Rattle.shared_db.specs.Calls.{IsAnswered}
 use Rattle.sessions.specs.Made.{HasMade}
 use Rattle.sessions.proofs.Halves.{read_at}
 use Rattle.sessions.proofs.Seating.{lent, back}

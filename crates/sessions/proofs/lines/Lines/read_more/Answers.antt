@@ -1,7 +1,6 @@
 use Rattle.std.proofs.Common.{◌≡◌, ◌∙◌, ◌<◌, ◌≤◌, ◌-◌, ◌++◌, false, take, drop, length, sym, ap, arith, rules, List, ℕ}
 use Rattle.std.specs.Prelude.{◌==◌}
-use Rattle.std.proofs.lemmas.Bool.{eqb-false}
-use Rattle.std.proofs.lemmas.List.{length-take-le}
+use Rattle.sessions.proofs.Common.{eqb-false, length-take-le}
 use Rattle.sessions.specs.Devices.{Reads}
 use Rattle.sessions.specs.Waiting.{waiting}
 use Rattle.sessions.proofs.Blocks.{grown}

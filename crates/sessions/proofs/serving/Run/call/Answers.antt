@@ -1,6 +1,5 @@
 use Rattle.std.proofs.Common.{◌∙◌, refl, sym}
-use Rattle.std.proofs.lemmas.Result.{err_from_is_err_and}
-use Rattle.word_lines.specs.Commands.{command_line}
+use Rattle.sessions.proofs.Common.{command_line, err_from_is_err_and}
 use Rattle.sessions.proofs.Steps.{go_call, stop_untold, stop_spent}
 use Rattle.sessions.proofs.serving.Run.call.Goals as goal
 

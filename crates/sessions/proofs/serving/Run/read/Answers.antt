@@ -1,7 +1,5 @@
 use Rattle.std.proofs.Common.{◌≡◌, ◌∙◌, sym, ap, take, subst, List, ℕ, refl, Err, vec_len}
-use Rattle.word_lines.specs.Memory.{WantsMemory, byte_words_at}
-use Rattle.word_lines.specs.Reading.{command_at}
-use Rattle.word_lines.specs.Table.{table}
+use Rattle.sessions.proofs.Common.{WantsMemory, byte_words_at, command_at, table}
 use Rattle.sessions.specs.Waiting.{waiting}
 use Rattle.sessions.proofs.Steps.{stop_memory, stop_fault}
 use Rattle.sessions.proofs.serving.Run.read.Goals as goal

@@ -1,9 +1,7 @@
 use Rattle.std.proofs.Common.{ℕ, List, [], ◌∷◌, ◌++◌, reverse, sym, refl, ◌∙◌, subst}
-use Rattle.spans.specs.declared.calls.events.Event.{Event}
+use Rattle.shared_db.proofs.Common.{Engine, Event, found}
 use Rattle.spans.specs.Effects.{event}
-use Rattle.engine.specs.declared.Engine.{Engine}
 use Rattle.engine.specs.Engine as engines
-use Rattle.ticket_lock.specs.Seats.{found}
 use Rattle.shared_db.specs.History.{StandsFor}
 use Rattle.shared_db.proofs.Turning.{stands_more}
 use Rattle.shared_db.proofs.Answering.{made}

@@ -1,6 +1,5 @@
 use Rattle.std.proofs.Common.{arith}
-use Rattle.std.proofs.lemmas.List.{length-take-le}
-use Rattle.timestamps.specs.declared.key.TheConstants.{MAX_KEY_BYTES}
+use Rattle.spans.proofs.Common.{MAX_KEY_BYTES, length-take-le}
 use Rattle.spans.proofs.bound.Bound.of.Goals as goal
 
 pub slice_bounds-key_of-end : goal.slice_bounds-key_of-end

@@ -1,7 +1,6 @@
 use Rattle.std.proofs.Common.{◌≡◌, ◌*◌, ◌-◌, length, take, drop, ap, sym, subst, ◌∙◌, Option, Some}
 use Rattle.std.specs.Option.{MatchOption}
-use Rattle.std.proofs.lemmas.List.{length-drop}
-use Rattle.std.proofs.Math.Seq.{take-length}
+use Rattle.timestamps.proofs.Common.{length-drop, take-length}
 use Rattle.timestamps.specs.Words.{AreBytes, front_of}
 use Rattle.timestamps.proofs.Words.{chunk_word, take_bytes, word_padded}
 use Rattle.timestamps.proofs.few_bytes.FewBytes.word.Goals as goal

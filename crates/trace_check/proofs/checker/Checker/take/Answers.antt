@@ -1,6 +1,5 @@
 use Rattle.std.proofs.Common.{◌≡◌, ℕ, true, false, Option, reverse, refl, sym, ◌∙◌, subst}
-use Rattle.spans.proofs.Histories.{turned_more}
-use Rattle.plain_database.specs.Tied.{StandsFor}
+use Rattle.trace_check.proofs.Common.{StandsFor, turned_more}
 use Rattle.trace_check.specs.Traces.{IsInPlace}
 use Rattle.trace_check.proofs.TraceSteps.{last_more, trace_more, trace_place, trace_right, turned_few}
 use Rattle.trace_check.proofs.checker.Checker.take.Goals as goal

@@ -1,6 +1,5 @@
 use Rattle.std.proofs.Common.{ap, arith, insert, length, refl, ◌∙◌}
-use Rattle.std.proofs.lemmas.List.Edits.{length-insert}
-use Rattle.spans.proofs.Results.{any_err}
+use Rattle.version_chain.proofs.Common.{any_err, length-insert}
 use Rattle.version_chain.specs.declared.block.Block.{Block}
 use Rattle.version_chain.specs.Blocks.{all_in}
 use Rattle.version_chain.proofs.InBlocks.{has_place, insert_part, same_part, same_sound}

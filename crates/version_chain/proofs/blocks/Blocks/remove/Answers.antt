@@ -1,6 +1,5 @@
 use Rattle.std.proofs.Common.{ap, arith, length, remove, subst, sym, ◌∙◌}
-use Rattle.std.proofs.lemmas.List.{take-set}
-use Rattle.std.proofs.lemmas.List.Edits.{length-remove}
+use Rattle.version_chain.proofs.Common.{length-remove, take-set}
 use Rattle.version_chain.specs.declared.block.Block.{Block}
 use Rattle.version_chain.specs.Blocks.{AreNumbered, all_in}
 use Rattle.version_chain.proofs.InBlocks.{before_is, has_place, numbered_take, remove_part}

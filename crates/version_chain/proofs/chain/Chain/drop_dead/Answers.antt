@@ -1,7 +1,6 @@
 use Rattle.std.proofs.Common.{◌≡◌, ◌&&◌, ◌+◌, ◌∙◌, All, ap, arith, cond, drop, false, length, not, refl, subst, sym, take}
 use Rattle.std.specs.Prelude.{bytes_eq}
-use Rattle.std.specs.List.{filter}
-use Rattle.std.proofs.lemmas.List.Filters.{length-filter_both}
+use Rattle.version_chain.proofs.Common.{filter, length-filter_both}
 use Rattle.version_chain.specs.declared.chain.Version.{Version}
 use Rattle.version_chain.specs.Versions.{DoRise}
 use Rattle.version_chain.specs.Layout.{versions_in}

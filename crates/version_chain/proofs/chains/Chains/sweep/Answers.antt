@@ -1,6 +1,5 @@
 use Rattle.std.proofs.Common.{◌≡◌, ◌<◌, ◌⊎◌, ◌∙◌, arith, length, refl, sym, subst}
-use Rattle.std.proofs.lemmas.List.{length-set}
-use Rattle.read_marks.specs.Spans.{latest_in}
+use Rattle.version_chain.proofs.Common.{latest_in, length-set}
 use Rattle.version_chain.specs.declared.record.Record.{Record}
 use Rattle.version_chain.proofs.Sweeping.{all_swept, forgot_chains, forgot_marks, forgot_one, latest_left, spans_forgotten}
 use Rattle.version_chain.proofs.chains.Chains.sweep.Goals as goal

@@ -1,7 +1,6 @@
 use Rattle.std.proofs.Common.{◌≡◌, ◌<◌, ◌⊎◌, ℕ, List, [], length, true}
 use Rattle.std.specs.Prelude.{slice_index_or}
-use Rattle.read_marks.specs.Readers.{is_reader}
-use Rattle.read_marks.specs.Spans.{latest_in}
+use Rattle.version_chain.proofs.Common.{is_reader, latest_in}
 use Rattle.version_chain.specs.Chains.{HaveSameChains, HaveSameMarks}
 use Rattle.version_chain.specs.ByNumber.{readers_in}
 use Rattle.version_chain.specs.Records.{stored_of}

@@ -1,8 +1,6 @@
 use Rattle.std.proofs.Common.{List, false, refl, subst, sym, Some, ℕ, ◌≡◌}
 use Rattle.std.specs.Prelude.{is_none, slice_index_or, slice_set}
-use Rattle.std.specs.Option.{option_copied}
-use Rattle.spans.proofs.Results.{any_err}
-use Rattle.key_table.specs.Numbers.{IsOwn, number_in}
+use Rattle.version_chain.proofs.Common.{IsOwn, any_err, number_in, option_copied}
 use Rattle.version_chain.specs.declared.chain.Version.{Version}
 use Rattle.version_chain.specs.declared.chains.Chains.{Chains}
 use Rattle.version_chain.specs.declared.record.Record.{Record}

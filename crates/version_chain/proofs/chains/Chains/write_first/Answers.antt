@@ -1,7 +1,6 @@
 use Rattle.std.proofs.Common.{◌<◌, [], ◌∷◌, ◌∙◌, ap, arith, false, max, refl, Some}
 use Rattle.std.specs.Prelude.{is_none}
-use Rattle.std.specs.Option.{option_copied}
-use Rattle.spans.proofs.Results.{any_err}
+use Rattle.version_chain.proofs.Common.{any_err, option_copied}
 use Rattle.version_chain.specs.declared.chain.Version.{Version}
 use Rattle.version_chain.specs.Versions.{version_of}
 use Rattle.version_chain.specs.Records.{stored_of}

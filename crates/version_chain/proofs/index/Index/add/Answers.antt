@@ -1,9 +1,7 @@
 use Rattle.std.proofs.Common.{rules, ap, sym, ◌≡◌, ◌∙◌, ◌||◌, Some, refl}
 use Rattle.std.specs.Prelude.{bytes_eq}
-use Rattle.std.specs.Map.{lookup}
-use Rattle.std.specs.BTreeMap.{is_at}
+use Rattle.version_chain.proofs.Common.{is_at, lookup, nat_cmp}
 use Rattle.std.specs.BTreeMap.Entry.{entry_value, map_with_value}
-use Rattle.std.specs.Ordering.{nat_cmp}
 use Rattle.version_chain.specs.Indexes.{is_among}
 use Rattle.version_chain.proofs.Indexes.{added_some, filled_after, listed_put, one_more}
 use Rattle.version_chain.proofs.index.Index.add.Goals as goal

@@ -1,11 +1,7 @@
 use Rattle.std.proofs.Common.{ap, sym, ◌∙◌, [], Some, None, cond, false, true, rules, subst, ◌≡◌}
 use Rattle.std.specs.Prelude.{is_some, bytes_eq}
-use Rattle.std.proofs.lemmas.Bool.{both_ways}
-use Rattle.std.specs.Map.{lookup}
+use Rattle.version_chain.proofs.Common.{both_ways, has, is_at, lookup, nat_cmp}
 use Rattle.std.specs.Set.{remove_key}
-use Rattle.std.specs.BTreeMap.{is_at}
-use Rattle.std.specs.Ordering.{nat_cmp}
-use Rattle.spans.proofs.WriteSets.{has}
 use Rattle.version_chain.specs.declared.index.Index.{Index}
 use Rattle.version_chain.specs.Indexes.{is_among}
 use Rattle.version_chain.proofs.Indexes.{ArePutAt, listed_less, put_at_twice, none_before, none_taken, taken_alike}

@@ -1,8 +1,6 @@
 use Rattle.std.proofs.Common.{ap, sym, ◌≡◌, ◌∙◌, ◌==◌, [], Some, cond}
 use Rattle.std.specs.Prelude.{is_some}
-use Rattle.std.specs.Map.{lookup}
-use Rattle.std.specs.BTreeMap.{is_at}
-use Rattle.std.specs.Ordering.{nat_cmp}
+use Rattle.version_chain.proofs.Common.{is_at, lookup, nat_cmp}
 use Rattle.version_chain.specs.Indexes.{is_among, is_listed}
 use Rattle.version_chain.proofs.Indexes.{ArePutAt, listed_where, taken_alone}
 use Rattle.version_chain.proofs.index.Index.take.Goals as goal

@@ -1,7 +1,5 @@
 use Rattle.std.proofs.Common.{◌≡◌, eq-eqb, refl, true, ◌==◌}
-use Rattle.std.specs.Option.{option_copied}
-use Rattle.std.proofs.lemmas.Bool.{both_ways}
-use Rattle.read_marks.specs.Readers.{is_kept, readers_of}
+use Rattle.version_chain.proofs.Common.{both_ways, is_kept, option_copied, readers_of}
 use Rattle.version_chain.proofs.Gaps.{match_copied, noted_on, room_there}
 use Rattle.version_chain.proofs.record.Record.note.Goals as goal
 

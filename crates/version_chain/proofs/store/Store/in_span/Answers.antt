@@ -1,8 +1,5 @@
 use Rattle.std.proofs.Common.{◌∙◌, ◌&&◌, ap, subst}
-use Rattle.std.specs.List.{filter}
-use Rattle.std.specs.Map.{keys_of}
-use Rattle.spans.specs.Keys.{in_span}
-use Rattle.spans.proofs.Keyed.{RisingKeys}
+use Rattle.version_chain.proofs.Common.{RisingKeys, filter, in_span, keys_of}
 use Rattle.version_chain.specs.Chains.{Entry, Stored, has_versions}
 use Rattle.version_chain.proofs.store.Store.in_span.Goals as goal
 
