@@ -1,14 +1,9 @@
 -- What a span holds at a timestamp, as rows at that timestamp, after a key.
 use Rattle.std.specs.Prelude.{Bool, List, None, Option, Some, [], if◌then◌else◌, is_some, take, true, ℕ, ◌∷◌, ◌↔◌, ◌≡◌}
-use Rattle.timestamps.specs.declared.row.Row.{Row}
+use Rattle.catch_up.specs.Prelude.{IsRowIn, RisingRows, Row, Span, Stored, Version, in_span, version_in}
 use Rattle.spans.specs.Effects.{After}
 use Rattle.spans.specs.KeyOrder.{key_lt}
-use Rattle.spans.specs.Keys.{in_span}
 use Rattle.spans.specs.Newest.{newest}
-use Rattle.spans.specs.declared.span.Span.{Span}
-use Rattle.spans.proofs.StreamOrder.{IsRowIn, RisingRows}
-use Rattle.version_chain.specs.declared.chain.Version.{Version}
-use Rattle.version_chain.specs.Stores.{Stored, version_in}
 
 -- the key is above that one, if there is one
 abbrev pub is_past : Option (List ℕ) → List ℕ → Bool

@@ -5,13 +5,9 @@ use Rattle.std.specs.Borrow.{Bor}
 use Rattle.std.specs.Ordering.{nat_cmp, ordering_then}
 use Rattle.std.specs.declared.cmp.Ordering.{Ordering}
 use Rattle.timestamps.specs.Bytes.{key_cmp}
-use Rattle.spans.specs.Keys.{in_span}
-use Rattle.spans.specs.declared.span.Span.{Span}
+use Rattle.catch_up.specs.Prelude.{IsLeft, Span, Stored, Version, in_span, is_before, is_committed}
 use Rattle.spans.proofs.Keyed.{IsIn}
-use Rattle.version_chain.specs.declared.chain.Version.{Version}
 use Rattle.version_chain.specs.Chains.{chain_of}
-use Rattle.version_chain.specs.Following.{IsLeft, is_before}
-use Rattle.version_chain.specs.Stores.{Stored, is_committed}
 use Rattle.version_chain.specs.Versions.{version_of}
 
 -- ---- of one chain

@@ -1,3 +1,4 @@
+pub mod Prelude
 pub mod Left
 pub mod Firsts
 pub mod Heads

@@ -1,4 +1,4 @@
-//! The rows after a place, read off the chains of a span's keys.
+//! The next rows after a place of a span with few keys, read off their chains.
 ghost use Rattle.std.specs.Prelude.{◌≡◌, ◌≤◌, ◌+◌, ℕ, [], IfOk, MatchOption, OnOk, Some, length, nat_lt};
 ghost use Rattle.catch_up.specs.Left.{AreNextIn};
 ghost use Rattle.version_chain.specs.Following.{is_before};

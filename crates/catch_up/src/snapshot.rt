@@ -1,4 +1,4 @@
-//! What a span holds at a timestamp.
+//! What a span holds at a timestamp, which a feed with an initial scan is told first.
 ghost use Rattle.std.specs.Prelude.{◌≡◌, ◌++◌, ℕ, List, true, ◌≤◌, IfOk, IfSome, OnOk};
 ghost use Rattle.std.specs.Option.{option_copied};
 ghost use Rattle.spans.specs.Keys.{in_span};

@@ -1,11 +1,7 @@
 -- Calls whose answer is to find room: the command is made of what a look at the history tells (this project's own).
 use Rattle.std.specs.Prelude.{ℕ, List, ◌≡◌, length, Result, Ok, Err}
-use Rattle.spans.specs.Effects.{effects_of}
-use Rattle.spans.specs.declared.calls.commands.Cmd.{Cmd}
+use Rattle.embedded.specs.Prelude.{Cmd, Event, Span, effects_of, poll_count, scan_end, up_to}
 use Rattle.spans.specs.declared.calls.commands.Cmd.TheVariants as command
-use Rattle.spans.specs.declared.calls.events.Event.{Event}
-use Rattle.spans.specs.declared.span.Span.{Span}
-use Rattle.engine.specs.Room.{poll_count, scan_end, up_to}
 use Rattle.embedded.specs.Embedded.{HasStepped}
 use Rattle.embedded.specs.declared.database.Database.{Database}
 use Rattle.embedded.specs.declared.bounded.Bounded.{Bounded}

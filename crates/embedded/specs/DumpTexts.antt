@@ -1,10 +1,6 @@
 -- How a piece of a dump is written, text by text (this project's own).
 use Rattle.std.specs.Prelude.{ℕ, List, [], ◌∷◌, ◌++◌, ◌-◌, ◌≡◌, if◌then◌else◌, length, min, nat_lt, Option, Some, None}
-use Rattle.timestamps.specs.declared.row.Row.{Row}
-use Rattle.spans.specs.Collection.{horizon_of}
-use Rattle.spans.specs.Effects.{Effect}
-use Rattle.restarts.specs.Dump.{mark_of}
-use Rattle.dump_lines.specs.Lines.{close_text, end_text, row_text}
+use Rattle.embedded.specs.Prelude.{Effect, Row, close_text, end_text, horizon_of, mark_of, row_text}
 use Rattle.embedded.specs.Dumping.{count_within, first_texts, fits, last_text, open_at, place_of, rows_behind, texts_through}
 use Rattle.embedded.specs.declared.dumping.DumpEnd.{DumpEnd}
 use Rattle.embedded.specs.declared.dumping.DumpPlace.{DumpPlace}

@@ -1,13 +1,8 @@
 -- The dump of the database that an embedded one holds, piece by piece (this project's own).
 use Rattle.std.specs.Prelude.{ℕ, suc, List, [], ◌∷◌, ◌++◌, ◌-◌, ◌≡◌, length, take, max, min, nat_le, nat_lt, if◌then◌else◌, Option, Some, None, option_map}
-use Rattle.std.specs.List.{concat}
-use Rattle.timestamps.specs.declared.row.Row.{Row}
-use Rattle.spans.specs.Collection.{horizon_of}
-use Rattle.spans.specs.Effects.{Effect}
+use Rattle.embedded.specs.Prelude.{Effect, Row, close_text, concat, end_text, horizon_of, lines_of, mark_of, row_text}
 use Rattle.spans.specs.declared.calls.commands.Cmd.TheVariants.{Close, Collect}
-use Rattle.restarts.specs.Dump.{mark_of}
 use Rattle.restarts.specs.Rows.{dump_commands, row_commands}
-use Rattle.dump_lines.specs.Lines.{close_text, end_text, lines_of, row_text}
 use Rattle.engine.specs.Dumping.{left_after}
 use Rattle.embedded.specs.declared.dumping.DumpPlace.{DumpPlace}
 use Rattle.embedded.specs.declared.dumping.DumpPiece.{DumpPiece}

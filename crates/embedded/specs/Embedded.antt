@@ -1,15 +1,9 @@
 -- What an embedded database holds, and what a call of a line does to it (this project's own).
 use Rattle.std.specs.Prelude.{ℕ, List, [], ◌∷◌, ◌≡◌, ◌⊎◌, length, reverse, Option, Some, None, Result, Ok, Err}
-use Rattle.spans.specs.declared.calls.commands.Cmd.{Cmd}
-use Rattle.spans.specs.declared.calls.events.Event.{Event}
+use Rattle.embedded.specs.Prelude.{Cmd, Event, Two, WantsMemory, byte_words_at, command_at, command_line, table}
 use Rattle.spans.specs.Legal.{IsLegal, IsGapless}
 use Rattle.engine.specs.Engine as engines
-use Rattle.text_format.specs.declared.Format.TheVariants.{Two}
-use Rattle.word_lines.specs.Commands.{command_line}
 use Rattle.word_lines.specs.Events.{event_text}
-use Rattle.word_lines.specs.Memory.{WantsMemory, byte_words_at}
-use Rattle.word_lines.specs.Reading.{command_at}
-use Rattle.word_lines.specs.Table.{table}
 use Rattle.embedded.specs.declared.database.Database.{Database}
 use Rattle.embedded.specs.declared.database.CallError.{CallError}
 use Rattle.embedded.specs.declared.database.CallError.TheVariants.{Fault, NoMemory, Spent, Unwritten}

@@ -1,12 +1,7 @@
 -- What an embedded database tells of what a seat holds (this project's own).
 use Rattle.std.specs.Prelude.{ℕ, List, ◌++◌, ◌==◌, ◌≡◌, false, filter, map}
-use Rattle.spans.specs.Effects.{effects_of}
-use Rattle.spans.specs.Report.{IsReport}
-use Rattle.spans.specs.declared.calls.events.Event.{Event}
-use Rattle.spans.specs.declared.report.FeedReport.{FeedReport}
+use Rattle.embedded.specs.Prelude.{Event, FeedReport, IsReport, Report, TransactionReport, effects_of}
 use Rattle.spans.specs.declared.report.ProtectionReport.{ProtectionReport}
-use Rattle.spans.specs.declared.report.Report.{Report}
-use Rattle.spans.specs.declared.report.TransactionReport.{TransactionReport}
 use Rattle.embedded.specs.declared.held.HeldRecord.{HeldRecord}
 
 -- a transaction: its timestamp, and how many keys it wrote

@@ -1,14 +1,7 @@
 -- The calls of several lines, one after another (this project's own).
 use Rattle.std.specs.Prelude.{ℕ, List, [], ◌∷◌, ◌++◌, ◌==◌, ◌≡◌, ◌≤◌, ◌<◌, ◌-◌, ◌⊎◌, ◌&&◌, Bool, true, false, not, length, map, drop, if◌then◌else◌, Result, Ok, Err}
-use Rattle.std.specs.List.{flat_map}
-use Rattle.spans.specs.declared.calls.events.Event.{Event}
-use Rattle.spans.specs.Effects.{Effect, effects_of}
-use Rattle.spans.specs.declared.calls.commands.Cmd.{Cmd}
-use Rattle.engine.specs.Room.{IsPoll, is_long}
-use Rattle.text_format.specs.declared.Format.TheVariants.{Two}
+use Rattle.embedded.specs.Prelude.{Cmd, Effect, Event, IsOwnPoll, Two, command_at, effects_of, flat_map, is_long, table}
 use Rattle.word_lines.specs.Faults.{code_of}
-use Rattle.word_lines.specs.Reading.{command_at}
-use Rattle.word_lines.specs.Table.{table}
 use Rattle.embedded.specs.Embedded.{StandsFor, Called, last_of, text_of}
 use Rattle.embedded.specs.declared.database.Database.{Database}
 use Rattle.embedded.specs.declared.database.CallError.{CallError}
@@ -74,17 +67,17 @@ pub record IsPassedOver (most : ℕ) (h : List Event) (d : Database) (s : Step) 
 abbrev pub IsStep : (room most : ℕ) → List Event → Database → Step → List Event → Database → Type 0
 IsStep room most h d s h' d' = (IsCall room h d s h' d' × IsLetThrough most h s.line) ⊎ IsPassedOver most h d s h' d'
 
--- the command is a poll whose messages are looked at first, because not all are let through
-abbrev pub IsLookedAt : (most : ℕ) → Cmd → Type 0
-IsLookedAt most cmd = IsPoll cmd × (most ≡ 18446744073709551615 → ⊥)
+-- the command polls the seat's own feed, whose messages are looked at first, because not all are let through
+abbrev pub IsLookedAt : (most : ℕ) → List Event → ℕ → Cmd → Type 0
+IsLookedAt most h seat cmd = IsOwnPoll (effects_of h) seat cmd × (most ≡ 18446744073709551615 → ⊥)
 
 -- the line of such a poll
-abbrev pub IsPollLine : (most : ℕ) → List ℕ → Type 0
-IsPollLine most line = (x : ℕ × Cmd) × (command_at Two table 64 line ≡ Ok x) × IsLookedAt most x.1
+abbrev pub IsPollLine : (most : ℕ) → List Event → List ℕ → Type 0
+IsPollLine most h line = (x : ℕ × Cmd) × (command_at Two table 64 line ≡ Ok x) × IsLookedAt most h x.0 x.1
 
 -- a line can't be called: as by itself, or where it is such a poll's, and the look runs out of memory
 abbrev pub IsUncalled : (most : ℕ) → List Event → List ℕ → Database → CallError → Type 0
-IsUncalled most h line d NoMemory = Called h line d (Err NoMemory) d ⊎ (IsPollLine most line × (length h ≡ 18446744073709551615 → ⊥))
+IsUncalled most h line d NoMemory = Called h line d (Err NoMemory) d ⊎ (IsPollLine most h line × (length h ≡ 18446744073709551615 → ⊥))
 IsUncalled most h line d error = Called h line d (Err error) d
 
 -- a line was taken by a step, whose text stands at the front of the room; or it can't be called, and all is as it was

@@ -1,9 +1,6 @@
 -- What an embedded database tells an operator (this project's own).
 use Rattle.std.specs.Prelude.{ℕ, List, false, ◌≡◌}
-use Rattle.spans.specs.Effects.{effects_of}
-use Rattle.spans.specs.Report.{IsReport, limit_in, limit_of}
-use Rattle.spans.specs.declared.calls.events.Event.{Event}
-use Rattle.spans.specs.declared.report.Report.{Report}
+use Rattle.embedded.specs.Prelude.{Event, IsReport, Report, effects_of, limit_in, limit_of}
 use Rattle.report_lines.specs.Lines.{report_text}
 
 -- the text of a live report of the history, whose limit is the history's

@@ -1,17 +1,13 @@
 -- Calls whose command is given in parts, and answers in numbers and bytes (this project's own).
-use Rattle.std.specs.Int.{w32, w64, to_le_bytes}
+use Rattle.embedded.specs.Prelude.{Cmd, Event, Span, flat_map, to_le_bytes, w32, w64}
 use Rattle.std.specs.Prelude.{ℕ, List, [], ◌∷◌, ◌++◌, ◌≡◌, ◌⊎◌, length, is_some, Bool, true, false, Option, Some, None, Result, Ok, Err}
-use Rattle.std.specs.List.{flat_map}
-use Rattle.spans.specs.declared.calls.commands.Cmd.{Cmd}
 use Rattle.spans.specs.declared.calls.commands.Cmd.TheVariants as command
-use Rattle.spans.specs.declared.calls.events.Event.{Event}
 use Rattle.spans.specs.declared.calls.messages.Message.{Message}
 use Rattle.spans.specs.declared.calls.messages.Message.TheVariants as message
 use Rattle.spans.specs.declared.calls.replies.Refusal.{Refusal}
 use Rattle.spans.specs.declared.calls.replies.Refusal.TheVariants as refusal
 use Rattle.spans.specs.declared.calls.replies.Reply.{Reply}
 use Rattle.spans.specs.declared.calls.replies.Reply.TheVariants as reply
-use Rattle.spans.specs.declared.span.Span.{Span}
 use Rattle.embedded.specs.Embedded.{HasStepped}
 use Rattle.embedded.specs.declared.database.Database.{Database}
 use Rattle.embedded.specs.declared.event_record.EventRecord.{EventRecord}

@@ -1,10 +1,6 @@
 -- What an embedded database tells of the versions of several keys (this project's own).
-use Rattle.std.specs.Int.{w16, to_le_bytes}
+use Rattle.embedded.specs.Prelude.{Effect, flat_map, horizon_of, to_le_bytes, value_version, w16}
 use Rattle.std.specs.Prelude.{ℕ, List, [], ◌++◌, ◌≡◌, ◌≤◌, ◌<◌, ◌-◌, ◌⊎◌, All, drop, length, map, Option, Some, None, Result, Ok, Err}
-use Rattle.std.specs.List.{flat_map}
-use Rattle.spans.specs.Collection.{horizon_of}
-use Rattle.spans.specs.Effects.{Effect}
-use Rattle.engine.specs.Looking.{value_version}
 use Rattle.embedded.specs.declared.versions.VersionFault.{VersionFault}
 use Rattle.embedded.specs.declared.versions.VersionFault.TheVariants.{BelowHorizon, KeyLength, NoMemory}
 

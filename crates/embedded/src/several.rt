@@ -10,13 +10,8 @@
 //! ```
 
 ghost use Rattle.std.specs.Prelude.{◌≡◌, ◌<◌, ◌≤◌, ◌⊎◌, List, Ok, false, length, IfOk, OnErr};
-ghost use Rattle.spans.specs.Effects.{effects_of};
-ghost use Rattle.spans.specs.declared.calls.events.Event.{Event};
+ghost use Rattle.embedded.specs.Prelude.{Event, Two, command_at, command_line, effects_of, table};
 ghost use Rattle.embedded.specs.Embedded.{StandsFor, kept_text};
-ghost use Rattle.text_format.specs.declared.Format.TheVariants.{Two};
-ghost use Rattle.word_lines.specs.Commands.{command_line};
-ghost use Rattle.word_lines.specs.Reading.{command_at};
-ghost use Rattle.word_lines.specs.Table.{table};
 ghost use Rattle.embedded.specs.Several.{HaveBeenCalled, IsLookedAt, IsTaken, IsTakenBy, IsShown, first_line, is_too_long};
 
 use crate::database::{CallError, Database};
@@ -163,10 +158,10 @@ impl Database {
     }
 
     /// Whether the answer to a seat's command would have more than `most` bytes of rows or messages, unless that is the
-    /// greatest number. Only a look at messages takes memory.
+    /// greatest number. Only a look at messages of the seat's own feed takes memory.
     fn is_too_long(&self, seat: u8, cmd: &Cmd, most: u64) -> Result<bool, AllocError>
         ensures long { (h : List Event) → StandsFor self.now h → IfOk result (λ long. is_too_long (effects_of h) seat most cmd.now ≡ long) }
-        ensures memory { OnErr result (IsLookedAt most cmd.now) }
+        ensures memory { (h : List Event) → StandsFor self.now h → OnErr result (IsLookedAt most h seat cmd.now) }
     {
         if most == u64::MAX {
             return Ok(false);

@@ -1,10 +1,6 @@
 -- What an engine stands for.
 use Rattle.std.specs.Prelude.{List, ℕ, ◌≡◌}
-use Rattle.spans.specs.declared.calls.events.Event.{Event}
-use Rattle.spans.specs.Effects.{effects_of}
-use Rattle.spans.specs.Transactions.{closed_of}
-use Rattle.closing.specs.Standing.{closed_in}
-use Rattle.mvto_rules.specs.Holding.{closing_of}
+use Rattle.engine.specs.Prelude.{Event, closed_in, closed_of, closing_of, effects_of}
 use Rattle.engine.specs.Layers as layers
 use Rattle.engine.specs.declared.Engine.{Engine}
 

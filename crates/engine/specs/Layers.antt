@@ -1,10 +1,7 @@
 -- What the layers of an engine hold, as what is kept of a history.
 use Rattle.std.specs.Prelude.{List, length, ℕ, ◌≡◌}
-use Rattle.spans.specs.Kept.{Kept}
-use Rattle.spans.specs.declared.calls.events.Event.{Event}
+use Rattle.engine.specs.Prelude.{Event, Kept, Standing, holding, opened_in, place_in}
 use Rattle.kept.specs.StandsFor as keeping
-use Rattle.feed.specs.Standing.{Standing, opened_in, place_in}
-use Rattle.mvto_rules.specs.Holding.{holding}
 use Rattle.engine.specs.declared.layers.Layers.{Layers}
 
 -- what the feeds are, and nothing else

@@ -1,3 +1,4 @@
+pub mod Prelude
 pub mod Layers
 pub mod Engine
 pub mod Runs

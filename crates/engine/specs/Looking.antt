@@ -1,12 +1,7 @@
 -- What may be asked of a history beside its commands: the versions of keys, and how far it has come (this project's own).
 use Rattle.std.specs.Prelude.{ℕ, List, true, false, ◌≡◌, ◌≤◌, ◌⊎◌, if◌then◌else◌, Option, Some, None, is_some, nat_lt, option_map}
-use Rattle.spans.specs.Effects.{Effect}
-use Rattle.spans.specs.Transactions.{closed_of, is_undecided, owner_of}
+use Rattle.engine.specs.Prelude.{Effect, Feed, closed_of, committed_version_of, feed_of, floor_of, horizon_of, is_cancelled, is_undecided, limit_of, live_feed, owner_of}
 use Rattle.spans.specs.Newest.{newest}
-use Rattle.spans.specs.Versions.{committed_version_of}
-use Rattle.spans.specs.Feeds.{Feed, feed_of, is_cancelled}
-use Rattle.spans.specs.Collection.{floor_of, horizon_of, live_feed}
-use Rattle.spans.specs.Report.{limit_of}
 use Rattle.engine.specs.declared.looking.Places.{Places}
 
 -- ---- versions

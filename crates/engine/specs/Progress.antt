@@ -1,10 +1,9 @@
 -- How far the layers of an engine have come.
 use Rattle.std.specs.Prelude.{ℕ, Option, ◌≡◌}
-use Rattle.feed.specs.Standing.{place_in}
+use Rattle.engine.specs.Prelude.{closed_in, closing_of, place_in, transactions_of}
 use Rattle.kept.specs.Places.{IsLeastFloor}
 use Rattle.kept.specs.Table.{IsOldest}
-use Rattle.closing.specs.Standing.{closed_in}
-use Rattle.mvto_rules.specs.Holding.{closing_of, horizon_of, transactions_of}
+use Rattle.mvto_rules.specs.Holding.{horizon_of}
 use Rattle.mvto_rules.specs.Looking.{IsReachedIn}
 use Rattle.mvto_rules.specs.Reaching.{IsLimit}
 use Rattle.engine.specs.Layers.{kept_of}

@@ -1,19 +1,10 @@
 -- How much of a scan or a poll finds room (this project's own). A row has the bytes of its key and its value, and 17 more,
 -- as a message in bytes has.
-use Rattle.std.specs.Prelude.{Bool, List, None, Option, Some, false, filter, if◌then◌else◌, is_some, nat_lt, not, ◌==◌, ◌&&◌, ◌≡◌, ℕ}
-use Rattle.spans.specs.Answer.{first_refusal, snapshot_tests, transaction_tests}
-use Rattle.spans.specs.Collection.{horizon_of}
-use Rattle.spans.specs.Effects.{Effect}
-use Rattle.spans.specs.Feeds.{Feed, feed_of, is_cancelled, next_messages}
-use Rattle.spans.specs.Kept.{Place, place_of}
+use Rattle.std.specs.Prelude.{Bool, List, None, Option, Some, false, filter, if◌then◌else◌, is_some, nat_lt, not, true, ◌==◌, ◌&&◌, ◌≡◌, ℕ}
+use Rattle.engine.specs.Prelude.{Cmd, Effect, Feed, Place, Poll, Scan, ScanAt, count_or, end_within, feed_of, first_refusal, horizon_of, is_blocked, is_cancelled, next_messages, place_of, snapshot_tests, transaction_tests, visible, written_keys}
 use Rattle.spans.specs.Keys.{in_span}
-use Rattle.spans.specs.Versions.{is_blocked, visible, written_keys}
-use Rattle.spans.specs.declared.calls.commands.Cmd.{Cmd}
-use Rattle.spans.specs.declared.calls.commands.Cmd.TheVariants.{Poll, Scan, ScanAt}
 use Rattle.spans.specs.declared.calls.replies.Refusal.{Refusal}
 use Rattle.spans.specs.declared.span.Span.{Span}
-use Rattle.feed.specs.Room.{count_or}
-use Rattle.mvto_rules.specs.Room.{end_within}
 
 -- the end of the longest beginning of the span of which a scan at t finds room; none where the whole span does, or where
 -- the scan is stopped before. Below the horizon each scan is refused, so nothing ends it
@@ -58,6 +49,6 @@ is_long p seat most (ScanAt t span) = passes (snapshot_tests p t) && is_some (sc
 is_long p seat most (Poll f max) = is_own seat (place_of p f) && nat_lt (poll_count p f max most) max
 is_long p seat most _ = false
 
--- the command is a poll
-abbrev pub IsPoll : Cmd → Type 0
-IsPoll cmd = (f : ℕ) × (max : ℕ) × (cmd ≡ Poll f max)
+-- the command polls a feed that lives, and is the seat's
+abbrev pub IsOwnPoll : List Effect → ℕ → Cmd → Type 0
+IsOwnPoll p seat cmd = (f : ℕ) × (max : ℕ) × (cmd ≡ Poll f max) × (is_own seat (place_of p f) ≡ true)

@@ -1,7 +1,6 @@
 -- A run's calls.
 use Rattle.std.specs.Prelude.{ℕ}
-use Rattle.spans.specs.declared.calls.commands.Cmd.{Cmd}
-use Rattle.spans.specs.declared.calls.events.Event.{Event}
+use Rattle.engine.specs.Prelude.{Cmd, Event}
 
 -- the seat and the command of an event
 abbrev pub call_of : Event → ℕ × Cmd

@@ -10,17 +10,10 @@
 //! scan 10 - -     1         37     no: it is refused, because the transaction is another's
 //! scanat 10 - -   0         37     no: it is refused, because 10 isn't closed
 //! ```
-ghost use Rattle.std.specs.Prelude.{List, IfOk, OnErr, ◌≡◌};
+ghost use Rattle.std.specs.Prelude.{List, IfOk, OnErr, is_some, true, ◌≡◌};
 ghost use Rattle.std.specs.Option.{option_copied};
-ghost use Rattle.closing.specs.Standing.{closed_in};
-ghost use Rattle.feed.specs.Room.{IsFeedCount};
-ghost use Rattle.feed.specs.Standing.{place_in};
-ghost use Rattle.mvto_rules.specs.Holding.{closing_of, versions_of};
-ghost use Rattle.mvto_rules.specs.Room.{IsEnd};
-ghost use Rattle.spans.specs.Effects.{effects_of};
-ghost use Rattle.spans.specs.declared.calls.commands.Cmd.TheVariants.{Poll, Scan, ScanAt};
-ghost use Rattle.spans.specs.declared.calls.events.Event.{Event};
-ghost use Rattle.engine.specs.Room.{IsPoll, is_long, poll_count, scan_end};
+ghost use Rattle.engine.specs.Prelude.{Event, IsEnd, IsFeedCount, Poll, Scan, ScanAt, closed_in, closing_of, effects_of, place_in, place_of, versions_of};
+ghost use Rattle.engine.specs.Room.{IsOwnPoll, is_long, is_own, poll_count, scan_end};
 
 use crate::Engine;
 use crate::layers::Layers;
@@ -46,17 +39,18 @@ impl Engine {
     /// How many of a feed's next messages, at most `max`, find room in `bytes` bytes: `max` where all of them do, and 0
     /// where it doesn't live. It takes memory for the messages that it looks at.
     pub fn poll_count(&self, feed: u64, max: u64, bytes: u64) -> Result<u64, AllocError>
-        ensures { (h : List Event) → StandsFor self.now h → IfOk result (λ n. n ≡ poll_count (effects_of h) feed max bytes) }
+        ensures count { (h : List Event) → StandsFor self.now h → IfOk result (λ n. n ≡ poll_count (effects_of h) feed max bytes) }
+        ensures memory { (h : List Event) → StandsFor self.now h → OnErr result (is_some (place_of (effects_of h) feed) ≡ true) }
     {
         self.layers.poll_count(feed, max, bytes)
     }
 
     /// Whether the answer to a seat's command would have more than `most` bytes of rows or messages, or a scan's more
     /// than [`MOST_ROWS`] rows. What would be refused has none. A scan that an undecided version blocks has the rows
-    /// before that one. Only a poll's look takes memory.
+    /// before that one. Only the look at a poll of the seat's own feed takes memory.
     pub fn is_long(&self, seat: u8, cmd: &Cmd, most: u64) -> Result<bool, AllocError>
         ensures long { (h : List Event) → StandsFor self.now h → IfOk result (λ long. long ≡ is_long (effects_of h) seat most cmd.now) }
-        ensures memory { OnErr result (IsPoll cmd.now) }
+        ensures memory { (h : List Event) → StandsFor self.now h → OnErr result (IsOwnPoll (effects_of h) seat cmd.now) }
     {
         match cmd {
             Cmd::Scan { ts, span } => Ok(self.is_scan_long(seat, *ts, span, most)),
@@ -79,7 +73,8 @@ impl Engine {
     }
 
     fn is_poll_long(&self, seat: u8, feed: u64, max: u64, most: u64) -> Result<bool, AllocError>
-        ensures { (h : List Event) → StandsFor self.now h → IfOk result (λ long. long ≡ is_long (effects_of h) seat most (Poll feed max)) }
+        ensures long { (h : List Event) → StandsFor self.now h → IfOk result (λ long. long ≡ is_long (effects_of h) seat most (Poll feed max)) }
+        ensures memory { (h : List Event) → StandsFor self.now h → OnErr result (is_own seat (place_of (effects_of h) feed) ≡ true) }
     {
         let Some(owner) = self.layers.feeds.seat(feed) else {
             return Ok(false);
@@ -110,7 +105,8 @@ impl Layers {
 
     /// How many of a feed's next messages find room.
     pub(crate) fn poll_count(&self, feed: u64, max: u64, bytes: u64) -> Result<u64, AllocError>
-        ensures { IfOk result (IsFeedCount (versions_of self.now.rules) (closed_in (closing_of self.now.rules)) max bytes (place_in self.now.feeds feed)) }
+        ensures count { IfOk result (IsFeedCount (versions_of self.now.rules) (closed_in (closing_of self.now.rules)) max bytes (place_in self.now.feeds feed)) }
+        ensures memory { OnErr result (is_some (place_in self.now.feeds feed) ≡ true) }
     {
         let closed = self.rules.closed();
         self.feeds

@@ -1,8 +1,7 @@
 //! All live feeds.
 ghost use Rattle.std.specs.Prelude.{true, ◌≡◌, ◌<◌, ℕ, None, Some, is_some, option_map, suc, IfErr, IfOk, OnOk, OnErr};
 ghost use Rattle.std.specs.BTreeSet.{contains};
-ghost use Rattle.kept.specs.Places.{IsLeastFloor, place_floor};
-ghost use Rattle.kept.specs.Reports.{AreLive};
+ghost use Rattle.feed.specs.Prelude.{AreLive, IsLeastFloor, place_floor};
 ghost use Rattle.feed.specs.Live.{cut_at_max, opened_at};
 ghost use Rattle.feed.specs.Standing.{opened_in, place_in, seat_in, IsPut, IsPolledBy, IsUnpolled, IsCountOf};
 ghost use Rattle.feed.specs.Room.{IsFeedCount};
@@ -153,7 +152,8 @@ impl Feeds {
         max: u64,
         bytes: u64,
     ) -> Result<u64, AllocError>
-        ensures { IfOk result (IsFeedCount store.now (cut_at_max closed) max bytes (place_in self.now feed)) }
+        ensures count { IfOk result (IsFeedCount store.now (cut_at_max closed) max bytes (place_in self.now feed)) }
+        ensures memory { OnErr result (is_some (place_in self.now feed) ≡ true) }
     {
         let Some(live) = self.live.get(&feed) else {
             return Ok(0);

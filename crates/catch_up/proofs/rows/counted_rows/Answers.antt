@@ -1,10 +1,9 @@
 use Rattle.std.proofs.Common.{Global, Some, Vec, ap, arith, subst, sym, ◌∙◌}
-use Rattle.timestamps.specs.declared.row.Row.{Row}
-use Rattle.version_chain.specs.Following.{Walk}
+use Rattle.catch_up.proofs.Common.{Row, Walk}
 use Rattle.catch_up.specs.Left.{AreNextIn}
 use Rattle.catch_up.proofs.Walk.{IsWalking, begins_at, step_has, step_is, ends_walking, goes_on_walking, keys_shorten, walk_full, walk_joins}
 use Rattle.catch_up.proofs.rows.counted_rows.Goals as goal
-use Rattle.catch_up.proofs.rows.counted_rows.Goals.{else-loop-missing-test, then-loop-missing-test+in_default, then-loop-missing-test+in-Some+in_ok-tell+else-steps-gt0+then-is_none+in-Some-newest_at+in_ok-rest+in_ok-append}
+use Rattle.catch_up.proofs.rows.counted_rows.Goals.{else-loop-missing-test, then-loop-missing-test+in_default, then-loop-missing-test+in-Some+in_ok-tell+else-left-gt0+then-is_none+in-Some-newest_at+in_ok-rest+in_ok-append}
 
 pub loop-missing-init : goal.loop-missing-init
 loop-missing-init c =
@@ -17,9 +16,9 @@ loop-missing-init c =
 pub tell-requires : goal.tell-requires
 tell-requires c = omega (arith, c.loop-missing-test.true)
 
-pub loop-missing-preserved-then-steps-gt0 : goal.loop-missing-preserved-then-steps-gt0
-loop-missing-preserved-then-steps-gt0 c = (
-  omega (arith, c.if-steps-gt0.true),
+pub loop-missing-preserved-then-left-gt0 : goal.loop-missing-preserved-then-left-gt0
+loop-missing-preserved-then-left-gt0 c = (
+  omega (arith, c.if-left-gt0.true),
   goes_on_walking c.args.store.now c.args.span.now c.args.versions.ts c.args.versions.key c.args.through c.args.n c.loop-missing.versions c.next.new.self c.loop-missing.missing c.tell.new.missing c.loop-missing.rows.items c.tell.new.rows.items
       c.in-Some.found.now c.in-Some.at c.loop-missing.invariant.1 c.in-Some.ensures.found c.in-Some.ensures.walked c.in_ok-tell.ensures,
 )
@@ -46,7 +45,7 @@ returns c =
           (walk_full c.args.store.now c.args.span.now c.args.versions.ts c.args.versions.key c.args.through c.args.n c.loop-missing.versions.ts c.loop-missing.versions.key c.loop-missing.missing c.loop-missing.rows.items c.loop-missing.invariant.1.walked w.loop-missing-test.false)
       | then-loop-missing-test+in_default w ↦ subst (λ (v : Vec Row Global). AreNextIn c.args.store.now c.args.span.now c.args.versions.ts c.args.versions.key c.args.through c.args.n v.items) (sym w.rows-is)
           (ends_walking c.args.store.now c.args.span.now c.args.versions.ts c.args.versions.key c.args.through c.args.n c.loop-missing.versions c.loop-missing.missing c.loop-missing.rows.items c.loop-missing.invariant.1 w.in_default.ensures.found)
-      | then-loop-missing-test+in-Some+in_ok-tell+else-steps-gt0+then-is_none+in-Some-newest_at+in_ok-rest+in_ok-append w ↦
+      | then-loop-missing-test+in-Some+in_ok-tell+else-left-gt0+then-is_none+in-Some-newest_at+in_ok-rest+in_ok-append w ↦
           walk_joins c.args.store.now c.args.span.now c.args.versions.ts c.args.versions.key c.args.through c.args.n w.next.new.self.ts w.next.new.self.key w.tell.new.missing w.tell.new.rows.items c.loop-missing-test.rows.items w.in_ok-rest.rest.items
           (goes_on_walking c.args.store.now c.args.span.now c.args.versions.ts c.args.versions.key c.args.through c.args.n c.loop-missing.versions w.next.new.self c.loop-missing.missing w.tell.new.missing c.loop-missing.rows.items w.tell.new.rows.items
           w.in-Some.found.now w.in-Some.at c.loop-missing.invariant.1 w.in-Some.ensures.found w.in-Some.ensures.walked w.in_ok-tell.ensures).walked
