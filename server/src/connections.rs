@@ -8,7 +8,7 @@
 //! ```text
 //! come             silent, for 10 s at most
 //! asks             busy, as long as a `Busy` is there
-//! waits            silent, though busy: its body comes slowly
+//! waits            silent, though busy: its body isn't whole yet
 //! answers          silent, though busy: its client takes the answer
 //! Busy is dropped  silent, for 60 s at most
 //! ```
@@ -205,7 +205,7 @@ impl Connection {
         Busy(self.clone())
     }
 
-    /// It waits for a body that comes slowly.
+    /// It waits for a body, from the first byte to the last one.
     pub fn waits(self: &Arc<Connection>) -> Waits {
         self.all.table.lock().rests(self.number, REST);
         Waits(self.clone())

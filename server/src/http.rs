@@ -118,15 +118,9 @@ impl Request {
         let end = Instant::now() + within;
         let mut held = self.bodies.begin(self.connection.peer.ip());
         let read = {
-            let reading = whole(self.inner.body_mut(), most, &mut held);
-            tokio::pin!(reading);
-            match at_once(reading.as_mut()).await {
-                Some(read) => Ok(read),
-                None => {
-                    let _waits = self.connection.waits();
-                    tokio::time::timeout_at(end.into(), reading).await
-                }
-            }
+            // Also where it comes at once: else a crowd of half bodies is busy for a moment, and others make room.
+            let _waits = self.connection.waits();
+            tokio::time::timeout_at(end.into(), whole(self.inner.body_mut(), most, &mut held)).await
         };
         let refusal = match read {
             Ok(Ok(data)) => {
@@ -156,15 +150,6 @@ impl Request {
     pub fn upgraded(&mut self) -> impl Future<Output = Option<Box<dyn Stream>>> {
         let upgrade = hyper::upgrade::on(&mut self.inner);
         async { upgrade.await.ok().map(|stream| Box::new(stream) as Box<dyn Stream>) }
-    }
-}
-
-/// What comes of it where it waits for nothing but what the connection has read already.
-async fn at_once<T>(work: Pin<&mut impl Future<Output = T>>) -> Option<T> {
-    tokio::select! {
-        biased;
-        done = work => Some(done),
-        () = tokio::task::yield_now() => None,
     }
 }
 

@@ -6,6 +6,7 @@ Each function is a test. It gets a room, and how heavy the load is to be.
 import contextlib
 import json
 import os
+import signal
 import socket
 import time
 from collections.abc import Callable
@@ -120,24 +121,53 @@ def test_more_slow_readers_than_connections(room: Room, scale: Scale) -> str:
     return "%d MB more, honest %.0f ms" % (found >> 20, took * 1e3)
 
 
+def crowd(server: Server) -> list[socket.socket]:
+    """400 connections of another address, each with a body that is never whole."""
+    many = []
+    for _ in range(400):
+        many.append(socket.create_connection(("127.0.0.1", server.port), source_address=("127.0.0.2", 0)))
+        many[-1].sendall(head(server, "POST", "/call", "Content-Length: 1000\r\n\r\n") + b"begin\n")
+    return many
+
+
+def answers(wire: Wire) -> None:
+    wire.ask("GET", "/consumer/nobody")
+    assert wire.answer()[0] == 200
+
+
 def test_another_address_pushes_nobody_out(room: Room, scale: Scale) -> str:
     """Connections that rest keep their places while another address opens more than there are."""
     server = started(room, "--max-connections", "100")
     resting = [Wire(server.port) for _ in range(20)]
     for one in resting:
-        one.ask("GET", "/consumer/nobody")
-        assert one.answer()[0] == 200
-    many = []
-    for _ in range(400):
-        many.append(socket.create_connection(("127.0.0.1", server.port), source_address=("127.0.0.2", 0)))
-        many[-1].sendall(head(server, "POST", "/call", "Content-Length: 1000\r\n\r\n") + b"begin\n")
+        answers(one)
+    many = crowd(server)
     took = honest(server)
     for one in resting:
-        one.ask("GET", "/consumer/nobody")
-        assert one.answer()[0] == 200, "it was pushed out"
+        answers(one)
     for one in many:
         one.close()
     return "20 beside 400, honest %.0f ms" % (took * 1e3)
+
+
+def test_another_address_at_once_pushes_nobody_out(room: Room, scale: Scale) -> str:
+    """The same where all come at once, and an honest one behind them, because the server was stopped meanwhile."""
+    server = started(room, "--max-connections", "100")
+    resting = [Wire(server.port) for _ in range(20)]
+    for one in resting:
+        answers(one)
+    for _ in range(20):
+        server.child.send_signal(signal.SIGSTOP)
+        many, comes = crowd(server), Wire(server.port)
+        comes.send(head(server, "GET", "/consumer/nobody", "Connection: close\r\n\r\n"))
+        server.child.send_signal(signal.SIGCONT)
+        assert comes.answer()[0] == 200
+        comes.close()
+        for one in resting:
+            answers(one)
+        for one in many:
+            one.close()
+    return "20 beside 400, 20 times"
 
 
 def test_long_bodies_that_are_never_whole(room: Room, scale: Scale) -> str:
