@@ -11,7 +11,7 @@ import { read } from "./guide.mjs";
 const commands = COMMANDS.flatMap((it) => it.commands);
 
 test("the table has each command of the program, with as many words behind it", () => {
-  const forms = read("crates/word_lines/src/table.rt").matchAll(/name: b"(\w+)",\s+verb: \S+\s+arguments: (\d+),/g);
+  const forms = read("crates/word_lines/src/table.rt").matchAll(/\(b"(\w+)", Verb::\w+, (\d+)\),/g);
   const ofProgram = [...forms].map((it) => [it[1], Number(it[2])]).sort();
   assert.equal(ofProgram.length, 21);
   assert.deepEqual(commands.map(({ name, slots }) => [name, slots.length]).sort(), ofProgram);
