@@ -1,4 +1,5 @@
-//! Lines of scripts and of transcripts: the form that each should have, and lines that come from elsewhere.
+//! Which form a faulty line of a script or of a transcript should have, and what it is where it comes from elsewhere: a
+//! line with an answer, a word of another program, a number with a zero in front.
 
 use crate::forms::words_of_form;
 use word_lines::commands::take_form;

@@ -1,4 +1,4 @@
-//! A job is done on a source and a sink, and leaves an exit status.
+//! Each job of the program is done on its input and output: its end is told on standard error, and leaves an exit status.
 ghost use Rattle.std.specs.Prelude.{◌≡◌, IfErr, IfOk};
 ghost use Rattle.std.specs.Process.{exit_status};
 ghost use Rattle.follow.specs.Seeds.{IsSeedOf, IsUnseeded};

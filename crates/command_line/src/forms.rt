@@ -1,4 +1,4 @@
-//! The words that each command takes.
+//! For each command of a script, the words that it takes, as hints show them.
 
 use word_lines::table::Verb;
 

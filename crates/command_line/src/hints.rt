@@ -1,4 +1,5 @@
-//! Hints for standard error: what a faulty line should have been, behind the sentence that says what is wrong with it.
+//! Hints for standard error: behind the sentence on a faulty line, its right form, its limits, or how its words are
+//! spelled.
 
 use crate::dialects::{Dialect, form_of, stranger};
 use crate::input::Input;

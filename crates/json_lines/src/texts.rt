@@ -1,4 +1,5 @@
-//! The texts of a message's members, and the message that they mean.
+//! From the texts of a line's members to its message: the timestamp, and key and value out of base64, or which of them is
+//! faulty.
 ghost use Rattle.std.specs.Prelude.{◌≡◌, ◌≤◌, length, decimal, option_map, IfSome, IfOk, IfErr};
 ghost use Rattle.text_format.specs.Limits.{key_limit, value_limit};
 ghost use Rattle.json_lines.specs.Messages.{AreBytes, IsMessage, base64};

@@ -1,4 +1,4 @@
-//! What a replica begins with.
+//! The rows that a replica begins with: whether their keys rise and lie in its span, and the table of them.
 ghost use Rattle.std.specs.Prelude.{◌≡◌, ◌↔◌, ℕ, List, Some, IfOk, true};
 ghost use Rattle.replica.specs.Prelude.{KeysRise, key_lt, value_among};
 ghost use Rattle.replica.specs.Rows.{value_at};

@@ -1,4 +1,4 @@
-//! The last event in numbers, as C asks for it.
+//! The export that tells a database's last event once more, in numbers.
 
 ghost use Rattle.std.specs.Prelude.{◌≡◌};
 ghost use Rattle.ripsawbean.specs.States.{ToldLast};

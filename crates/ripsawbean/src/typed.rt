@@ -1,4 +1,5 @@
-//! Calls whose command is given in parts, as C makes them: the same events as by lines, and no text is read or written.
+//! The exports for C whose command is given in parts, one for each command, and the one that shows a value's bytes again:
+//! the same events as by lines, and no text is read or written.
 //!
 //! ```text
 //!                                                       number   answer       length   out

@@ -1,4 +1,4 @@
-//! The lock, its seats and the turn.
+//! The types: the lock, a seat, and the value that a seat holds for one turn.
 ghost use Rattle.std.specs.Prelude.{◌≡◌, ◌≤◌, ◌<◌, ◌^◌, ◌+◌, ◌-◌};
 ghost use Rattle.ticket_lock.specs.Views.{setup};
 ghost use Rattle.ticket_lock.specs.Proper.{IsProper};

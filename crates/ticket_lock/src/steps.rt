@@ -1,4 +1,5 @@
-//! The single steps of a turn.
+//! The single steps of a turn: a ticket is drawn, waited for and served, the value is taken and released, and the seat
+//! that comes next is woken.
 ghost use Rattle.std.specs.Prelude.{◌≡◌, ◌≤◌, ◌<◌, ◌+◌, ◌-◌, ◌^◌, ◌++◌, [], ◌∷◌, true, false, Some, None, IfSome, IfNone, IfOk, IfErr};
 ghost use Rattle.ticket_lock.specs.Lists.{of_seat};
 ghost use Rattle.ticket_lock.specs.Views.{met_spent, looked, looking, ended};

@@ -1,4 +1,4 @@
-//! Turns: how a seat gets the value, and gives it back.
+//! The public calls of a turn: a seat asks for the value, with or without waiting, and gives it back.
 ghost use Rattle.std.specs.Prelude.{◌≡◌, ◌≤◌, ◌++◌, [], ◌∷◌, None, Some, IfOk, IfErr};
 ghost use Rattle.ticket_lock.specs.Lists.{of_seat};
 ghost use Rattle.ticket_lock.specs.Seats.{number, seen, mine, met_spent, known, ticket, found, raised, looks, IsOf, IsSame};

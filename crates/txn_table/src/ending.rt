@@ -1,4 +1,4 @@
-//! How a transaction ends.
+//! How a transaction ended, or stands: its seat and state.
 ghost use Rattle.std.specs.Prelude.{◌≡◌};
 ghost use Rattle.txn_table.specs.States.{state_after};
 

@@ -1,5 +1,5 @@
-//! The records of all keys, each call on one of them or on those of a span, and the latest reader of the keys without
-//! one.
+//! All keys, each with a record of its chain and its readers: found, written, committed, removed and dropped by key, and
+//! marked for a reader by key or by span. A key without a record has the latest reader of all of these.
 ghost use Rattle.std.specs.Prelude.{◌≡◌, ◌↔◌, ℕ, List, [], Some, None, MatchOption, IfOk, OnOk, OnErr, IsTrue, is_some, is_none, option_map, true, false, bytes_eq, ◌&&◌, if◌then◌else◌, ◌<◌, ◌≤◌, ◌-◌, length, nat_lt, vec_len, vec_capacity};
 ghost use Rattle.std.specs.List.{filter};
 ghost use Rattle.std.specs.Option.{option_copied};

@@ -1,4 +1,4 @@
-//! Where spans begin and end.
+//! The two ends of a span as starts of marks, and whether anything lies between them.
 ghost use Rattle.std.specs.Prelude.{◌≡◌, ℕ, List, [], true, false, unwrap_or};
 ghost use Rattle.std.specs.Range.Bound.{bound_map};
 ghost use Rattle.std.specs.declared.ops.Bound.TheVariants.{Included};
