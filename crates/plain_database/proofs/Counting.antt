@@ -1,41 +1,13 @@
--- The chains have as many versions as the history, and as many of each transaction.
-use Rattle.plain_database.proofs.Common.{After, AllAllowed, Commit, Committed, Effect, Ended, Has, IsCountOf, Refusal, VersionName, Writes, and_parts, answer_of, by_test, common_steps, dead_of, eqb-true, first_refusal, fits_in, has_is, has_versions, in_has, is_aborted, is_committed, is_dead, or_parts, rising_distinct, same_key, same_length, tests_past, transaction_tests, version_at, version_name, version_of, version_wrote, versions_distinct, versions_of, write_count, write_of, write_set, write_set_length, wrote}
-use Rattle.std.proofs.Common.{◌≡◌, ℕ, ◌≤◌, ◌==◌, ◌||◌, Bool, true, false, ◌&&◌, List, [], ◌∷◌, length, Option, Some, None, refl, sym, ◌∙◌, ap, inl, inr, arith}
-use Rattle.std.specs.Prelude.{bytes_eq, is_some}
-use Rattle.std.proofs.lemmas.List.Sums.{length-filter, count_by-le-length}
-use Rattle.spans.proofs.WriteSets.{has, has_in, has_written as has_key, write_set_rises}
-use Rattle.plain_versions.specs.Written.{is_version}
-use Rattle.plain_database.specs.declared.database.PlainDatabase.{PlainDatabase}
-use Rattle.plain_database.specs.Tied.{IsTied}
-
--- ---- all versions
-
-pub all_versions : (db : PlainDatabase) (p : List Effect) → AllAllowed p → IsTied db p → (n : ℕ) → IsCountOf (is_version db.chains) n → n ≡ length (versions_of p)
-all_versions db p all tied n c =
-    sym c.count ∙ same_length c.all (versions_of p) c.distinct (versions_distinct p all) (λ v. let here = c.each v in let there = has_versions p all v in grind (arith, common_steps))
-
--- ---- those of a transaction
-
-pub count_is : (db : PlainDatabase) (p : List Effect) → IsTied db p → (t n : ℕ) → is_aborted p t ≡ false → IsCountOf (wrote db.chains t) n → n ≡ write_count p t
-count_is db p tied t n live c =
-    sym c.count ∙ same_length c.all (write_set p t) c.distinct (rising_distinct (write_set p t) (write_set_rises p t)) (λ x. let here = c.each x in let there = has_in x (write_set p t) in (
-      λ i. in_has x (write_set p t) (there.1 (sym (same x) ∙ here.0 i)),
-      λ i. here.1 (same x ∙ there.0 (has_is x (write_set p t) i)),
-    )) ∙ write_set_length p t
-  where
-    same : (x : List ℕ) → is_some (version_at db.chains x t) ≡ has x (write_set p t)
-    same x = ap is_some (tied.versions x t) ∙ rw live (sym (has_key p t x))
-
--- no test applies, so each says no
-none_holds : (tests : List (Bool × Refusal)) (test : Bool × Refusal) → None ≡ first_refusal tests → Has test tests → test.0 ≡ false
-none_holds [] test none i = absurd i
-none_holds (first ∷ tests) test none i = grind (arith, common_steps, none_holds tests test)
-
--- what a commit is answered that no test refuses
-pub commit_answers : (db : PlainDatabase) (p : List Effect) (seat t n : ℕ) → IsTied db p → None ≡ first_refusal (transaction_tests p seat t) → IsCountOf (wrote db.chains t) n → Committed n ≡ answer_of p seat (Commit t)
-commit_answers db p seat t n tied here c =
-    let open' : (is_committed p t || is_aborted p t) ≡ false = none_holds (transaction_tests p seat t) (is_committed p t || is_aborted p t, Ended) here (inr (inr (inr (inl refl)))) in
-    ap Committed (count_is db p tied t n (or_parts _ _ open').1 c) ∙ sym (tests_past (transaction_tests p seat t) [] (Committed (write_count p t)) (sym here))
+-- How many versions there can be, and how many stand on both sides of closed.
+use Rattle.std.proofs.Common.{◌≡◌, ℕ, ◌+◌, ◌<◌, ◌≤◌, ◌&&◌, List, [], ◌∷◌, length, Some, true, refl, inl, inr, arith}
+use Rattle.std.specs.Prelude.{filter, is_some, nat_le, nat_lt}
+use Rattle.restarts.proofs.InRange.{all_in_range}
+use Rattle.spans.proofs.Histories.{effect_count}
+use Rattle.spans.proofs.Members.{parted}
+use Rattle.plain_database.proofs.Common.{After, AllAllowed, Collects, Effect, Event, Has, IsLegal, MAX, VersionName, Writes, among_has, begun_among, begun_of, closed_of, common_steps, dead_of, effects_of, fits_in, has_versions, is_dead, legal_allowed, nat_tests, same_key, version_name, versions_distinct, versions_of, write_of, wrote_begun}
+use Rattle.plain_database.specs.Counts.{passed_then, versions_between}
+use Rattle.plain_database.proofs.Dead.{dead_then_is}
+use Rattle.plain_database.proofs.Passed.{passed_is}
 
 -- ---- how many there can be
 
@@ -53,25 +25,45 @@ names_few (_ ∷ p) = omega (arith, names_few p)
 has_written : (p : List Effect) (n : VersionName) (a : After) → write_of p n.ts n.key ≡ Some a → Has n (written_names p)
 unfolding written_names
 has_written [] n a is = cc
-has_written (Writes k y b ∷ p) n a is = by_test ((k == n.ts) && bytes_eq y n.key)
-    (λ same. inl (joined y n.key k n.ts (same_key y n.key (and_parts _ _ same).1) (eqb-true k n.ts (and_parts _ _ same).0)))
-    (λ other. inr (has_written p n a (rw other at is)))
-  where
-    joined : (x y : List ℕ) (t k : ℕ) → x ≡ y → t ≡ k → version_name x t ≡ version_name y k
-    joined x y t k e h = rw (e, h) refl
+has_written (Writes k y b ∷ p) n a is = grind (arith, common_steps, nat_tests, same_key y n.key, has_written p n a)
 has_written (_ ∷ p) n a is = has_written p n a is
+
+-- what stands among the versions was written
+was_written : (p : List Effect) → AllAllowed p → (n : VersionName) → Has n (versions_of p) → is_some (write_of p n.ts n.key) ≡ true
+was_written p all n i = grind (arith, common_steps, (has_versions p all n).0 i)
 
 -- there are no more versions than effects
 pub versions_few : (p : List Effect) → AllAllowed p → length (versions_of p) ≤ length p
 versions_few p all = omega (arith, names_few p, fits_in (versions_of p) (written_names p) (versions_distinct p all) each)
   where
     each : (n : VersionName) → Has n (versions_of p) → Has n (written_names p)
-    each n i = by_version (version_of p n.key n.ts) refl ((has_versions p all n).0 i)
-      where
-        by_version : (o : Option After) → version_of p n.key n.ts ≡ o → is_some o ≡ true → Has n (written_names p)
-        by_version None e is = cc
-        by_version (Some a) e is = has_written p n a (version_wrote p n.key n.ts a e).1
+    each n i = grind (arith, common_steps, has_written p n, was_written p all n i)
 
 -- and no more dead ones than versions
 pub dead_few : (p : List Effect) → length (dead_of p) ≤ length (versions_of p)
-dead_few p = omega (arith, length-filter (is_dead p) (versions_of p), count_by-le-length (is_dead p) (versions_of p))
+dead_few p = omega (arith, parted (is_dead p) (versions_of p))
+
+-- the count of the dead fits, also where a collection would take the horizon to n
+pub dead_fit : (h : List Event) → IsLegal h → length h < 18446744073709551615 → (n : ℕ) → length (dead_of (Collects n ∷ effects_of h)) < 18446744073709551615
+dead_fit h legal few n = grind (arith, dead_few (Collects n ∷ effects_of h), versions_few (effects_of h) (legal_allowed h legal), effect_count h)
+
+-- ---- on both sides of closed
+
+-- each stands at or below low or above it
+both_sides : (low n : ℕ) (vs : List VersionName) → ((v : VersionName) → Has v vs → v.ts ≤ n) → length vs ≡ length (filter (λ (v : VersionName). nat_le v.ts low) vs) + length (filter (λ (v : VersionName). nat_lt low v.ts && nat_le v.ts n) vs)
+both_sides low n [] each = refl
+both_sides low n (v ∷ vs) each = grind (arith, common_steps, nat_tests, each v (inl refl), both_sides low n vs (λ w i. each w (inr i)))
+
+in_range : (h : List Event) → IsLegal h → (v : VersionName) → Has v (versions_of (effects_of h)) → v.ts ≤ MAX
+in_range h legal v i =
+    let p = effects_of h in
+    let all = legal_allowed h legal in
+    grind (arith, common_steps, was_written p all v i, wrote_begun p all v.ts v.key, begun_among p v.ts, among_has v.ts (begun_of p), (all_in_range h legal).1 v.ts)
+
+-- those that closed passed, and those above it
+pub both_are : (h : List Event) → IsLegal h → length (versions_of (effects_of h)) ≡ passed_then (effects_of h) + versions_between (effects_of h) (closed_of (effects_of h)) 18446744073709551615
+both_are h legal =
+    let p = effects_of h in
+    omega (arith, both_sides (closed_of p) 18446744073709551615 (versions_of p) (λ v i. omega (arith, in_range h legal v i)), passed_is p (legal_allowed h legal))
+
+pub ruleset counting = (legal_allowed, effect_count, versions_few, dead_few, dead_then_is, both_are)

@@ -1,181 +1,200 @@
--- The rows that a feed was not told are those of the chains from its place on.
-use Rattle.plain_database.proofs.Common.{After, AllAllowed, AreRowsAfter, Effect, FeedRecord, IsRowAfter, IsStreamed, IsToldIn, Row, Stored, Table, Version, VersionName, and_from, and_parts, beyond_is, by_test, closed_of, committed_at, committed_version_of, common_steps, eq-eqb, feed_of, feed_part, feeding, in_append, is_after, is_committed, le-leb, le-ltb, length-take, lt-ltb, ltb-false, ltb-true, map_at_is, newest, newest_same, only_rows, or_left, rises_append, start_at, told_to, untold_is, untold_rows, write_of}
-use Rattle.std.proofs.Common.{◌≡◌, ℕ, suc, ◌-◌, ◌<◌, ◌≤◌, ◌==◌, Bool, true, false, cond, ◌&&◌, List, ◌++◌, length, take, max, Option, Some, None, refl, sym, ◌∙◌, ap, subst, inl, inr, arith}
-use Rattle.std.specs.Prelude.{nat_lt, if◌then◌else◌}
-use Rattle.spans.specs.Consumer.{is_after_name}
-use Rattle.spans.specs.Kept.{place_with}
-use Rattle.spans.specs.Serial.{map_at}
-use Rattle.spans.proofs.RowOrder.{name_order}
-use Rattle.spans.proofs.Taking.{resolved_grows}
+-- The rows that a feed was not told are those of its list that come behind its place.
+use Rattle.plain_database.proofs.Common.{After, AllAllowed, Effect, Event, IsRowIn, MAX, RisingRows, Row, Span, VersionName, and_parts, beyond_is, by_test, closed_of, closed_value, common_steps, effects_of, feeding, filter, first_rows, in_span, is_committed, key_lt, legal_allowed, length-map, length-take, list_of, ltb-false, ltb-true, map_at_is, nat_tests, only_rows, pairs_of, start_at, stream_of, told_to, untold_is, untold_rows, visible, write_of, write_set, written_keys}
+use Rattle.std.proofs.Common.{◌≡◌, ℕ, zero, suc, ◌-◌, ◌<◌, ◌≤◌, ◌==◌, Bool, true, false, cond, ◌&&◌, ◌||◌, List, [], ◌∷◌, ◌++◌, length, map, take, max, Option, Some, None, refl, sym, ◌∙◌, ap, subst, arith}
+use Rattle.std.proofs.lemmas.List.{take-map}
+use Rattle.std.proofs.lemmas.List.Elements.{filter-append}
+use Rattle.std.specs.Prelude.{◌↔◌, is_some, nat_le, nat_lt}
 use Rattle.spans.proofs.Lists.{take_both}
-use Rattle.kept.specs.Places.{is_beyond}
-use Rattle.plain_feeds.specs.declared.told.Told.{Told}
-use Rattle.plain_feeds.specs.Places.{key_above, row_ts, tells_snapshot, told_through}
-use Rattle.plain_versions.specs.Snapshots.{AreValueRows, is_past}
+use Rattle.spans.proofs.Listing.{first_none, in_list, list_rises}
+use Rattle.spans.proofs.Taking.{resolved_grows}
+use Rattle.spans.specs.Consumer.{is_after_name}
+use Rattle.spans.specs.Serial.{Map, map_at, span_part}
+use Rattle.spans.specs.Streams.{pair_row, rows_of, written_value}
+use Rattle.plain_database.specs.FeedTie.{IsRecordOf}
+use Rattle.plain_database.specs.Places.{key_above, row_ts, tells_snapshot, told_through}
+use Rattle.plain_database.specs.Records.{feed_part}
+use Rattle.plain_database.specs.declared.feeds.record.FeedRecord.{FeedRecord}
+use Rattle.plain_database.specs.declared.feeds.told.Told.{Told}
+use Rattle.plain_database.specs.declared.database.PlainDatabase.{PlainDatabase}
+use Rattle.plain_database.specs.Tied.{StandsFor}
+use Rattle.plain_database.proofs.ClosedRange.{closed_in_range}
+use Rattle.plain_database.proofs.Streaming.{behind_of, grows, past_of}
+use Rattle.plain_database.specs.Behind.{beside, is_past, keys_past}
 
--- ---- a place, and the rows behind it
+-- ---- those of a list that were not told
 
 -- a row is behind the last one and above what was resolved
-abbrev is_left : Told → Row → Bool
+abbrev pub is_left : Told → Row → Bool
 is_left told r = nat_lt told.resolved r.ts && is_after_name told.row r
 
--- what a feed keeps says so of its effects
-left_is : (p : List Effect) (f : ℕ) (x : FeedRecord) (r : Row) → IsToldIn (Some x) (told_to p f) → is_left x.told r ≡ is_beyond (place_with p f (feed_part x)) r
-left_is p f x r told = ap (λ (t : Told). is_left t r) told
+in_filter : (q : Row → Bool) (r : Row) (rows : List Row) → IsRowIn r (filter q rows) ↔ (IsRowIn r rows × (q r ≡ true))
+in_filter q r [] = (λ i. absurd i, λ i. absurd i.0)
+in_filter q r (s ∷ rows) = grind (arith, common_steps, in_filter q r rows)
 
--- behind a timestamp, and behind the last row where that is above it, is behind the place of both
-behind_both : (n : ℕ) (o : Option VersionName) (r : Row) → n < r.ts → is_after_name o r ≡ true → is_after (max n (row_ts o)) (key_above n o) r.key r.ts ≡ true
-behind_both n None r above after = lt-ltb (max n 0) r.ts (omega arith)
-behind_both n (Some row) r above after = grind (arith, common_steps)
+rises_filter : (q : Row → Bool) (rows : List Row) → RisingRows rows → RisingRows (filter q rows)
+rises_filter q [] rise = tt
+rises_filter q (s ∷ rows) rise = grind (arith, common_steps, in_filter, rises_filter q rows rise.1)
 
--- and what is behind the place is behind both
-both_behind : (n : ℕ) (o : Option VersionName) (r : Row) → is_after (max n (row_ts o)) (key_above n o) r.key r.ts ≡ true → (n < r.ts) × (is_after_name o r ≡ true)
-both_behind n None r after = let above : max n 0 < r.ts = ltb-true _ _ after in (omega arith, refl)
-both_behind n (Some row) r after = grind (arith, common_steps)
+pub untold_filtered : (p : List Effect) → AllAllowed p → (f : ℕ) (x : FeedRecord) → IsRecordOf p f x → untold_rows p f (feed_part x) ≡ filter (is_left x.told) (list_of p (feed_part x) (closed_of p))
+untold_filtered p all f x is =
+    let feed = feed_part x in
+    let list = list_of p feed (closed_of p) in
+    let h = feeding p all f feed is.feed in
+    let u = beyond_is p all f feed is.feed h in
+    untold_is p f feed h.begins.0 h.begins.1
+    ∙ only_rows h.begins.0 (filter (is_left x.told) list) u.0 (rises_filter (is_left x.told) list (list_rises p feed (closed_of p))) (λ r.
+    let there = in_filter (is_left x.told) r list in
+    let among = in_list p feed (closed_of p) r in
+    let left = ap (λ (t : Told). is_left t r) is.told in (
+      λ i. let s = (u.1 r).0 i in there.1 (among.1 s.0, left ∙ s.1),
+      λ i. let s = there.0 i in (u.1 r).1 (among.0 s.0, sym left ∙ s.1),
+    ))
 
--- ---- a committed version
+-- ---- the stream
 
-committed_parts : {a : After} (done : Bool) (o : Option After) → cond done o None ≡ Some a → (done ≡ true) × (o ≡ Some a)
-committed_parts true o is = (refl, is)
-committed_parts false o is = absurd cc
+-- above a timestamp, or of it behind a key
+abbrev is_behind : ℕ → Option (List ℕ) → Row → Bool
+is_behind ts None r = nat_lt ts r.ts
+is_behind ts (Some key) r = nat_lt ts r.ts || ((ts == r.ts) && key_lt key r.key)
 
-pub committed_there : {a : After} (done : Bool) (o : Option After) → done ≡ true → o ≡ Some a → cond done o None ≡ Some a
-committed_there done o e is = rw e is
+-- the rows of one timestamp
+abbrev rows_at : ℕ → (List ℕ → After) → List (List ℕ) → List Row
+rows_at t f keys = map (λ x. record { ts = t; key = x; after = f x }) keys
 
--- ---- which feeds are in their snapshot
+one_left : (g : Row → Bool) (ts t : ℕ) (key : Option (List ℕ)) (f : List ℕ → After) → ((r : Row) → r.ts ≡ t → g r ≡ is_behind ts key r)
+    → (keys : List (List ℕ)) → filter g (rows_at t f keys) ≡ cond (nat_le ts t) (cond (nat_lt ts t) (rows_at t f keys) (past_of key (rows_at t f keys))) []
+one_left g ts t None f same [] = grind (arith, common_steps, nat_tests)
+one_left g ts t (Some key) f same [] = grind (arith, common_steps, nat_tests)
+one_left g ts t None f same (x ∷ xs) =
+    let first = same (record { ts = t; key = x; after = f x }) refl in
+    grind (arith, common_steps, nat_tests, one_left g ts t None f same xs)
+one_left g ts t (Some key) f same (x ∷ xs) =
+    let first = same (record { ts = t; key = x; after = f x }) refl in
+    grind (arith, common_steps, nat_tests, one_left g ts t (Some key) f same xs)
+
+-- where what is left above c is what is behind a place, the rest of the stream from c is what is behind the place
+pub stream_left : (p : List Effect) (span : Span) (g : Row → Bool) (c ts : ℕ) (key : Option (List ℕ)) → c ≤ ts → (is_some key ≡ true → c < ts) → ((r : Row) → c < r.ts → g r ≡ is_behind ts key r)
+    → (n : ℕ) → filter g (stream_of p span c n) ≡ beside p span ts key n ++ stream_of p span ts n
+stream_left p span g c ts None low above same zero = refl
+stream_left p span g c ts (Some key) low above same zero = let off : nat_le ts 0 ≡ false = (let over : c < ts = above refl in grind (arith, nat_tests)) in rw off refl
+stream_left p span g c ts key low above same (suc n) =
+    filter-append g (stream_of p span c n) (cond (nat_lt c (suc n) && is_committed p (suc n)) (rows_of p span (suc n)) [])
+    ∙ rw (stream_left p span g c ts key low above same n, of_one (suc n) key above (λ over. one_left g ts (suc n) key (λ x. written_value (write_of p (suc n) x)) (λ r at. same r (omega (arith, at))) (filter (in_span span) (write_set p (suc n))))) (grows p span ts key n)
+  where
+    of_one : (t : ℕ) (k : Option (List ℕ)) → (is_some k ≡ true → c < ts) → (c < t → filter g (rows_of p span t) ≡ cond (nat_le ts t) (cond (nat_lt ts t) (rows_of p span t) (past_of k (rows_of p span t))) [])
+        → filter g (cond (nat_lt c t && is_committed p t) (rows_of p span t) []) ≡ cond (nat_le ts t) (behind_of p span ts k t) []
+    of_one t None above rows = grind (arith, common_steps, nat_tests)
+    of_one t (Some key) above rows = grind (arith, common_steps, nat_tests)
+
+-- ---- the snapshot
+
+-- of values at one timestamp
+pairs_left : (g : Row → Bool) (q : List ℕ → Bool) (t : ℕ) → ((r : Row) → r.ts ≡ t → g r ≡ q r.key) → (m : Map) (keys : List (List ℕ)) → filter g (map (pair_row t) (pairs_of m keys)) ≡ map (pair_row t) (pairs_of m (filter q keys))
+pairs_left g q t same m [] = refl
+pairs_left g q t same m (x ∷ xs) = grind (arith, common_steps, pairs_left g q t same m xs)
+
+-- of a map's values those of the span, as another map has them
+pairs_within : (span : Span) (m n : Map) (keys : List (List ℕ)) → ((x : List ℕ) → m x ≡ n x) → pairs_of (span_part span m) keys ≡ pairs_of n (filter (in_span span) keys)
+pairs_within span m n [] same = refl
+pairs_within span m n (x ∷ xs) same = by_test (in_span span x)
+    (λ inside. rw (inside, same x, pairs_within span m n xs same) refl)
+    (λ out. rw out (pairs_within span m n xs same))
+
+-- at the cursor, where all before was told, what is left is behind the last row's key
+past_is : (resolved c : ℕ) (o : Option VersionName) (r : Row) → c ≡ suc resolved → row_ts o ≤ c → r.ts ≡ c → (nat_lt resolved r.ts && is_after_name o r) ≡ is_past (key_above resolved o) r.key
+past_is resolved c None r next low at = grind (arith, common_steps, nat_tests)
+past_is resolved c (Some row) r next low at = grind (arith, common_steps, nat_tests)
+
+-- above the cursor, what is left is behind the place
+behind_is : (resolved c : ℕ) (o : Option VersionName) (r : Row) → c < r.ts → (nat_lt resolved r.ts && is_after_name o r) ≡ is_behind (max (max c resolved) (row_ts o)) (key_above (max c resolved) o) r
+behind_is resolved c None r above = grind (arith, common_steps, nat_tests)
+behind_is resolved c (Some row) r above = grind (arith, common_steps, nat_tests)
+
+-- where nothing above the cursor was told, all there is left
+above_is : (resolved c : ℕ) (o : Option VersionName) (r : Row) → resolved < c → row_ts o ≤ c → c < r.ts → (nat_lt resolved r.ts && is_after_name o r) ≡ nat_lt c r.ts
+above_is resolved c None r low under above = grind (arith, common_steps, nat_tests)
+above_is resolved c (Some row) r low under above = grind (arith, common_steps, nat_tests)
+
+-- of a feed whose place isn't in the snapshot, nothing at the cursor is left
+told_is : (resolved c : ℕ) (o : Option VersionName) (r : Row) → (nat_lt resolved c && nat_le (row_ts o) c) ≡ false → r.ts ≡ c → (nat_lt resolved r.ts && is_after_name o r) ≡ false
+told_is resolved c None r told at = grind (arith, common_steps, nat_tests)
+told_is resolved c (Some row) r told at = grind (arith, common_steps, nat_tests)
+
+none_left : (g : Row → Bool) (t : ℕ) → ((r : Row) → r.ts ≡ t → g r ≡ false) → (pairs : List (List ℕ × List ℕ)) → filter g (map (pair_row t) pairs) ≡ []
+none_left g t none [] = refl
+none_left g t none (pair ∷ pairs) = rw (none (pair_row t pair) refl) (none_left g t none pairs)
+
+-- ---- all that a feed was not told
+
+untold_parts : (p : List Effect) → AllAllowed p → (f : ℕ) (x : FeedRecord) → IsRecordOf p f x
+    → untold_rows p f (feed_part x) ≡ filter (is_left x.told) (first_rows x.kind p x.span x.cursor) ++ filter (is_left x.told) (stream_of p x.span x.cursor (closed_of p))
+untold_parts p all f x is = untold_filtered p all f x is ∙ filter-append (is_left x.told) (first_rows x.kind p x.span x.cursor) (stream_of p x.span x.cursor (closed_of p))
+
+-- of a feed whose place is in the stream
+pub untold_stream : (p : List Effect) → AllAllowed p → (f : ℕ) (x : FeedRecord) (ts : ℕ) (key : Option (List ℕ)) → IsRecordOf p f x → tells_snapshot x ≡ false
+    → ts ≡ max (told_through x) (row_ts x.told.row) → key ≡ key_above (told_through x) x.told.row → untold_rows p f (feed_part x) ≡ beside p x.span ts key (closed_of p) ++ stream_of p x.span ts (closed_of p)
+untold_stream p all f x ts key is out at behind =
+    untold_parts p all f x is ∙ rw (at, behind, none) (stream_left p x.span (is_left x.told) x.cursor (max (told_through x) (row_ts x.told.row)) (key_above (told_through x) x.told.row) (omega arith) (over x.told.row) (behind_is x.told.resolved x.cursor x.told.row) (closed_of p))
+  where
+    over : (o : Option VersionName) → is_some (key_above (told_through x) o) ≡ true → x.cursor < max (told_through x) (row_ts o)
+    over o is = grind (arith, common_steps, nat_tests)
+
+    none : filter (is_left x.told) (first_rows x.kind p x.span x.cursor) ≡ []
+    none = by_test x.kind.initial
+        (λ first. rw first (none_left (is_left x.told) x.cursor (λ r at. told_is x.told.resolved x.cursor x.told.row r (rw first at out) at) (pairs_of (span_part x.span (map_at p x.cursor)) (written_keys p))))
+        (λ isnt. rw isnt refl)
 
 pub is_in_snapshot : (x : FeedRecord) → tells_snapshot x ≡ true → (x.kind.initial ≡ true) × (x.told.resolved < x.cursor) × (row_ts x.told.row ≤ x.cursor)
 is_in_snapshot x tells = grind (arith, common_steps)
 
-snapshot_told : (x : FeedRecord) (r : Row) → tells_snapshot x ≡ false → x.kind.initial ≡ true → r.ts ≡ x.cursor → is_left x.told r ≡ true → ⊥
-snapshot_told x r told initial at left =
-    let parts = and_parts (nat_lt x.told.resolved r.ts) _ left in
-    let low : x.told.resolved < r.ts = ltb-true x.told.resolved r.ts parts.0 in
-    let under : row_ts x.told.row ≤ r.ts = row_low x.told.row parts.1 in
-    let tells : tells_snapshot x ≡ true = and_from x.kind.initial _ initial (and_from (nat_lt x.told.resolved x.cursor) _ (lt-ltb x.told.resolved x.cursor (omega (arith, at))) (le-leb (row_ts x.told.row) x.cursor (omega (arith, at)))) in
-    let clash : true ≡ false = sym tells ∙ told in cc
-  where
-    row_low : (o : Option VersionName) → is_after_name o r ≡ true → row_ts o ≤ r.ts
-    row_low None after = omega arith
-    row_low (Some row) after = name_order row r after
+-- of a feed whose place is in the snapshot
+pub untold_snapshot : (p : List Effect) → AllAllowed p → (f : ℕ) (x : FeedRecord) (key : Option (List ℕ)) → IsRecordOf p f x → tells_snapshot x ≡ true → key ≡ key_above x.told.resolved x.told.row
+    → untold_rows p f (feed_part x) ≡ map (pair_row x.cursor) (pairs_of (λ y. (visible p y x.cursor).after) (keys_past key (filter (in_span x.span) (written_keys p)))) ++ stream_of p x.span x.cursor (closed_of p)
+untold_snapshot p all f x key is tells behind =
+    let s = is_in_snapshot x tells in
+    let settled : x.cursor ≤ closed_of p = (feeding p all f (feed_part x) is.feed).settled s.0 in
+    let start : start_at x.kind x.cursor ≤ x.told.resolved = subst (λ (t : Told). start_at x.kind x.cursor ≤ t.resolved) (sym is.told) (resolved_grows (start_at x.kind x.cursor) (told_to p f)) in
+    let near : x.cursor ≡ suc x.told.resolved = (let low : x.cursor - 1 ≤ x.told.resolved = rw s.0 at start in omega (arith, s.1)) in
+    untold_parts p all f x is
+    ∙ rw (s.0, behind, pairs_within x.span (map_at p x.cursor) (λ y. (visible p y x.cursor).after) (written_keys p) (λ y. map_at_is p x.cursor y ∙ sym (closed_value p all y x.cursor settled)))
+    (rw (
+      pairs_left (is_left x.told) (is_past (key_above x.told.resolved x.told.row)) x.cursor (λ r at. past_is x.told.resolved x.cursor x.told.row r near s.2 at) (λ y. (visible p y x.cursor).after) (filter (in_span x.span) (written_keys p)),
+      stream_left p x.span (is_left x.told) x.cursor x.cursor None (omega arith) (λ no. cc) (λ r above. above_is x.told.resolved x.cursor x.told.row r s.1 s.2 above) (closed_of p),
+    ) refl)
 
--- ---- the stream
+-- the first of both parts are the first of all
+both_first : (m n : ℕ) (firsts rows xs ys : List Row) → firsts ≡ take m xs → n ≡ m - length firsts → rows ≡ take n ys → firsts ++ rows ≡ take m (xs ++ ys)
+both_first m n firsts rows xs ys first left rest = grind (arith, common_steps, length-take, take_both)
 
-module _ (table : Table) (stored : Stored) (p : List Effect) (tied : (y : List ℕ) (t : ℕ) → committed_at table stored y t ≡ committed_version_of p y t) where
-  -- a row that was streamed and isn't told is one of the chains behind the place, and no other is
-  stream_in : (x : FeedRecord) (r : Row) → is_left x.told r ≡ true → IsStreamed p x.span x.cursor (closed_of p) r → IsRowAfter table stored x.span (max (told_through x) (row_ts x.told.row)) (key_above (told_through x) x.told.row) (closed_of p) r
-  stream_in x r left streamed =
-      let parts = and_parts (nat_lt x.told.resolved r.ts) _ left in
-      let resolved : x.told.resolved < r.ts = ltb-true x.told.resolved r.ts parts.0 in record {
-        there = tied r.key r.ts ∙ committed_there (is_committed p r.ts) (write_of p r.ts r.key) streamed.done streamed.wrote;
-        inside = streamed.inside;
-        later = behind_both (told_through x) x.told.row r (omega (arith, streamed.above)) parts.1;
-        low = streamed.low;
-        some = omega (arith, streamed.above);
-      }
+pub snapshot_taken : (p : List Effect) → AllAllowed p → (f : ℕ) (x : FeedRecord) (key : Option (List ℕ)) → IsRecordOf p f x → tells_snapshot x ≡ true → key ≡ key_above x.told.resolved x.told.row
+    → (n max room : ℕ) (firsts rows : List Row) → n ≡ closed_of p → n ≤ MAX → (x.cursor ≤ MAX → firsts ≡ take max (map (pair_row x.cursor) (pairs_of (λ y. (visible p y x.cursor).after) (keys_past key (filter (in_span x.span) (written_keys p))))))
+    → room ≡ max - length firsts → rows ≡ take room (stream_of p x.span x.cursor n) → firsts ++ rows ≡ take max (untold_rows p f (feed_part x))
+snapshot_taken p all f x key is tells behind n max room firsts rows at low first left rest =
+    let settled : x.cursor ≤ closed_of p = (feeding p all f (feed_part x) is.feed).settled (is_in_snapshot x tells).0 in
+    both_first max room firsts rows _ _ (first (omega (arith, at, low, settled))) left rest ∙ rw at (ap (take max) (sym (untold_snapshot p all f x key is tells behind)))
 
-  stream_out : (x : FeedRecord) (r : Row) → IsRowAfter table stored x.span (max (told_through x) (row_ts x.told.row)) (key_above (told_through x) x.told.row) (closed_of p) r → IsStreamed p x.span x.cursor (closed_of p) r × (is_left x.told r ≡ true)
-  stream_out x r after =
-      let behind = both_behind (told_through x) x.told.row r after.later in
-      let parts = committed_parts (is_committed p r.ts) (write_of p r.ts r.key) (sym (tied r.key r.ts) ∙ after.there) in
-      (record { above = omega (arith, behind.0); low = after.low; done = parts.0; inside = after.inside; wrote = parts.1 }, and_from (nat_lt x.told.resolved r.ts) _ (lt-ltb x.told.resolved r.ts (omega (arith, behind.0))) behind.1)
+-- ---- at no timestamp
 
-  -- the rows behind a place in the stream
-  pub stream_left : AllAllowed p → (f : ℕ) (x : FeedRecord) (ts : ℕ) (key : Option (List ℕ)) (rows : List Row) → feed_of p f ≡ Some (feed_part x) → IsToldIn (Some x) (told_to p f) → tells_snapshot x ≡ false
-      → ts ≡ max (told_through x) (row_ts x.told.row) → key ≡ key_above (told_through x) x.told.row → AreRowsAfter table stored x.span ts key (closed_of p) rows → rows ≡ untold_rows p f (feed_part x)
-  stream_left all f x ts key rows is told out at behind are =
-      let h = feeding p all f (feed_part x) is in
-      let u = beyond_is p all f (feed_part x) is h in
-      let placed : AreRowsAfter table stored x.span (max (told_through x) (row_ts x.told.row)) (key_above (told_through x) x.told.row) (closed_of p) rows = rw (at, behind) at are in
-      only_rows rows h.begins.0 placed.rising u.0 (λ r. (
-        λ i. let s = stream_out x r ((placed.each r).0 i) in (u.1 r).1 (inr s.0, sym (left_is p f x r told) ∙ s.1),
-        λ i. let s = (u.1 r).0 i in let left : is_left x.told r ≡ true = left_is p f x r told ∙ s.1 in elim s.0 [
-          | inl first ↦ absurd (snapshot_told x r out first.0 first.1.at left)
-          | inr streamed ↦ (placed.each r).1 (stream_in x r left streamed)
-        ],
-      ))
-      ∙ sym (untold_is p f (feed_part x) h.begins.0 h.begins.1)
+-- what is in range and no timestamp is 0
+no_timestamp : (n : ℕ) → ((false ≡ true) ↔ ((1 ≤ n) × (n ≤ MAX))) → n ≤ MAX → n ≡ 0
+no_timestamp zero none low = refl
+no_timestamp (suc n) none low = let no : false ≡ true = none.1 (omega arith, low) in cc
 
-  -- ---- the snapshot
+-- nothing is visible where the cursor is none
+pub none_visible : (p : List Effect) (c max : ℕ) (xs : List (List ℕ)) → ((false ≡ true) ↔ ((1 ≤ c) × (c ≤ MAX))) → c ≤ MAX → [] ≡ take max (map (pair_row c) (pairs_of (λ x. (visible p x c).after) xs))
+none_visible p zero max (x ∷ xs) none low = none_visible p zero max xs none low
+none_visible p zero zero [] none low = refl
+none_visible p zero (suc max) [] none low = refl
+none_visible p (suc c) max xs none low = let no : suc c ≡ 0 = no_timestamp (suc c) none low in cc
 
-  -- the map's value is that of the newest committed version
-  value_is : (x : List ℕ) (t : ℕ) → (newest (committed_at table stored x) t).after ≡ map_at p t x
-  value_is x t = ap (λ (v : Version). v.after) (newest_same (committed_at table stored x) (committed_version_of p x) t (λ i low. tied x i)) ∙ sym (map_at_is p t x)
+-- nothing is left where nothing is closed
+pub nothing_left : (db : PlainDatabase) (h : List Event) (f : ℕ) (x : FeedRecord) (max : ℕ) → ((false ≡ true) ↔ ((1 ≤ db.versions.closed) × (db.versions.closed ≤ MAX)))
+    → StandsFor db h → IsRecordOf (effects_of h) f x → [] ≡ take max (untold_rows (effects_of h) f (feed_part x))
+nothing_left db h f x max none stands is =
+    let p = effects_of h in
+    let zeroth : closed_of p ≡ 0 = sym stands.tied.versions.closed_at ∙ no_timestamp db.versions.closed none (omega (arith, stands.tied.versions.closed_at, closed_in_range h stands.legal)) in
+    let settled = (feeding p (legal_allowed h stands.legal) f (feed_part x) is.feed).settled in
+    let first : first_rows x.kind p x.span x.cursor ≡ [] = first_none x.kind p x.span x.cursor (λ is. omega (arith, zeroth, settled is)) in
+    grind (arith, common_steps)
 
-  -- at the cursor, behind the last row is behind its key
-  past_is : (x : FeedRecord) (r : Row) → x.cursor ≤ suc x.told.resolved → tells_snapshot x ≡ true → r.ts ≡ x.cursor → is_left x.told r ≡ is_past (key_above x.told.resolved x.told.row) r.key
-  past_is x r near tells at =
-      let s = is_in_snapshot x tells in
-      let high : nat_lt x.told.resolved r.ts ≡ true = lt-ltb x.told.resolved r.ts (omega (arith, at, s.1)) in
-      rw high (by_row x.told.row s.2)
-    where
-      by_row : (o : Option VersionName) → row_ts o ≤ x.cursor → is_after_name o r ≡ is_past (key_above x.told.resolved o) r.key
-      by_row None low = refl
-      by_row (Some row) low = by_test (nat_lt x.told.resolved row.ts)
-          (λ over.
-          let less : x.told.resolved < row.ts = ltb-true x.told.resolved row.ts over in
-          let same : row.ts ≡ r.ts = omega (arith, at) in
-          let equal : (row.ts == r.ts) ≡ true = eq-eqb row.ts r.ts same in
-          let not_less : nat_lt row.ts r.ts ≡ false = le-ltb row.ts r.ts (omega arith) in
-          rw (over, equal, not_less) refl)
-          (λ under. let below : row.ts ≤ x.told.resolved = ltb-false x.told.resolved row.ts under in rw (under, lt-ltb row.ts r.ts (omega (arith, at, (is_in_snapshot x tells).1))) refl)
-
-  -- above the cursor all is left
-  stream_whole : (x : FeedRecord) (r : Row) → tells_snapshot x ≡ true → x.cursor < r.ts → is_left x.told r ≡ true
-  stream_whole x r tells above =
-      let s = is_in_snapshot x tells in
-      and_from (nat_lt x.told.resolved r.ts) _ (lt-ltb x.told.resolved r.ts (omega (arith, s.1))) (by_row x.told.row s.2)
-    where
-      by_row : (o : Option VersionName) → row_ts o ≤ x.cursor → is_after_name o r ≡ true
-      by_row None low = refl
-      by_row (Some row) low = or_left (nat_lt row.ts r.ts) _ (lt-ltb row.ts r.ts (omega arith))
-
-  -- the rows behind a place in the snapshot, and then those of the stream
-  pub snapshot_left : AllAllowed p → (f : ℕ) (x : FeedRecord) (key : Option (List ℕ)) (firsts rows : List Row) → feed_of p f ≡ Some (feed_part x) → IsToldIn (Some x) (told_to p f) → tells_snapshot x ≡ true
-      → key ≡ key_above x.told.resolved x.told.row → AreValueRows table stored x.span key x.cursor firsts → AreRowsAfter table stored x.span x.cursor None (closed_of p) rows → firsts ++ rows ≡ untold_rows p f (feed_part x)
-  snapshot_left all f x key firsts rows is told tells behind values are =
-      let h = feeding p all f (feed_part x) is in
-      let u = beyond_is p all f (feed_part x) is h in
-      let s = is_in_snapshot x tells in
-      let resolved : start_at x.kind x.cursor ≤ x.told.resolved = subst (λ (t : Told). start_at x.kind x.cursor ≤ t.resolved) (sym told) (resolved_grows (start_at x.kind x.cursor) (told_to p f)) in
-      let near : x.cursor ≤ suc x.told.resolved = (let low : x.cursor - 1 ≤ x.told.resolved = subst (λ initial. (if initial then x.cursor - 1 else x.cursor) ≤ x.told.resolved) s.0 resolved in omega arith) in
-      let join = λ (r : Row). in_append r firsts rows in
-      only_rows (firsts ++ rows) h.begins.0
-      (rises_append firsts rows values.rising are.rising (λ r q i j. let first = (values.each r).0 i in let later : x.cursor < q.ts = ltb-true x.cursor q.ts ((are.each q).0 j).later in or_left (nat_lt r.ts q.ts) _ (lt-ltb r.ts q.ts (omega (arith, first.at)))))
-      u.0
-      (λ r. (
-        λ i. elim ((join r).0 i) [
-          | inl j ↦ (let first = (values.each r).0 j in
-              let left : is_left x.told r ≡ true = past_is x r near tells first.at ∙ ap (λ k. is_past k r.key) (sym behind) ∙ first.later in
-              (u.1 r).1 (
-                inl (s.0, record { at = first.at; some = omega (arith, s.1); inside = first.inside; has = sym (value_is r.key x.cursor) ∙ first.found; value = first.value }),
-                sym (left_is p f x r told) ∙ left,
-              ))
-          | inr j ↦ (let after = (are.each r).0 j in
-              let above : x.cursor < r.ts = ltb-true x.cursor r.ts after.later in
-              let parts = committed_parts (is_committed p r.ts) (write_of p r.ts r.key) (sym (tied r.key r.ts) ∙ after.there) in
-              (u.1 r).1 (inr (record { above = above; low = after.low; done = parts.0; inside = after.inside; wrote = parts.1 }), sym (left_is p f x r told) ∙ stream_whole x r tells above))
-        ],
-        λ i. let t = (u.1 r).0 i in let left : is_left x.told r ≡ true = left_is p f x r told ∙ t.1 in elim t.0 [
-          | inl first ↦ (join r).1 (inl ((values.each r).1 (record {
-            at = first.1.at;
-            found = value_is r.key x.cursor ∙ first.1.has;
-            value = first.1.value;
-            inside = first.1.inside;
-            later = ap (λ k. is_past k r.key) behind ∙ sym (past_is x r near tells first.1.at) ∙ left;
-          })))
-          | inr streamed ↦ (join r).1 (inr ((are.each r).1 (record {
-            there = tied r.key r.ts ∙ committed_there (is_committed p r.ts) (write_of p r.ts r.key) streamed.done streamed.wrote;
-            inside = streamed.inside;
-            later = lt-ltb x.cursor r.ts streamed.above;
-            low = streamed.low;
-            some = omega (arith, streamed.above);
-          })))
-        ],
-      ))
-      ∙ sym (untold_is p f (feed_part x) h.begins.0 h.begins.1)
-
--- ---- as far as max
-
-pub both_first : (m n : ℕ) (firsts rows xs ys : List Row) → firsts ≡ take m xs → n ≡ m - length firsts → rows ≡ take n ys → firsts ++ rows ≡ take m (xs ++ ys)
-both_first m n firsts rows xs ys first rest more = grind (arith, common_steps, length-take, take_both)
+pub ruleset taken = (length-map, take-map)

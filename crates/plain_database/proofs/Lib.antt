@@ -1,21 +1,29 @@
 pub mod Common
-pub mod Undecided
-pub mod SpanReads
-pub mod Ties
-pub mod Replies
-pub mod ScanReplies
+pub mod Dead
+pub mod KeysIn
+pub mod LeftRows
+pub mod FeedReplies
+pub mod Reporting
+pub mod Newer
+pub mod Passed
+pub mod Opening
+pub mod ReadSteps
+pub mod Streaming
+pub mod SpanScans
+pub mod TableSteps
+pub mod VersionsTies
+pub mod ClosedRange
+pub mod SnapshotReplies
+pub mod Counting
+pub mod Taken
+pub mod Dumping
+pub mod Limits
+pub mod Walked
 pub mod Events
 pub mod Scanning
-pub mod Counting
-mod LeftRows
-pub mod ClosedRange
-pub mod Room
-pub mod PollSteps
-mod Reading
-mod SpanReading
-mod Replacing
-pub mod Dying
 pub mod Collecting
-pub mod Limits
-pub mod Reporting
-pub mod Dumping
+pub mod Closing
+pub mod Least
+pub mod Telling
+pub mod FeedTies
+pub mod FeedReporting

@@ -1,8 +1,7 @@
 -- What the contracts are said with: what holds after each history, the answer there, and what stands after one more event.
-use Rattle.std.specs.Prelude.{ℕ, List, ◌∷◌, ◌≡◌, ◌<◌, Some, length, true}
+use Rattle.std.specs.Prelude.{ℕ, List, ◌∷◌, ◌≡◌, ◌<◌, length, true}
 use Rattle.spans.specs.declared.calls.commands.Cmd.{Cmd}
-use Rattle.plain_database.specs.Prelude.{Effect, Event, Feed, IsRightEvent, Reply, answer_of, effects_of, event, feed_of, is_accepted, may_lack_memory, next_messages}
-use Rattle.spans.specs.declared.calls.messages.Message.{Message}
+use Rattle.plain_database.specs.Prelude.{Effect, Event, IsRightEvent, Reply, answer_of, effects_of, event, is_accepted, may_lack_memory}
 use Rattle.plain_database.specs.declared.database.PlainDatabase.{PlainDatabase}
 use Rattle.plain_database.specs.Tied.{StandsFor}
 
@@ -38,9 +37,3 @@ abbrev pub Records : PlainDatabase → ℕ → Cmd → Reply → PlainDatabase �
 Records db seat cmd reply db' =
     (h : List Event) (n : ℕ) → StandsFor db h → IsRightEvent (effects_of h) (event n seat cmd reply)
     → StandsFor db' (event n seat cmd reply ∷ h)
-
--- these are the next messages of the feed, at most max
-abbrev pub AreNext : PlainDatabase → ℕ → ℕ → List Message → Type 0
-AreNext db f max ms =
-    (h : List Event) (feed : Feed) → StandsFor db h → feed_of (effects_of h) f ≡ Some feed
-    → ms ≡ next_messages (effects_of h) f feed max

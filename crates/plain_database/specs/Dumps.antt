@@ -1,9 +1,10 @@
 -- What a dump writes, by the rows of the database.
-use Rattle.std.specs.Prelude.{ℕ, List, [], ◌∷◌, ◌≡◌, Bool, Some, filter}
-use Rattle.plain_database.specs.Prelude.{Effect, Row, committed_version_of, horizon_of, is_left, left_rows}
+use Rattle.std.specs.Prelude.{ℕ, List, ◌≡◌, Bool, ◌&&◌, ◌||◌, is_some, nat_le, nat_lt}
+use Rattle.spans.specs.Newest.{newest}
+use Rattle.plain_database.specs.Prelude.{Effect, Row, horizon_of, left_rows}
 use Rattle.plain_database.specs.declared.database.PlainDatabase.{PlainDatabase}
 use Rattle.plain_database.specs.declared.dump.Dump.{Dump}
-use Rattle.plain_database.specs.Answering.{AfterEach}
+use Rattle.plain_database.specs.VersionsTied.{version_in}
 
 -- the dump of p that closes at m
 pub record IsDump (p : List Effect) (m : ℕ) (d : Dump) : Type 0 where
@@ -11,15 +12,6 @@ pub record IsDump (p : List Effect) (m : ℕ) (d : Dump) : Type 0 where
   pub to : d.to ≡ m
   pub horizon : d.horizon ≡ horizon_of p
 
--- each row is a committed version
-abbrev pub AreCommitted : List Effect → List Row → Type 0
-AreCommitted p [] = Unit {0}
-AreCommitted p (r ∷ rows) = (committed_version_of p r.key r.ts ≡ Some r.after) × AreCommitted p rows
-
--- whether the row's version isn't dead, where it is a committed one
-abbrev pub Tells : PlainDatabase → Row → Bool → Type 0
-Tells db r left = AfterEach db (λ p. committed_version_of p r.key r.ts ≡ Some r.after → left ≡ is_left p r)
-
--- those of the rows that aren't dead, where all are committed versions
-abbrev pub AreLeftOf : PlainDatabase → List Row → List Row → Type 0
-AreLeftOf db rows left = AfterEach db (λ p. AreCommitted p rows → left ≡ filter (is_left p) rows)
+-- the row is above the horizon, or has a value and is the newest at or below it
+abbrev pub is_kept : PlainDatabase → Row → Bool
+is_kept db r = nat_lt db.horizon r.ts || (is_some r.after && nat_le (newest (version_in db.versions r.key) db.horizon).ts r.ts)

@@ -1,26 +1,28 @@
 -- The words that the specifications take from below.
-pub use Rattle.plain_feeds.specs.FeedTie.{FeedsTied, IsOpened}
-pub use Rattle.plain_versions.specs.Chains.{IsCleared, committed_at, version_at}
-pub use Rattle.plain_versions.specs.Transactions.{IsSetAt, committed_in, decided, has_aborted, transaction_at}
 pub use Rattle.restarts.specs.Rows.{is_left, left_rows}
+pub use Rattle.spans.proofs.Copies.{AllAllowed}
 pub use Rattle.spans.specs.Answer.{answer_of, first_refusal, first_refusal_or, horizon_tests, is_gap, opening_answer, snapshot_tests, transaction_tests}
-pub use Rattle.spans.specs.Collection.{collection_horizon, dead_of, horizon_of, versions_of}
-pub use Rattle.spans.specs.Effects.{Collects, Effect, effects_of, event, kind_of, open_cmd}
-pub use Rattle.spans.specs.Feeds.{Feed, feed_of, feeds_opened, next_messages, told_to, untold_rows}
+pub use Rattle.spans.specs.Collection.{LiveFeed, Protection, VersionName, collection_horizon, dead_of, floor_after, floor_of, horizon_of, is_protected, live_feeds, protections_made, protections_of, versions_of}
+pub use Rattle.spans.specs.Effects.{After, Cancels, Closes, Collects, Effect, HardCloses, Opens, Polls, Protects, Releases, effects_of, event, kind_of, open_cmd}
+pub use Rattle.spans.specs.Feeds.{Feed, feed_of, feeds_opened, is_cancelled, is_due, last_resolved, next_messages, start_at, told_to, untold_rows}
+pub use Rattle.spans.specs.Kept.{last_name}
+pub use Rattle.spans.specs.KeyOrder.{key_lt}
 pub use Rattle.spans.specs.Keys.{in_span, pairs_of}
 pub use Rattle.spans.specs.Legal.{IsLegal, IsRightEvent, is_accepted, may_lack_memory}
 pub use Rattle.spans.specs.Reads.{too_late}
-pub use Rattle.spans.specs.Report.{AreFeeds, IsFeedReport, IsReport, in_whole, limit_of, removable_of}
-pub use Rattle.spans.specs.Transactions.{closed_of, is_aborted, is_committed, owner_of, undecided_timestamps}
-pub use Rattle.spans.specs.Versions.{committed_value, committed_version_of, is_blocked, version_of, visible, written_keys}
+pub use Rattle.spans.specs.Report.{AreFeeds, IsFeedReport, IsReport, in_whole, last_told, limit_of, protection_report, removable_of}
+pub use Rattle.spans.specs.Transactions.{closed_of, is_aborted, is_committed, least_of, owner_of, undecided_timestamps}
+pub use Rattle.spans.specs.Versions.{committed_value, committed_version_of, is_blocked, version_of, visible, write_of, write_set, written_keys}
 pub use Rattle.spans.specs.declared.calls.commands.Cmd.TheVariants.{Abort, Begin, Cancel, Commit, Del, Get, Poll, Protect, Put, ReadAt, Release, Scan, ScanAt, Stats}
 pub use Rattle.spans.specs.declared.calls.events.Event.{Event}
+pub use Rattle.spans.specs.declared.calls.messages.Message.{Message}
 pub use Rattle.spans.specs.declared.calls.replies.Refusal.TheVariants.{Blocked, TooLate}
 pub use Rattle.spans.specs.declared.calls.replies.Reply.{Reply}
 pub use Rattle.spans.specs.declared.calls.replies.Reply.TheVariants.{Opened, Refused, Written}
 pub use Rattle.spans.specs.declared.span.Span.{Span}
 pub use Rattle.std.specs.List.{AllZip, list_any}
 pub use Rattle.std.specs.Map.{keys_of, lookup}
+pub use Rattle.std.specs.Ordering.{nat_cmp}
 pub use Rattle.timestamps.specs.Bytes.{key_cmp}
 pub use Rattle.timestamps.specs.declared.row.Row.{Row}
 pub use Rattle.timestamps.specs.declared.ts.TheConstants.{MAX}

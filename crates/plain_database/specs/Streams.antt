@@ -1,21 +1,16 @@
 -- The rows that a feed was not told.
-use Rattle.std.specs.Prelude.{ℕ, List, ◌≡◌, ◌≤◌, true, take, Option, Some}
-use Rattle.plain_database.specs.Prelude.{Effect, MAX, Row, closed_of, committed_at, committed_version_of, feed_of, told_to, untold_rows}
-use Rattle.spans.proofs.Copies.{AllAllowed}
-use Rattle.plain_feeds.specs.declared.record.FeedRecord.{FeedRecord}
-use Rattle.plain_feeds.specs.Records.{IsToldIn, feed_part}
-use Rattle.plain_feeds.specs.Places.{key_above, tells_snapshot}
+use Rattle.std.specs.Prelude.{ℕ, List, ◌≡◌, true, take, Option}
+use Rattle.plain_database.specs.Prelude.{Event, Row, effects_of, untold_rows}
+use Rattle.plain_database.specs.Records.{feed_part}
+use Rattle.plain_database.specs.declared.feeds.record.FeedRecord.{FeedRecord}
+use Rattle.plain_database.specs.FeedTie.{IsRecordOf}
+use Rattle.plain_database.specs.Places.{key_above, tells_snapshot}
+use Rattle.plain_database.specs.Tied.{StandsFor}
 use Rattle.plain_database.specs.declared.database.PlainDatabase.{PlainDatabase}
 
--- the chains have the committed versions of p
-abbrev pub HasCommitted : PlainDatabase → List Effect → Type 0
-HasCommitted db p = (y : List ℕ) (t : ℕ) → committed_at db.transactions db.chains y t ≡ committed_version_of p y t
-
--- the rows are the first max, of the list through n, that each feed of which this is the record was not told
-abbrev pub AreLeft : PlainDatabase → FeedRecord → ℕ → ℕ → List Row → Type 0
-AreLeft db x n max rows =
-    (p : List Effect) → AllAllowed p → HasCommitted db p → (f : ℕ) → feed_of p f ≡ Some (feed_part x) → IsToldIn (Some x) (told_to p f)
-    → n ≡ closed_of p → n ≤ MAX → rows ≡ take max (untold_rows p f (feed_part x))
+-- the rows are the first max, of the list through closed, that each feed of which this is the record was not told
+abbrev pub AreLeft : PlainDatabase → FeedRecord → ℕ → List Row → Type 0
+AreLeft db x max rows = (h : List Event) (f : ℕ) → StandsFor db h → IsRecordOf (effects_of h) f x → rows ≡ take max (untold_rows (effects_of h) f (feed_part x))
 
 -- the feed's place is in the snapshot, behind the key
 abbrev pub IsInSnapshot : FeedRecord → Option (List ℕ) → Type 0

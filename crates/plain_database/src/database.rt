@@ -1,11 +1,10 @@
-//! The checker's database: a map for each thing that a history is asked about.
+//! The checker's database: what a history is asked about, and nothing that a walk finds.
 ghost use Rattle.std.specs.Prelude.{◌≡◌, IfOk, OnErr, OnOk, [], true};
 
-use crate::feeds::kind_of;
-use crate::reads::Reads;
-use crate::span_reads::Scans;
-use plain_feeds::{FeedBook, Protections};
-use plain_versions::{Chains, Transactions};
+use crate::feed_calls::kind_of;
+use crate::feeds::book::FeedBook;
+use crate::feeds::protections::Protections;
+use crate::versions::store::VersionStore;
 use spans::calls::{Cmd, Reply};
 use std::alloc::{AllocError, Global};
 
@@ -13,12 +12,11 @@ use std::alloc::{AllocError, Global};
 #[derive(Drop)]
 pub struct PlainDatabase {
     pub(crate) alloc: Global,
-    pub(crate) closed: u64,
-    pub(crate) transactions: Transactions,
-    pub(crate) chains: Chains,
-    pub(crate) reads: Reads,
-    pub(crate) scans: Scans,
+    pub(crate) versions: VersionStore,
+    /// How many versions stand at or below closed.
+    pub(crate) passed: u64,
     pub(crate) horizon: u64,
+    /// How many versions are dead.
     pub(crate) dead: u64,
     pub(crate) feeds: FeedBook,
     pub(crate) protections: Protections,
@@ -26,9 +24,8 @@ pub struct PlainDatabase {
 
 impl PlainDatabase {
     ghost use Rattle.spans.specs.Legal.{is_accepted, may_lack_memory};
-    ghost use Rattle.spans.specs.Transactions.{closed_of};
-    ghost use Rattle.plain_database.specs.Answering.{AfterEach, AnswersCounted, MayLackMemory, Records};
-    ghost use Rattle.plain_database.specs.Tied.{StandsFor, closed_timestamp};
+    ghost use Rattle.plain_database.specs.Answering.{AnswersCounted, MayLackMemory, Records};
+    ghost use Rattle.plain_database.specs.Tied.{StandsFor};
 
     /// The database of the empty history.
     pub fn new(alloc: Global) -> PlainDatabase
@@ -36,24 +33,13 @@ impl PlainDatabase {
     {
         PlainDatabase {
             alloc,
-            closed: 0,
-            transactions: Transactions::new(alloc),
-            chains: Chains::new(alloc),
-            reads: Reads::new(alloc),
-            scans: Scans::new(alloc),
+            versions: VersionStore::new(alloc),
+            passed: 0,
             horizon: 0,
             dead: 0,
             feeds: FeedBook::new(alloc),
             protections: Protections::new(alloc),
         }
-    }
-
-    /// The closed timestamp.
-    pub fn closed(&self) -> u64
-        ensures number { result ≡ closed_timestamp self.now }
-        ensures history { AfterEach self.now (λ p. result ≡ closed_of p) }
-    {
-        self.closed
     }
 
     /// The answer to a seat's command, after a history whose events a `u64` can count. It changes nothing.
@@ -130,7 +116,7 @@ impl PlainDatabase {
             }
             Cmd::Cancel { feed } => self.record_cancel(*feed, reply),
             Cmd::Collect { to } => self.record_collect(*to, reply),
-            Cmd::Poll { feed, max: _ } => self.record_poll(seat, *feed, reply)?,
+            Cmd::Poll { feed, max: _ } => self.record_poll(*feed, reply)?,
             Cmd::Stats => {}
         }
         Ok(())

@@ -1,161 +1,22 @@
-//! The checker's openings, polls and cancels of feeds.
-ghost use Rattle.std.specs.Prelude.{◌≡◌, IfOk, OnErr, OnOk, suc, true, ℕ};
-ghost use Rattle.plain_database.specs.Prelude.{Cancel, IsOpened, Opened, Poll, feeds_opened, is_accepted, is_gap, kind_of, open_cmd, opening_answer};
-ghost use Rattle.plain_database.specs.Answering.{Accepts, AfterCounted, Answers, AreNext, Records};
+//! The checker's feeds that live (`book`, `record`, `told`, `place`, `report`), its protections, and the horizon that
+//! both hold back.
+//!
+//! 1. Both lists have the newest first, as the definitions say them.
+//! 2. A number up to how many were opened without a record is that of a feed that was cancelled.
+//! 3. Of the messages that it was told a feed keeps the name of the last row, the greatest and the latest resolved
+//!    timestamp, and the floor. They say at which place its next rows begin.
+//!
+//! ```text
+//! open from 5                    told nothing           place: above 5        floor 5
+//! poll 1, of rows 10 a, 20 b     told 10 a              place: at 10, a       floor 9, as another row of 10 may follow
+//! poll 9, closed at 30           told 20 b, to 30       place: above 30       floor 30
+//! cancel                                                                      none: it holds no horizon back
+//! ```
 
-use crate::database::PlainDatabase;
-use spans::calls::{Messages, Refusal, Reply};
-use spans::kind::Kind;
-use spans::span::Span;
-use std::alloc::AllocError;
-use timestamps::ts::{MAX, Ts};
-
-/// A kind of feeds from its parts.
-pub(crate) fn kind_of(initial: bool, gap: Option<u64>) -> Kind
-    ensures { result ≡ kind_of initial gap }
-{
-    Kind { initial, gap }
-}
-
-/// Whether a gap, where there is one, is in the range of timestamps.
-fn is_gap(gap: Option<u64>) -> bool
-    ensures { result ≡ is_gap gap }
-{
-    match gap {
-        None => true,
-        Some(gap) => gap > 0 && gap <= MAX,
-    }
-}
-
-impl PlainDatabase {
-    /// The answer to an opening of a feed of this kind: its tests in order.
-    pub(crate) fn answer_open(&self, kind: Kind, cursor: u64) -> Reply
-        ensures { AfterCounted self.now (λ p. result ≡ opening_answer kind p cursor) }
-    {
-        if cursor > MAX {
-            return Reply::Refused(Refusal::TsRange);
-        }
-        if !is_gap(kind.gap) {
-            return Reply::Refused(Refusal::GapRange);
-        }
-        if cursor < self.horizon {
-            return Reply::Refused(Refusal::BelowHorizon {
-                horizon: self.horizon,
-            });
-        }
-        // what an initial feed tells first is read at its cursor
-        if kind.initial && cursor > self.closed {
-            return Reply::Refused(Refusal::NotClosed {
-                closed: self.closed,
-            });
-        }
-        self.opened()
-    }
-
-    /// The reply to an opening that isn't refused.
-    fn opened(&self) -> Reply
-        ensures { AfterCounted self.now (λ p. result ≡ Opened (suc (feeds_opened p))) }
-    {
-        // no more were opened than there were commands, so a number is left
-        Reply::Opened {
-            feed: self.feeds.opened().saturating_add(1),
-        }
-    }
-
-    pub(crate) fn record_open(
-        &mut self,
-        seat: u8,
-        kind: Kind,
-        span: &Span,
-        cursor: u64,
-        reply: &Reply,
-    ) -> Result<(), AllocError>
-        ensures ok { OnOk result (Records self.old seat (open_cmd kind span.now cursor) reply.now self.new) }
-        ensures err { OnErr result (self.new ≡ self.old) }
-        ensures memory { OnErr result (is_accepted reply.now ≡ true) }
-    {
-        match reply {
-            Reply::Opened { feed: _ } => {
-                if self.feeds.opened() == u64::MAX {
-                    return Err(AllocError);
-                }
-                let _feed = self.feeds.open(seat, kind, span, cursor)?;
-                Ok(())
-            }
-            _ => Ok(()),
-        }
-    }
-
-    pub(crate) fn answer_poll(&self, seat: u8, feed: u64, max: u64) -> Result<Reply, AllocError>
-        ensures answer { IfOk result (λ reply. Answers self.now seat (Poll feed max) reply) }
-        ensures memory { OnErr result (Accepts self.now seat (Poll feed max)) }
-    {
-        if let Some(refusal) = self.feeds.poll_refusal(feed, seat) {
-            return Ok(Reply::Refused(refusal));
-        }
-        let messages = self.next_messages(feed, max)?;
-        Ok(Reply::Messages(messages))
-    }
-
-    /// The next messages of a feed, at most `max`.
-    fn next_messages(&self, feed: u64, max: u64) -> Result<Messages, AllocError>
-        requires { IsOpened self.now.feeds feed }
-        ensures { IfOk result (λ messages. AreNext self.now feed max messages) }
-    {
-        match Ts::new(self.closed) {
-            // nothing is closed, so nothing can be told
-            None => Ok(Messages::from_vec(Vec::new(self.alloc))),
-            Some(closed) => {
-                let record = self.feeds.feed(feed);
-                let rows = self.rows_left(record, closed, max)?;
-                self.feeds
-                    .next_messages(self.alloc, feed, max, closed.get(), rows)
-            }
-        }
-    }
-
-    /// The feed was told the messages of the reply.
-    pub(crate) fn record_poll(
-        &mut self,
-        seat: u8,
-        feed: u64,
-        reply: &Reply,
-    ) -> Result<(), AllocError>
-        ensures ok { OnOk result ((max : ℕ) → Records self.old seat (Poll feed max) reply.now self.new) }
-        ensures err { OnErr result (self.new ≡ self.old) }
-        ensures memory { OnErr result (is_accepted reply.now ≡ true) }
-    {
-        match reply {
-            Reply::Messages(messages) => {
-                // no poll that is refused has such a reply
-                if self.feeds.poll_refusal(feed, seat).is_some() {
-                    return Ok(());
-                }
-                self.feeds.tell(feed, messages)
-            }
-            _ => Ok(()),
-        }
-    }
-
-    pub(crate) fn answer_cancel(&self, feed: u64) -> Reply
-        ensures { (seat : ℕ) → Answers self.now seat (Cancel feed) result }
-    {
-        match self.feeds.cancel_refusal(feed) {
-            Some(refusal) => Reply::Refused(refusal),
-            None => Reply::Cancelled,
-        }
-    }
-
-    pub(crate) fn record_cancel(&mut self, feed: u64, reply: &Reply)
-        ensures { (seat : ℕ) → Records self.old seat (Cancel feed) reply.now self.new }
-    {
-        match reply {
-            Reply::Cancelled => {
-                if self.feeds.cancel_refusal(feed).is_none() {
-                    self.feeds.cancel(feed);
-                }
-            }
-            _ => {}
-        }
-    }
-}
+pub mod book;
+pub mod horizon;
+pub mod place;
+pub mod protections;
+pub mod record;
+pub mod report;
+pub mod told;

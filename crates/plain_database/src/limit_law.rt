@@ -6,6 +6,7 @@ ghost use Rattle.plain_database.specs.Prelude.{Event, IsLegal, closed_of, collec
 /// nothing else.
 ///
 /// It does nothing. Its contract is the theorem.
+#[tactic(auto, using(crate::proofs::Limits::limit_reached))]
 pub fn law_of_limits()
     ensures { (h : List Event) → IsLegal h → (limit_of (effects_of h)).at ≡ collection_horizon (effects_of h) (closed_of (effects_of h)) }
 {}

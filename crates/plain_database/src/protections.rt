@@ -9,6 +9,7 @@ use std::alloc::AllocError;
 use timestamps::ts::MAX;
 
 impl PlainDatabase {
+    #[tactic(auto, using(spans::proofs::Histories::made_at_most, spans::proofs::Histories::effect_count))]
     pub(crate) fn answer_protect(&self, t: u64) -> Reply
         ensures { (seat : ℕ) → AnswersCounted self.now seat (Protect t) result }
     {

@@ -1,15 +1,17 @@
 //! The checker's scans in a transaction.
-ghost use Rattle.std.specs.Prelude.{◌≡◌, IfOk, OnErr, OnOk, option_map, true, ℕ};
-ghost use Rattle.plain_database.specs.Prelude.{Blocked, Scan, first_refusal, is_accepted};
+ghost use Rattle.std.specs.Prelude.{◌≡◌, IfOk, OnErr, OnOk, true, ℕ};
+ghost use Rattle.plain_database.specs.Prelude.{Scan, is_accepted};
 ghost use Rattle.plain_database.specs.Answering.{Accepts, AfterEach, Answers, Records};
-ghost use Rattle.plain_database.specs.Replies.{block_tests, rows_seen};
+ghost use Rattle.plain_database.specs.Replies.{rows_seen};
 
 use crate::database::PlainDatabase;
+use crate::versions::reads::Read;
 use spans::calls::{Refusal, Reply, Rows};
 use spans::span::Span;
 use std::alloc::AllocError;
 
 impl PlainDatabase {
+    #[tactic(auto, using(crate::proofs::Common::legal_allowed, crate::proofs::Common::tests_past, crate::proofs::Common::first_met, crate::proofs::Common::none_met))]
     pub(crate) fn answer_scan(&self, seat: u8, ts: u64, span: &Span) -> Result<Reply, AllocError>
         ensures answer { IfOk result (λ reply. Answers self.now seat (Scan ts span.now) reply) }
         ensures memory { OnErr result (Accepts self.now seat (Scan ts span.now)) }
@@ -17,7 +19,7 @@ impl PlainDatabase {
         if let Some(refusal) = self.refusal(seat, ts) {
             return Ok(Reply::Refused(refusal));
         }
-        if let Some(by) = self.blocked_in(span, ts) {
+        if let Some(by) = self.versions.blocker(span, ts) {
             return Ok(Reply::Refused(Refusal::Blocked { by }));
         }
         let rows = self.visible_rows(span, ts)?;
@@ -37,26 +39,19 @@ impl PlainDatabase {
     {
         match reply {
             Reply::Rows(_) => {
-                let sources = self.chains.sources(self.alloc, span, ts)?;
-                self.scans.add(ts, span, sources)
+                let sources = self.versions.sources(self.alloc, span, ts)?;
+                let span = span.copy()?;
+                self.versions.read(ts, Read::Span { span, sources })
             }
             _ => Ok(()),
         }
     }
 
-    /// The writer that stops a transaction from reading a span. Its version stands at the least of the keys
-    /// whose version is another's and isn't committed.
-    fn blocked_in(&self, span: &Span, ts: u64) -> Option<u64>
-        ensures { AfterEach self.now (λ p.
-            first_refusal (block_tests p span.now ts) ≡ option_map Blocked result) }
-    {
-        self.chains.blocker(&self.transactions, span, ts)
-    }
-
     /// The rows of a span that a transaction sees.
-    fn visible_rows(&self, span: &Span, ts: u64) -> Result<Rows, AllocError>
+    pub(crate) fn visible_rows(&self, span: &Span, ts: u64) -> Result<Rows, AllocError>
         ensures { IfOk result (λ rows. AfterEach self.now (λ p. rows ≡ rows_seen p span.now ts)) }
     {
-        self.chains.visible_rows(self.alloc, span, ts)
+        let pairs = self.versions.pairs(self.alloc, span, None, ts, u64::MAX)?;
+        Ok(Rows::from_vec(pairs))
     }
 }

@@ -1,6 +1,6 @@
 //! Reads at a closed timestamp, of a key and of a span. They change nothing, so there is nothing to record.
-ghost use Rattle.std.specs.Prelude.{◌≡◌, IfOk, OnErr, ℕ};
-ghost use Rattle.plain_database.specs.Prelude.{ReadAt, ScanAt, first_refusal, snapshot_tests};
+ghost use Rattle.std.specs.Prelude.{◌≡◌, ◌≤◌, IfOk, OnErr, ℕ};
+ghost use Rattle.plain_database.specs.Prelude.{ReadAt, ScanAt, closed_of, first_refusal, snapshot_tests};
 ghost use Rattle.plain_database.specs.Answering.{Accepts, AfterEach, Answers};
 ghost use Rattle.plain_database.specs.Replies.{rows_committed};
 
@@ -12,6 +12,7 @@ use timestamps::key::Key;
 use timestamps::row::copy_after;
 
 impl PlainDatabase {
+    #[tactic(auto, using(std::proofs::lemmas::Bool::Decides::nat_tests, crate::proofs::SnapshotReplies::settled_is))]
     pub(crate) fn answer_read_at(&self, t: u64, key: &Key) -> Result<Reply, AllocError>
         ensures answer { IfOk result (λ reply. (seat : ℕ) → Answers self.now seat (ReadAt t key.now) reply) }
         ensures memory { OnErr result ((seat : ℕ) → Accepts self.now seat (ReadAt t key.now)) }
@@ -19,7 +20,7 @@ impl PlainDatabase {
         if let Some(refusal) = self.snapshot_refusal(t) {
             return Ok(Reply::Refused(refusal));
         }
-        match self.chains.newest(key, t) {
+        match self.versions.newest(key, t) {
             None => Ok(Reply::Found(None)),
             Some(version) => {
                 let after = copy_after(version.after)?;
@@ -43,9 +44,9 @@ impl PlainDatabase {
     pub(crate) fn snapshot_refusal(&self, t: u64) -> Option<Refusal>
         ensures { AfterEach self.now (λ p. result ≡ first_refusal (snapshot_tests p t)) }
     {
-        if t > self.closed {
+        if t > self.versions.closed() {
             return Some(Refusal::NotClosed {
-                closed: self.closed,
+                closed: self.versions.closed(),
             });
         }
         if t < self.horizon {
@@ -56,11 +57,11 @@ impl PlainDatabase {
         None
     }
 
-    /// The rows of a span that were committed at `t`.
+    /// The rows of a span that were committed at `t`, which is closed.
     pub(crate) fn committed_rows(&self, span: &Span, t: u64) -> Result<Rows, AllocError>
-        ensures { IfOk result (λ rows. AfterEach self.now (λ p. rows ≡ rows_committed p span.now t)) }
+        ensures { IfOk result (λ rows. AfterEach self.now (λ p. t ≤ closed_of p → rows ≡ rows_committed p span.now t)) }
     {
-        self.chains
-            .committed_rows(self.alloc, &self.transactions, span, t)
+        let pairs = self.versions.pairs(self.alloc, span, None, t, u64::MAX)?;
+        Ok(Rows::from_vec(pairs))
     }
 }

@@ -1,43 +1,34 @@
 //! The checker's statistics: how many transactions are undecided, and how many versions there are and are dead.
 ghost use Rattle.std.specs.Prelude.{◌≡◌, ◌-◌, length, ℕ};
-ghost use Rattle.plain_database.specs.Prelude.{Stats, dead_of, undecided_timestamps, versions_of};
-ghost use Rattle.plain_database.specs.Answering.{AfterCounted, AfterEach, AnswersCounted};
+ghost use Rattle.plain_database.specs.Prelude.{Stats, dead_of, versions_of};
+ghost use Rattle.plain_database.specs.Answering.{AfterCounted, AnswersCounted};
 
 use crate::database::PlainDatabase;
 use spans::calls::Reply;
 
 impl PlainDatabase {
     /// The versions are counted without the dead ones.
+    #[tactic(auto, using(spans::proofs::Legal::legal_allowed))]
     pub(crate) fn answer_stats(&self) -> Reply
         ensures { (seat : ℕ) → AnswersCounted self.now seat Stats result }
     {
         Reply::Stats {
             versions: self.kept_versions(),
-            undecided: self.undecided_count(),
+            undecided: self.versions.open_count(),
             feeds: self.feeds.live_count(),
-            closed: self.closed,
+            closed: self.versions.closed(),
             horizon: self.horizon,
         }
     }
 
     /// How many versions aren't dead.
+    #[tactic(auto, using(crate::proofs::Counting::counting))]
     pub(crate) fn kept_versions(&self) -> u64
         ensures { AfterCounted self.now (λ p. result ≡ length (versions_of p) - length (dead_of p)) }
     {
-        self.version_count().saturating_sub(self.dead)
-    }
-
-    /// How many transactions are undecided.
-    fn undecided_count(&self) -> u64
-        ensures { AfterEach self.now (λ p. result ≡ length (undecided_timestamps p)) }
-    {
-        self.transactions.undecided_count()
-    }
-
-    /// How many versions there are, with the dead ones.
-    fn version_count(&self) -> u64
-        ensures { AfterEach self.now (λ p. result ≡ length (versions_of p)) }
-    {
-        self.chains.version_count()
+        let above = self
+            .versions
+            .count_between(self.versions.closed(), u64::MAX);
+        self.passed.saturating_add(above).saturating_sub(self.dead)
     }
 }

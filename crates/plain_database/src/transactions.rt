@@ -1,18 +1,17 @@
 //! The checker's begin, get, put, del, commit and abort. A command's answer stands beside its record.
-ghost use Rattle.std.specs.Prelude.{◌==◌, ◌||◌, ◌≡◌, IfOk, OnErr, OnOk, option_map, true, ℕ};
-ghost use Rattle.plain_database.specs.Prelude.{Abort, Begin, Commit, Del, Get, IsCleared, IsSetAt, Put, committed_in, decided, first_refusal, is_accepted, transaction_at, transaction_tests, visible};
-ghost use Rattle.plain_versions.specs.declared.transactions.Decision.TheVariants as decisions;
+ghost use Rattle.std.specs.Prelude.{◌≡◌, IfOk, OnErr, OnOk, length, true, ℕ};
+ghost use Rattle.plain_database.specs.Prelude.{Abort, Begin, Commit, Del, Get, Put, first_refusal, is_accepted, transaction_tests};
+ghost use Rattle.plain_database.specs.Table.{begun_at, keys_in};
 ghost use Rattle.plain_database.specs.Answering.{Accepts, AfterEach, Answers, Records};
 ghost use Rattle.plain_database.specs.Late.{is_late};
 ghost use Rattle.plain_database.specs.Replies.{write_answer};
 
 use crate::database::PlainDatabase;
-use plain_versions::Decision;
+use crate::versions::reads::Read;
 use spans::calls::{Refusal, Reply};
 use spans::state::State;
 use std::alloc::AllocError;
 use timestamps::key::Key;
-use timestamps::row::copy_after;
 use timestamps::ts::MAX;
 use timestamps::value::Value;
 
@@ -23,12 +22,12 @@ impl PlainDatabase {
         if ts == 0 || ts > MAX {
             return Reply::Refused(Refusal::TsRange);
         }
-        if ts <= self.closed {
+        if ts <= self.versions.closed() {
             return Reply::Refused(Refusal::BelowClosed {
-                closed: self.closed,
+                closed: self.versions.closed(),
             });
         }
-        if self.transactions.find(ts).is_some() {
+        if self.versions.find(ts).is_some() {
             return Reply::Refused(Refusal::TsUsed);
         }
         Reply::Started
@@ -45,11 +44,12 @@ impl PlainDatabase {
         ensures memory { OnErr result (is_accepted reply.now ≡ true) }
     {
         match reply {
-            Reply::Started => self.transactions.begin(ts, seat),
+            Reply::Started => self.versions.begin(ts, seat),
             _ => Ok(()),
         }
     }
 
+    #[tactic(auto, using(crate::proofs::Common::legal_allowed, crate::proofs::Common::tests_past))]
     pub(crate) fn answer_get(&self, seat: u8, ts: u64, key: &Key) -> Result<Reply, AllocError>
         ensures answer { IfOk result (λ reply. Answers self.now seat (Get ts key.now) reply) }
         ensures memory { OnErr result (Accepts self.now seat (Get ts key.now)) }
@@ -57,14 +57,14 @@ impl PlainDatabase {
         if let Some(refusal) = self.refusal(seat, ts) {
             return Ok(Reply::Refused(refusal));
         }
-        match self.chains.newest(key, ts) {
+        if let Some(by) = self.versions.blocker_at(key, ts) {
+            return Ok(Reply::Refused(Refusal::Blocked { by }));
+        }
+        match self.versions.value_at(key, ts) {
             None => Ok(Reply::Found(None)),
-            Some(version) => {
-                if !self.may_read(ts, version.ts) {
-                    return Ok(Reply::Refused(Refusal::Blocked { by: version.ts }));
-                }
-                let after = copy_after(version.after)?;
-                Ok(Reply::Found(after))
+            Some(value) => {
+                let value = value.copy()?;
+                Ok(Reply::Found(Some(value)))
             }
         }
     }
@@ -76,28 +76,12 @@ impl PlainDatabase {
     {
         match reply {
             Reply::Found(_) => {
-                let source = self.source(key, ts);
-                self.reads.add(ts, key, source)
+                let source = self.versions.source(key, ts);
+                let key = key.copy()?;
+                self.versions.read(ts, Read::Key { key, source })
             }
             _ => Ok(()),
         }
-    }
-
-    /// The timestamp of the version that a read is given.
-    fn source(&self, key: &Key, ts: u64) -> u64
-        ensures { AfterEach self.now (λ p. result ≡ (visible p key.now ts).ts) }
-    {
-        match self.chains.newest(key, ts) {
-            None => 0,
-            Some(version) => version.ts,
-        }
-    }
-
-    /// Whether a transaction may read the version of another.
-    fn may_read(&self, ts: u64, source: u64) -> bool
-        ensures { result ≡ (source == ts || committed_in (transaction_at self.now.transactions source)) }
-    {
-        source == ts || self.transactions.has_committed(source)
     }
 
     pub(crate) fn answer_write(&self, seat: u8, ts: u64, key: &Key) -> Reply
@@ -106,7 +90,7 @@ impl PlainDatabase {
         if let Some(refusal) = self.refusal(seat, ts) {
             return Reply::Refused(refusal);
         }
-        if self.reads.any_across(key, ts) || self.scans.any_across(key, ts) {
+        if self.versions.any_across(key, ts) {
             return Reply::Refused(Refusal::TooLate);
         }
         Reply::Written
@@ -125,13 +109,13 @@ impl PlainDatabase {
         ensures memory { OnErr result (is_accepted reply.now ≡ true) }
     {
         if is_too_late(reply) {
-            self.abort(ts);
+            self.versions.end(ts, State::Aborted);
             return Ok(());
         }
         match reply {
             Reply::Written => {
                 let value = value.copy()?;
-                self.chains.write(ts, key, Some(value))
+                self.versions.write(ts, key, Some(value))
             }
             _ => Ok(()),
         }
@@ -143,15 +127,16 @@ impl PlainDatabase {
         ensures memory { OnErr result (is_accepted reply.now ≡ true) }
     {
         if is_too_late(reply) {
-            self.abort(ts);
+            self.versions.end(ts, State::Aborted);
             return Ok(());
         }
         match reply {
-            Reply::Written => self.chains.write(ts, key, None),
+            Reply::Written => self.versions.write(ts, key, None),
             _ => Ok(()),
         }
     }
 
+    #[tactic(auto, using(crate::proofs::Common::write_set_length))]
     pub(crate) fn answer_commit(&self, seat: u8, ts: u64) -> Reply
         ensures { Answers self.now seat (Commit ts) result }
     {
@@ -159,7 +144,7 @@ impl PlainDatabase {
             return Reply::Refused(refusal);
         }
         Reply::Committed {
-            keys: self.chains.count_of(ts),
+            keys: self.write_count(ts),
         }
     }
 
@@ -167,7 +152,7 @@ impl PlainDatabase {
         ensures { (seat : ℕ) → Records self.old seat (Commit ts) reply.now self.new }
     {
         match reply {
-            Reply::Committed { keys: _ } => self.transactions.decide(ts, Decision::Committed),
+            Reply::Committed { keys: _ } => self.versions.end(ts, State::Committed),
             _ => {}
         }
     }
@@ -185,32 +170,29 @@ impl PlainDatabase {
         ensures { (seat : ℕ) → Records self.old seat (Abort ts) reply.now self.new }
     {
         match reply {
-            Reply::Aborted => self.abort(ts),
+            Reply::Aborted => self.versions.end(ts, State::Aborted),
             _ => {}
         }
     }
 
-    /// Aborts a transaction. Its versions go.
-    fn abort(&mut self, ts: u64)
-        ensures transactions { IsSetAt self.old.transactions self.new.transactions ts (option_map (decided decisions.Aborted)) }
-        ensures chains { IsCleared self.old.chains self.new.chains (λ i. ts == i) }
-        ensures rest { self.new ≡ record self.old {
-          transactions = self.new.transactions;
-          chains = self.new.chains;
-        } }
+    /// How many keys a transaction wrote.
+    fn write_count(&self, ts: u64) -> u64
+        ensures { result ≡ length (keys_in (begun_at self.now.versions.table ts)) }
     {
-        self.transactions.decide(ts, Decision::Aborted);
-        self.chains.drop_of(ts);
+        match self.versions.find(ts) {
+            None => 0,
+            Some(begun) => begun.writes.len(),
+        }
     }
 
     /// The first of a transaction's tests that applies.
     pub(crate) fn refusal(&self, seat: u8, ts: u64) -> Option<Refusal>
         ensures { AfterEach self.now (λ p. result ≡ first_refusal (transaction_tests p seat ts)) }
     {
-        if ts <= self.closed {
+        if ts <= self.versions.closed() {
             return Some(Refusal::Ended);
         }
-        match self.transactions.find(ts) {
+        match self.versions.find(ts) {
             None => Some(Refusal::NoTxn),
             Some(transaction) => {
                 if transaction.seat != seat {

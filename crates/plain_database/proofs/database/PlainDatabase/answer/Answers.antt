@@ -1,6 +1,6 @@
 use Rattle.std.proofs.Common.{refl}
 use Rattle.spans.specs.declared.calls.commands.Cmd.TheVariants.{ReadAt, ScanAt}
-use Rattle.plain_database.proofs.Replies.{answer_at, failure_at}
+use Rattle.plain_database.proofs.Events.{answer_at, failure_at}
 use Rattle.plain_database.proofs.database.PlainDatabase.answer.Goals as goal
 
 pub returns-in-Begin-clause-answer : goal.returns-in-Begin-clause-answer

@@ -1,11 +1,10 @@
-use Rattle.std.proofs.Common.{subst, sym}
-use Rattle.plain_database.proofs.Common.{AreFeeds, IfOk-weaker, effects_of}
-use Rattle.plain_database.proofs.Reporting.{feeds_counted}
+use Rattle.std.proofs.Common.{arith}
+use Rattle.plain_database.proofs.Common.{common_steps, effects_of}
+use Rattle.plain_database.proofs.Reporting.{one_more}
 use Rattle.plain_database.proofs.database.PlainDatabase.feed_reports.Goals as goal
 
-pub returns : goal.returns
-returns c = IfOk-weaker c.all_counted.result _ _
-    (λ ns counted h stands.
-    subst (λ whole. AreFeeds whole (effects_of h) ns.items) (sym c.if-not-whole.false)
-    (feeds_counted c.args.self.now h c.in_ok-reports.reports.items ns.items stands counted (c.in_ok-reports.ensures.feeds (effects_of h) stands.tied.feeds)))
-    c.all_counted.ensures
+pub loop-record-preserved : goal.loop-record-preserved
+loop-record-preserved c = λ h stands.
+    let x = c.record-item.result in
+    let more = one_more c.args.whole (effects_of h) c.live-record-items.result.now c.loop-record.record-index x c.loop-record.reports.items c.in_ok-untold.untold c.loop-record-test.true c.record-item.is (c.in_ok-untold.ensures h x.number stands) (c.loop-record.invariant h stands) in
+    grind (arith, common_steps)

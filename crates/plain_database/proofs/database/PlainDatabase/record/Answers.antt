@@ -59,4 +59,4 @@ pub returns-in-Collect-clause-ok : goal.returns-in-Collect-clause-ok
 returns-in-Collect-clause-ok c = λ h n. rw c.in-Collect.is (c.record_collect.ensures c.args.seat h n)
 
 pub returns-in_ok-record_poll-in-Poll-clause-ok : goal.returns-in_ok-record_poll-in-Poll-clause-ok
-returns-in_ok-record_poll-in-Poll-clause-ok c = λ h n. rw c.in-Poll.is (c.in_ok-record_poll-in-Poll.ensures.ok c.in-Poll.max h n)
+returns-in_ok-record_poll-in-Poll-clause-ok c = λ h n. rw c.in-Poll.is (c.in_ok-record_poll-in-Poll.ensures.ok c.args.seat c.in-Poll.max h n)

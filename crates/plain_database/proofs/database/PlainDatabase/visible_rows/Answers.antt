@@ -1,7 +1,9 @@
-use Rattle.std.proofs.Common.{◌∙◌}
-use Rattle.plain_database.proofs.Common.{IfOk-weaker, effects_of}
-use Rattle.plain_database.proofs.Scanning.{visible_rows_are}
+use Rattle.std.proofs.Common.{◌∙◌, arith}
+use Rattle.plain_database.proofs.Common.{effects_of, legal_allowed}
+use Rattle.plain_database.proofs.Scanning.{all_rows}
 use Rattle.plain_database.proofs.database.PlainDatabase.visible_rows.Goals as goal
 
 pub returns : goal.returns
-returns c = IfOk-weaker c.visible_rows.result _ _ (λ rows is h stands. is ∙ visible_rows_are c.args.self.now (effects_of h) stands.tied c.args.span.now c.args.ts) c.visible_rows.ensures
+returns c = λ h stands.
+    let pairs = c.in_ok-pairs.pairs in
+    c.from_vec.ensures ∙ all_rows (effects_of h) c.args.span.now c.args.ts 18446744073709551615 pairs.items (c.in_ok-pairs.ensures.pairs (effects_of h) (legal_allowed h stands.legal) stands.tied.versions) (omega (arith, pairs.ok, pairs.small))

@@ -1,6 +1,0 @@
-use Rattle.std.proofs.Common.{arith}
-use Rattle.plain_database.proofs.Replies.{close_hard_answers}
-use Rattle.plain_database.proofs.database.PlainDatabase.answer_close_hard.Goals as goal
-
-pub returns : goal.returns
-returns c = λ seat h stands. close_hard_answers c.args.self.now h seat c.args.to c.max.result c.undecided_through.result stands (omega arith) c.max.ensures c.undecided_through.ensures

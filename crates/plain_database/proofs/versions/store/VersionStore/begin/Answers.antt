@@ -1,0 +1,7 @@
+use Rattle.std.proofs.Common.{arith}
+use Rattle.plain_database.proofs.Common.{common_steps}
+use Rattle.plain_database.proofs.TableSteps.{lookup_begun}
+use Rattle.plain_database.proofs.versions.store.VersionStore.begin.Goals as goal
+
+pub invariant_of-self : goal.invariant_of-self
+invariant_of-self c x t = grind (arith, common_steps, lookup_begun c.self.inside.table c.args.ts c.args.seat t, c.self.invariant x t)

@@ -1,6 +1,0 @@
-pub mod Common
-pub mod RecordLists
-pub mod Telling
-pub mod FeedTies
-pub mod ProtectionTies
-pub mod Reporting
