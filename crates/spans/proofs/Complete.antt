@@ -1,7 +1,7 @@
 -- How far a consumer is complete, and where it has the map.
-use Rattle.spans.proofs.Common.{Row, and_parts, append-nil, common_steps, filter-append, filter_map-append, le-leb, lt-ltb, ltb-true, nat_tests}
+use Rattle.spans.proofs.Common.{not-true, Row, and_parts, append-nil, common_steps, filter-append, filter_map-append, le-leb, lt-ltb, ltb-true, nat_tests}
 use Rattle.std.proofs.Common.{rules}
-use Rattle.std.proofs.Common.{◌≡◌, ℕ, ◌-◌, ◌<◌, ◌≤◌, ◌⊎◌, Bool, true, false, not, List, [], ◌∷◌, ◌++◌, Option, Some, None, refl, sym, ◌∙◌, ap, subst, inl, inr, arith, append_assoc}
+use Rattle.std.proofs.Common.{◌≡◌, ℕ, ◌-◌, ◌<◌, ◌≤◌, ◌⊎◌, true, false, List, [], ◌∷◌, ◌++◌, Option, Some, None, refl, sym, ◌∙◌, ap, subst, inl, inr, arith, append_assoc}
 use Rattle.std.specs.Prelude.{nat_lt, nat_le, max, filter}
 use Rattle.spans.specs.declared.calls.messages.Message.{Message}
 use Rattle.spans.specs.declared.calls.messages.Message.TheVariants as messages
@@ -94,11 +94,9 @@ split_list p f feed before rest n right told far =
 pub told_low : (p : List Effect) (f : ℕ) (feed : Feed) (before rest : List Message) (n : ℕ) → FeedIsRight p f feed → told_to p f ≡ before ++ rest → floor_after (start_of feed) before ≡ n → feed.cursor ≤ n
     → list_of p feed n ≡ low_rows n (rows_in before)
 told_low p f feed before rest n right told floor from = elim (ends before) [
-  | inl none ↦
-      (let start : start_of feed ≡ n = sym (ap (floor_after (start_of feed)) none) ∙ floor in
-      no_rows n (list_of p feed n)
-      (λ r i. let above : start_of feed < r.ts = listed_above p feed n r ((in_list p feed n r).0 i) in omega arith)
-      (λ r i. listed_below p feed n r from ((in_list p feed n r).0 i))
+  | inl none ↦ (let start : start_of feed ≡ n = sym (ap (floor_after (start_of feed)) none) ∙ floor in
+      no_rows n (list_of p feed n) (λ r i. let above : start_of feed < r.ts = listed_above p feed n r ((in_list p feed n r).0 i) in
+      omega arith) (λ r i. listed_below p feed n r from ((in_list p feed n r).0 i))
       ∙ ap (λ ms. low_rows n (rows_in ms)) (sym none))
   | inr some ↦ by_last some.0 some.1 some.2
 ]
@@ -107,38 +105,35 @@ told_low p f feed before rest n right told floor from = elim (ends before) [
     by_last first (messages.Resolved t) e =
         let at : t ≡ n = sym (floor_join (start_of feed) first (messages.Resolved t)) ∙ ap (floor_after (start_of feed)) (sym e) ∙ floor in
         let all : told_to p f ≡ first ++ messages.Resolved t ∷ rest = told ∙ ap (λ ms. ms ++ rest) e ∙ append_assoc first (messages.Resolved t ∷ []) rest in
-        let rows : rows_in before ≡ rows_in first = ap rows_in e ∙ filter_map-append row_in first (messages.Resolved t ∷ []) ∙ append-nil (rows_in first) in
-        sym (all_low n (list_of p feed n) (λ r i. listed_below p feed n r from ((in_list p feed n r).0 i)))
-        ∙ ap (low_rows n) (ap (list_of p feed) (sym at) ∙ sym (divides_at p feed [] first rest t (subst (DividesList p feed []) all right.divides)) ∙ sym rows)
+        let rows : rows_in before ≡ list_of p feed n = ap rows_in e ∙ filter_map-append row_in first (messages.Resolved t ∷ [])
+        ∙ append-nil (rows_in first) ∙ divides_at p feed [] first rest t (subst (DividesList p feed []) all right.divides)
+        ∙ ap (list_of p feed) at in
+        rw rows (sym (all_low n (list_of p feed n) (λ r i. listed_below p feed n r from ((in_list p feed n r).0 i))))
     by_last first (messages.Row r) e =
         let at : r.ts - 1 ≡ n = sym (floor_join (start_of feed) first (messages.Row r)) ∙ ap (floor_after (start_of feed)) (sym e) ∙ floor in
         let far : ℕ = max n (closed_of p) in
         let split = split_list p f feed before rest far right told (omega arith) in
         let tail : List Row = rows_in rest ++ split.0 in
-        let rises : RisingRows (rows_in before ++ tail) = subst RisingRows split.1 (list_rises p feed far) in
-        let rows : rows_in before ≡ rows_in first ++ r ∷ [] = ap rows_in e ∙ filter_map-append row_in first (messages.Row r ∷ []) in
-        let here : IsRowIn r (rows_in before) = subst (IsRowIn r) (sym rows) ((in_append r (rows_in first) (r ∷ [])).1 (inr (inl refl))) in
+        let parts = rises_parts (rows_in before) tail (subst RisingRows split.1 (list_rises p feed far)) in
+        let here : IsRowIn r (rows_in before) = subst (IsRowIn r) (sym (ap rows_in e
+        ∙ filter_map-append row_in first (messages.Row r ∷ []))) ((in_append r (rows_in first) (r ∷ [])).1 (inr (inl refl))) in
         let positive : start_of feed < r.ts = listed_above p feed far r ((in_list p feed far r).0 (subst (IsRowIn r) (sym split.1) ((in_append r (rows_in before) tail).1 (inl here)))) in
         sym (list_low p feed n far from (omega arith)) ∙ ap (low_rows n) split.1 ∙ filter-append (λ (q : Row). nat_le q.ts n) (rows_in before) tail
-        ∙ ap (λ l. low_rows n (rows_in before) ++ l) (none_low n tail (λ s i. let after : r.ts ≤ s.ts = row_order r s ((rises_parts (rows_in before) tail rises).2 r s here i) in omega arith))
-        ∙ append-nil (low_rows n (rows_in before))
+        ∙ ap (λ l. low_rows n (rows_in before) ++ l) (none_low n tail (λ s i. let after : r.ts ≤ s.ts = row_order r s (parts.2 r s here i) in
+        omega arith)) ∙ append-nil (low_rows n (rows_in before))
 
 -- rows that rise to t, of which the last is none of t, are below t
 last_below : (ms : List Message) (s : Row) (t : ℕ) → RisingRows (s ∷ rows_in ms) → is_row_of (last_row (Some s) ms) t ≡ false → s.ts ≤ t → ((q : Row) → IsRowIn q (rows_in ms) → q.ts ≤ t) → s.ts < t
 last_below [] s t rises other low all = grind (arith, nat_tests)
 last_below (messages.Row r ∷ ms) s t rises other low all =
     let next : r.ts < t = last_below ms r t rises.1 other (all r (inl refl)) (λ q i. all q (inr i)) in
-    let after : s.ts ≤ r.ts = row_order s r (rises.0 r (inl refl)) in
-    omega arith
+    omega (arith, row_order s r (rises.0 r (inl refl)))
 last_below (messages.Resolved n ∷ ms) s t rises other low all = last_below ms s t rises other low all
 
 all_below : (ms : List Message) (o : Option Row) (t : ℕ) → RisingRows (rows_in ms) → is_row_of (last_row o ms) t ≡ false → ((q : Row) → IsRowIn q (rows_in ms) → q.ts ≤ t)
     → (s : Row) → IsRowIn s (rows_in ms) → s.ts < t
 all_below [] o t rises other all s i = absurd i
-all_below (messages.Row r ∷ ms) o t rises other all s i = elim i [
-  | inl here ↦ subst (λ (q : Row). q.ts < t) here (last_below ms r t rises other (all r (inl refl)) (λ q j. all q (inr j)))
-  | inr there ↦ all_below ms (Some r) t rises.1 other (λ q j. all q (inr j)) s there
-]
+all_below (messages.Row r ∷ ms) o t rises other all s i = grind (arith, common_steps, last_below ms r t rises other (all r (inl refl)) (λ q j. all q (inr j)), all_below ms (Some r) t rises.1 other (λ q j. all q (inr j)) s)
 all_below (messages.Resolved n ∷ ms) o t rises other all s i = all_below ms o t rises other all s i
 
 -- before the first row of a later timestamp all rows below it were told
@@ -147,29 +142,19 @@ ready_rows : (p : List Effect) (f : ℕ) (feed : Feed) (before rest : List Messa
 ready_rows p f feed before rest r right told new =
     let both = and_parts _ _ new in
     let above : feed.cursor < r.ts = ltb-true _ _ both.0 in
-    let other : is_row_of (last_row None before) r.ts ≡ false = isnt _ both.1 in
+    let other : is_row_of (last_row None before) r.ts ≡ false = not-true _ both.1 in
     let far : ℕ = max (r.ts - 1) (closed_of p) in
     let split = split_list p f feed before (messages.Row r ∷ rest) far right told (omega arith) in
     let tail : List Row = rows_in rest ++ split.0 in
-    let rises : RisingRows (rows_in before ++ (r ∷ tail)) = subst RisingRows split.1 (list_rises p feed far) in
-    let parts = rises_parts (rows_in before) (r ∷ tail) rises in
+    let parts = rises_parts (rows_in before) (r ∷ tail) (subst RisingRows split.1 (list_rises p feed far)) in
     let low : (s : Row) → IsRowIn s (rows_in before) → s.ts ≤ r.ts - 1 = λ s i.
     let below : s.ts < r.ts = all_below before None r.ts parts.0 other (λ q j. row_order q r (parts.2 q r j (inl refl))) s i in omega arith in
-    let high : (s : Row) → IsRowIn s (r ∷ tail) → r.ts - 1 < s.ts = λ s i. elim i [
-      | inl here ↦ subst (λ (q : Row). r.ts - 1 < q.ts) here (omega arith)
-      | inr there ↦ (let after : r.ts ≤ s.ts = row_order r s (parts.1.0 s there) in omega arith)
-    ] in (
-      sym (all_low (r.ts - 1) (rows_in before) low) ∙ sym (append-nil (low_rows (r.ts - 1) (rows_in before)))
-          ∙ ap (λ l. low_rows (r.ts - 1) (rows_in before) ++ l) (sym (none_low (r.ts - 1) (r ∷ tail) high))
-          ∙ sym (filter-append (λ (q : Row). nat_le q.ts (r.ts - 1)) (rows_in before) (r ∷ tail))
-          ∙ ap (low_rows (r.ts - 1)) (sym split.1)
-          ∙ list_low p feed (r.ts - 1) far (omega arith) (omega arith),
+    let high : (s : Row) → IsRowIn s (r ∷ tail) → r.ts - 1 < s.ts = λ s i. let first = parts.1.0 s in grind (arith, common_steps, row_order) in
+    let n = list_low p feed (r.ts - 1) far (omega arith) (omega arith) in let s = ap (low_rows (r.ts - 1)) split.1 in (
+      sym (sym n ∙ s ∙ filter-append (λ (q : Row). nat_le q.ts (r.ts - 1)) (rows_in before) (r ∷ tail)
+          ∙ rw (all_low (r.ts - 1) (rows_in before) low, none_low (r.ts - 1) (r ∷ tail) high) (append-nil (rows_in before))),
       omega arith,
     )
-  where
-    isnt : (b : Bool) → not b ≡ true → b ≡ false
-    isnt true e = cc
-    isnt false e = refl
 
 -- what the consumer has after rows that are a list's
 rows_view : (p : List Effect) (feed : Feed) (before : List Message) (n : ℕ) → feed.cursor ≤ n → rows_in before ≡ list_of p feed n → (x : List ℕ) → seen_after p feed before x ≡ span_part feed.span (map_at p n) x

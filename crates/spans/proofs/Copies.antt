@@ -1,12 +1,12 @@
 -- Allowed deeds keep what each read found, and so read as from one copy.
 use Rattle.spans.proofs.Common.{and_from, and_parts, both_ways, common_steps, eqb-true, lt-ltb, nat_tests, or_left, or_right}
 use Rattle.std.proofs.Common.{rules}
-use Rattle.std.proofs.Common.{◌≡◌, ℕ, suc, ◌<◌, ◌≤◌, ◌⊎◌, ◌==◌, Bool, true, false, not, ◌&&◌, ◌||◌, List, [], ◌∷◌, Some, None, refl, sym, ◌∙◌, ap, subst, inl, inr, arith}
-use Rattle.std.specs.Prelude.{is_some, nat_le, max}
+use Rattle.std.proofs.Common.{◌≡◌, ℕ, suc, ◌<◌, ◌≤◌, ◌⊎◌, ◌==◌, true, false, List, [], ◌∷◌, Some, None, ◌∙◌, ap, subst, inl, inr, arith}
+use Rattle.std.specs.Prelude.{is_some, max}
 use Rattle.spans.specs.Effects.{After, Effect, Begins, Reads, Scans, SnapshotScans, Writes, Commits, Aborts, Closes, HardCloses, Protects, Releases, Collects, Opens, Polls, Cancels, SnapshotReads, NoEffect}
 use Rattle.spans.specs.Transactions.{owner_of, closed_of, is_committed, is_aborted, decided_through}
 use Rattle.spans.specs.Versions.{write_of, version_of, committed_version_of, visible, is_blocked, committed_value}
-use Rattle.spans.specs.Newest.{Version, IsNewest}
+use Rattle.spans.specs.Newest.{IsNewest}
 use Rattle.spans.specs.Reads.{too_late, IsRead}
 use Rattle.spans.specs.Keys.{in_span, AreRows, value_among}
 use Rattle.spans.specs.Feeds.{Feed, feed_of, feeds_opened, is_cancelled, next_messages}
@@ -79,23 +79,12 @@ kept (Scans t span rows ∷ p) all j x k v r below = elim r [
   | inr before ↦ (let h = kept p all.1 j x k v before below in record { gap = h.gap; whole = h.whole })
 ]
 kept (Writes t y a ∷ p) all j x k v r below = kept_through_write p j x k v t y a all.0 r (kept p all.1 j x k v r below)
-kept (Commits t ∷ p) all j x k v r below = grind (arith, common_steps, kept p all.1 j x k v r below)
-kept (Aborts t ∷ p) all j x k v r below = grind (arith, common_steps, kept p all.1 j x k v r below)
-kept (HardCloses to n ∷ p) all j x k v r below = grind (arith, common_steps, kept p all.1 j x k v r below)
 kept (_ ∷ p) all j x k v r below = grind (arith, common_steps, kept p all.1 j x k v r below)
 
 -- none is both committed and aborted
 pub not_both : (p : List Effect) → AllAllowed p → (t : ℕ) → is_committed p t ≡ true → is_aborted p t ≡ false
 not_both [] all t is = cc
-not_both (Commits k ∷ p) all t is = grind (arith, common_steps, not_both p all.1 t)
-not_both (Aborts k ∷ p) all t is = grind (arith, common_steps, not_both p all.1 t is)
-not_both (HardCloses to n ∷ p) all t is = rw is (rw (not_both p all.1 t is) (two_and (nat_le t to) (is_some (owner_of p t))))
-  where
-    two_and : (a b : Bool) → ((a && (b && not true)) || false) ≡ false
-    two_and true true = refl
-    two_and true false = refl
-    two_and false b = refl
-not_both (_ ∷ p) all t is = not_both p all.1 t is
+not_both (_ ∷ p) all t is = grind (arith, common_steps, not_both p all.1)
 
 -- a read was given what is now the newest committed version below its reader
 pub reads_from : (p : List Effect) → AllAllowed p → (t : ℕ) (x : List ℕ) (k : ℕ) (v : After) → IsRead p (suc t) x k v → k ≤ t → IsNewest (committed_version_of p x) t k v
@@ -108,15 +97,12 @@ kept_in_map p all t x k v below h = map_at_is p t x ∙ newest_at (committed_ver
 -- a read finds what the map has after the reader's own writes
 pub read_agrees : (p q : List Effect) → AllAllowed p → (t : ℕ) (x : List ℕ) → is_aborted q (suc t) ≡ false → IsRead p (suc t) x (visible q x (suc t)).ts (visible q x (suc t)).after
     → (visible q x (suc t)).after ≡ serial_run q (suc t) (map_at p t) x
-read_agrees p q all t x live r =
-    let m = newest_is (version_of q x) (suc t) in
-    by_test ((visible q x (suc t)).ts == suc t)
+read_agrees p q all t x live r = let m = newest_is (version_of q x) (suc t) in by_test ((visible q x (suc t)).ts == suc t)
     (λ own. grind (arith, common_steps, eqb-true, after_is, or_else, version_wrote))
     (λ others.
     let below : (visible q x (suc t)).ts < suc t = grind (arith, nat_tests, m.at_most) in
-    let none : write_of q (suc t) x ≡ None = no_version_wrote q x (suc t) (m.gap (suc t) below (omega arith)) live in
-    sym (after_is q (suc t) (map_at p t) x ∙ ap (λ o. or_else o (map_at p t x)) none
-    ∙ kept_in_map p all t x (visible q x (suc t)).ts _ (omega arith) (kept p all (suc t) x _ _ r below)))
+    let before = kept_in_map p all t x (visible q x (suc t)).ts _ (omega arith) (kept p all (suc t) x _ _ r below) in
+    grind (arith, common_steps, no_version_wrote, after_is))
 
 -- the reads of t are answered from the map, as far as q, which p goes on from
 pub agrees : (p q : List Effect) → AllAllowed p → AllAllowed q → ((j : ℕ) (x : List ℕ) (k : ℕ) (v : After) → IsRead q j x k v → IsRead p j x k v)
@@ -134,28 +120,16 @@ agrees p (_ ∷ q) all all' sub t = agrees p q all all'.1 sub t
 
 -- closed never falls
 pub closed_grows : (p : List Effect) (d : Effect) → Allowed p d → closed_of p ≤ closed_of (d ∷ p)
-closed_grows p (Closes n) allowed = omega (arith, allowed.1)
-closed_grows p (HardCloses to n) allowed = omega arith
-closed_grows p (_) allowed = omega arith
+closed_grows p (_) allowed = grind (arith, common_steps)
 
 -- what is closed stays
 pub closed_stays : (p : List Effect) (d : Effect) → Allowed p d → (x : List ℕ) (i : ℕ) → i ≤ closed_of p → committed_version_of (d ∷ p) x i ≡ committed_version_of p x i
-closed_stays p (Writes t y a) allowed x i low = grind (arith, common_steps)
-closed_stays p (Commits t) allowed x i low = grind (arith, common_steps)
-closed_stays p (_) allowed x i low = refl
+closed_stays p (_) allowed x i low = grind (arith, common_steps)
 
 -- each snapshot read found what the map has
 pub snapshots : (p q : List Effect) → AllAllowed q → ((x : List ℕ) (t : ℕ) → t ≤ closed_of q → committed_value p x t ≡ committed_value q x t) → SnapshotsAgree p q
 snapshots p [] all same = tt
-snapshots p (d ∷ q) all same = with_deed d (all.0) (snapshots p q all.1 earlier)
-  where
-    earlier : (x : List ℕ) (t : ℕ) → t ≤ closed_of q → committed_value p x t ≡ committed_value q x t
-    earlier x t low = same x t (omega (arith, closed_grows q d all.0)) ∙ ap (λ (n : Version). n.after) (newest_same (committed_version_of (d ∷ q) x) (committed_version_of q x) t (λ i below. closed_stays q d all.0 x i (omega arith)))
-
-    with_deed : (d : Effect) → Allowed q d → SnapshotsAgree p q → SnapshotsAgree p (d ∷ q)
-    with_deed (SnapshotReads t x v) allowed rest = (allowed.1 ∙ sym (map_at_is p t x ∙ earlier x t allowed.0), rest)
-    with_deed (SnapshotScans t span rows) allowed rest = (rows_like span (λ x. committed_value q x t) (map_at p t) rows (λ x inside. sym (map_at_is p t x ∙ earlier x t allowed.0)) allowed.1, rest)
-    with_deed (_) allowed rest = rest
+snapshots p (d ∷ q) all same = grind (arith, common_steps, closed_grows, newest_same, closed_stays, map_at_is, rows_like, snapshots p q all.1)
 
 -- allowed deeds are those of one copy
 pub one_copy : (p : List Effect) → AllAllowed p → IsOneCopy p

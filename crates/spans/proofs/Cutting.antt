@@ -1,5 +1,5 @@
 -- The parts of a span between rising keys.
-use Rattle.spans.proofs.Common.{Equal, Greater, Less, Ordering, and-false, and_parts, at_drop_all, common_steps, is_eq, is_eq-slice_cmp, is_lt, key_cmp, or_left, or_right, ordering_reverse}
+use Rattle.spans.proofs.Common.{Equal, Greater, Less, Ordering, and_parts, at_drop_all, common_steps, is_eq, is_eq-slice_cmp, is_lt, key_cmp, or_left, or_right, ordering_reverse}
 use Rattle.std.proofs.Common.{rules}
 use Rattle.std.proofs.Common.{Bool, List, Option, Some, ap, arith, cond, drop, false, get_or, length, refl, suc, sym, true, zero, ℕ, ◌&&◌, ◌<◌, ◌≤◌, ◌||◌, ◌≡◌, ◌++◌, ◌∷◌, ◌∙◌, []}
 use Rattle.std.specs.Prelude.{bytes_eq, not}
@@ -34,31 +34,19 @@ not_among x k ks less above = grind (arith, common_steps, by_test, has, has_in, 
 other_key : (x k : List ℕ) (o : Ordering) → key_cmp x k ≡ o → bytes_eq k x ≡ is_eq (ordering_reverse o)
 other_key x k o e = sym (is_eq-slice_cmp k x) ∙ ap is_eq (turned k x o e)
 
-low_alone : (b : Bool) → ((b && true) || false) ≡ ((b && true) && true)
-low_alone true = refl
-low_alone false = refl
-
-one_out : (a b : Bool) → ((a && false) || false) ≡ ((a && b) && false)
-one_out a b = rw (and-false a, and-false (a && b)) refl
-
 -- the part below k and the rest
 cut : (x k : List ℕ) (lo hi : Option (List ℕ)) (ks : List (List ℕ)) (o : Ordering) → key_cmp x k ≡ o → from_low lo k ≡ true → below_high hi k ≡ true → ((y : List ℕ) → IsIn y ks → key_cmp k y ≡ Less)
     → ((from_low lo x && is_lt o) || ((is_lt (ordering_reverse o) && below_high hi x) && not (has x ks))) ≡ ((from_low lo x && below_high hi x) && not (is_eq (ordering_reverse o) || has x ks))
-cut x k lo hi ks Less e low high above = rw (under_high hi k x high e, not_among x k ks e above) (low_alone (from_low lo x))
-cut x k lo hi ks Equal e low high above = one_out (from_low lo x) (below_high hi x)
-cut x k lo hi ks Greater e low high above = rw (above_low lo k x low (turned k x Greater e)) refl
+cut x k lo hi ks Less e low high above = grind (arith, common_steps, under_high, not_among)
+cut x k lo hi ks Equal e low high above = grind (arith, common_steps)
+cut x k lo hi ks Greater e low high above = grind (arith, common_steps, above_low, turned)
 
 apart_from_key : (a b c : Bool) → (b ≡ true → a ≡ false) → (a && not c) ≡ (a && not (b || c))
-apart_from_key a true c h = rw (h refl) refl
-apart_from_key a false c h = refl
+apart_from_key a b c h = grind (arith, common_steps)
 
 -- the parts hold what the span holds but for the keys
 pub parts_hold : (lo hi : Option (List ℕ)) (ks : List (List ℕ)) → RisingKeys ks → (x : List ℕ) → is_held (parts lo hi ks) x ≡ ((from_low lo x && below_high hi x) && not (has x ks))
-parts_hold lo hi [] rising x = only (from_low lo x && below_high hi x)
-  where
-    only : (b : Bool) → (b || false) ≡ (b && true)
-    only true = refl
-    only false = refl
+parts_hold lo hi [] rising x = grind (arith, common_steps)
 parts_hold lo hi (k ∷ ks) rising x = by_test (from_low lo k && below_high hi k)
     (λ inside. rw (inside, parts_hold (Some (successor k)) hi ks rising.1 x, above_successor k x, turned k x (key_cmp x k) refl, other_key x k (key_cmp x k) refl)
     (cut x k lo hi ks (key_cmp x k) refl (and_parts _ _ inside).0 (and_parts (from_low lo k) _ inside).1 rising.0))
@@ -67,9 +55,7 @@ parts_hold lo hi (k ∷ ks) rising x = by_test (from_low lo k && below_high hi k
 -- at most one more than the keys
 pub parts_few : (lo hi : Option (List ℕ)) (ks : List (List ℕ)) → length (parts lo hi ks) ≤ suc (length ks)
 parts_few lo hi [] = omega arith
-parts_few lo hi (k ∷ ks) = by_test (from_low lo k && below_high hi k)
-    (λ inside. rw inside (omega (arith, parts_few (Some (successor k)) hi ks)))
-    (λ outside. rw outside (omega (arith, parts_few lo hi ks)))
+parts_few lo hi (k ∷ ks) = grind (arith, common_steps, parts_few (Some (successor k)) hi ks, parts_few lo hi ks)
 
 held_at : (spans : List Span) (j : ℕ) (d : Span) (x : List ℕ) → j < length spans → in_span (get_or spans j d) x ≡ true → is_held spans x ≡ true
 held_at [] j d x low inside = absurd (omega arith)
@@ -81,6 +67,5 @@ pub parts_apart : (lo hi : Option (List ℕ)) (ks : List (List ℕ)) → RisingK
 parts_apart lo hi [] rising = λ i j d less low. absurd (omega arith)
 parts_apart lo hi (k ∷ ks) rising = by_test (from_low lo k && below_high hi k)
     (λ inside. rw inside (AllPairs-cons AreApart (span_of lo (Some k)) (parts (Some (successor k)) hi ks)
-    (λ j d low x first. grind (arith, common_steps, by_test, held_at, above_successor, and_parts, parts_hold, turned, less_is))
-    (parts_apart (Some (successor k)) hi ks rising.1)))
+    (λ j d low x first. grind (arith, common_steps, by_test, held_at, above_successor, and_parts, parts_hold, turned, less_is)) (parts_apart (Some (successor k)) hi ks rising.1)))
     (λ outside. rw outside (parts_apart lo hi ks rising.1))

@@ -6,7 +6,7 @@ use Rattle.std.proofs.Math.Seq.{drop-append_seam}
 use Rattle.spans.specs.declared.calls.messages.Message.{Message}
 use Rattle.spans.specs.declared.calls.messages.Message.TheVariants as messages
 use Rattle.spans.specs.declared.kind.Kind.{Kind}
-use Rattle.spans.specs.Effects.{Effect, Opens, Polls, Cancels}
+use Rattle.spans.specs.Effects.{Effect, Opens, Polls}
 use Rattle.spans.specs.Transactions.{closed_of}
 use Rattle.spans.specs.Feeds.{Feed, feed_of, feeds_opened, is_cancelled, told_to, rows_in, last_resolved, list_of, start_of, resolved_of, is_due, due_message, untold_rows, next_messages}
 use Rattle.spans.specs.FeedRight.{DividesList, ResolvedApart, least_gap, ReachesClosed, IsSilentAfterCancel, LeavesNothingDue, RowsAreAbove, RowsFollowResolved, FeedIsRight}
@@ -17,7 +17,7 @@ use Rattle.spans.proofs.Steps.{by_test}
 use Rattle.spans.proofs.Copies.{Allowed, AllAllowed, closed_grows}
 use Rattle.spans.proofs.StreamOrder.{RisingRows, is_told, left_untold}
 use Rattle.spans.proofs.Streaming.{RowsAbove}
-use Rattle.spans.proofs.Listing.{IsSettled, list_rises, list_stays, list_goes_on, list_above}
+use Rattle.spans.proofs.Listing.{IsSettled, list_rises, list_stays, list_above}
 
 -- the resolved messages are at or below n
 abbrev pub AllBelow : ℕ → List Message → Type 0
@@ -79,14 +79,7 @@ due_if b n = cond b (messages.Resolved n ∷ []) []
 pub next_of : (p : List Effect) (feed : Feed) (n : ℕ) (b : Bool) → (b ≡ true → n + least_gap feed.kind ≤ closed_of p) → (m : ℕ) (before rows : List Row) → before ++ rows ≡ list_of p feed (closed_of p)
     → IsNext p feed n before rows (take m (map messages.Row rows ++ due_if b (closed_of p)))
 next_of p feed n b above zero before rows is = record { rest = (rows, refl); divides = tt; apart = tt; below = tt }
-next_of p feed n true above (suc m) before [] is = last m
-  where
-    here : before ≡ list_of p feed (closed_of p)
-    here = sym (append-nil before) ∙ is
-
-    last : (m : ℕ) → IsNext p feed n before [] (messages.Resolved (closed_of p) ∷ take m [])
-    last zero = record { rest = ([], refl); divides = (here, tt); apart = (above refl, tt); below = (omega arith, tt) }
-    last (suc m) = record { rest = ([], refl); divides = (here, tt); apart = (above refl, tt); below = (omega arith, tt) }
+next_of p feed n true above (suc m) before [] is = grind (arith, common_steps)
 next_of p feed n false above (suc m) before [] is = record { rest = ([], refl); divides = tt; apart = tt; below = tt }
 next_of p feed n b above (suc m) before (r ∷ rs) is = grind (arith, common_steps, next_of p feed n b above m (before ++ r ∷ []) rs)
 
@@ -102,10 +95,11 @@ pub record IsFeeding (p : List Effect) (f : ℕ) (feed : Feed) : Type 0 where
 pub feeding_stays : (p : List Effect) (d : Effect) → Allowed p d → (f : ℕ) (feed : Feed) → told_to (d ∷ p) f ≡ told_to p f → IsFeeding p f feed → IsFeeding (d ∷ p) f feed
 feeding_stays p d allowed f feed same h =
     let grows : closed_of p ≤ closed_of (d ∷ p) = closed_grows p d allowed in
-    let more = list_goes_on (d ∷ p) feed (closed_of p) (closed_of (d ∷ p)) grows in record {
+    let more = list_above (d ∷ p) feed (closed_of p) (closed_of (d ∷ p)) grows in
+    let was = list_stays p d allowed feed h.settled (closed_of p) (omega arith) ∙ h.begins.1 in record {
       begins = (
         h.begins.0 ++ more.0,
-        more.1 ∙ ap (λ l. l ++ more.0) (list_stays p d allowed feed h.settled (closed_of p) (omega arith) ∙ h.begins.1) ∙ append_assoc (rows_in (told_to p f)) h.begins.0 more.0
+        more.1 ∙ ap (λ l. l ++ more.0) was ∙ append_assoc (rows_in (told_to p f)) h.begins.0 more.0
             ∙ ap (λ ms. rows_in ms ++ (h.begins.0 ++ more.0)) (sym same),
       );
       divides = rw same (divides_stay p d allowed feed h.settled [] (told_to p f) h.below h.divides);
@@ -115,9 +109,9 @@ feeding_stays p d allowed f feed same h =
     }
 
 -- the feed tells its next messages
-pub feeding_tells : (p : List Effect) (f m : ℕ) (ms : List Message) (feed : Feed) → Allowed p (Polls f m ms) → (h : IsFeeding p f feed)
-    → IsNext p feed (resolved_of p f feed) (rows_in (told_to p f)) h.begins.0 ms → IsFeeding (Polls f m ms ∷ p) f feed
-feeding_tells p f m ms feed allowed h new = grind (arith, common_steps, eq-eqb, below_join, divides_join, list_stays, filter_map-append, divides_stay, apart_join)
+pub feeding_tells : (p : List Effect) (f g m : ℕ) (ms : List Message) (feed : Feed) → Allowed p (Polls g m ms) → g ≡ f → (h : IsFeeding p f feed)
+    → IsNext p feed (resolved_of p f feed) (rows_in (told_to p f)) h.begins.0 ms → IsFeeding (Polls g m ms ∷ p) f feed
+feeding_tells p f g m ms feed allowed e h new = grind (arith, common_steps, eq-eqb, below_join, divides_join, list_stays, filter_map-append, divides_stay, apart_join)
 
 -- the rows that were not told are those after the told ones
 pub untold_is : (p : List Effect) (f : ℕ) (feed : Feed) (rest : List Row) → list_of p feed (closed_of p) ≡ rows_in (told_to p f) ++ rest → untold_rows p f feed ≡ rest
@@ -142,16 +136,17 @@ told_next p f m feed h =
 -- a feed that wasn't opened has told nothing
 pub unopened : (p : List Effect) → AllAllowed p → (f : ℕ) → feeds_opened p < f → (feed_of p f ≡ None) × (told_to p f ≡ [])
 unopened [] all f above = (refl, refl)
-unopened (Opens g seat kind span cursor ∷ p) all f above = grind (arith, common_steps, unopened p all.1 f)
-unopened (Polls g max ms ∷ p) all f above = grind (arith, common_steps, unopened p all.1 f above)
-unopened (_ ∷ p) all f above = unopened p all.1 f above
+unopened (_ ∷ p) all f above = grind (arith, common_steps, unopened p all.1)
 
 -- a feed that wasn't opened wasn't cancelled
 pub uncancelled : (p : List Effect) → AllAllowed p → (f : ℕ) → feeds_opened p < f → is_cancelled p f ≡ false
 uncancelled [] all f above = refl
-uncancelled (Opens g seat kind span cursor ∷ p) all f above = uncancelled p all.1 f (omega arith)
-uncancelled (Cancels g ∷ p) all f above = grind (arith, common_steps, by_test, eqb-true, unopened, uncancelled p all.1 f above)
-uncancelled (_ ∷ p) all f above = uncancelled p all.1 f above
+uncancelled (_ ∷ p) all f above = grind (arith, common_steps, eqb-true, unopened, uncancelled p all.1)
+
+-- what a poll of the feed told
+pub polled : (p : List Effect) (f g m : ℕ) (ms : List Message) (feed : Feed) → Allowed p (Polls g m ms) → g ≡ f → feed_of p f ≡ Some feed
+    → (ms ≡ next_messages p f feed m) × (is_cancelled p f ≡ false)
+polled p f g m ms feed allowed e is = grind (arith, common_steps)
 
 pub feeding : (p : List Effect) → AllAllowed p → (f : ℕ) (feed : Feed) → feed_of p f ≡ Some feed → IsFeeding p f feed
 feeding [] all f feed is = cc
@@ -165,21 +160,15 @@ feeding (Opens g seat kind span cursor ∷ p) all f feed is = by_test (g == f)
     })
     (λ other. feeding_stays p (Opens g seat kind span cursor) all.0 f feed refl (feeding p all.1 f feed (rw other at is)))
 feeding (Polls g m ms ∷ p) all f feed is = by_test (g == f)
-    (λ same.
-    let e : g ≡ f = eqb-true g f same in
-    let h = feeding p all.1 f feed is in
-    let one : all.0.0 ≡ feed = (let both : Some all.0.0 ≡ Some feed = sym all.0.1 ∙ ap (feed_of p) e ∙ is in cc) in
-    let told' : ms ≡ next_messages p f feed m = all.0.3 ∙ ap (λ n. next_messages p n all.0.0 m) e ∙ ap (λ v. next_messages p f v m) one in
-    subst (λ n. IsFeeding (Polls n m ms ∷ p) f feed) (sym e)
-    (feeding_tells p f m ms feed (subst (λ n. Allowed p (Polls n m ms)) e all.0) h (subst (λ l. IsNext p feed (resolved_of p f feed) (rows_in (told_to p f)) h.begins.0 l) (sym told') (told_next p f m feed h))))
+    (λ same. let e = eqb-true g f same in let h = feeding p all.1 f feed is in
+    feeding_tells p f g m ms feed all.0 e h (subst (IsNext p feed (resolved_of p f feed) (rows_in (told_to p f)) h.begins.0) (sym (polled p f g m ms feed all.0 e is).0) (told_next p f m feed h)))
     (λ other. feeding_stays p (Polls g m ms) all.0 f feed (rw other refl) (feeding p all.1 f feed is))
 feeding (d ∷ p) all f feed is = feeding_stays p d all.0 f feed refl (feeding p all.1 f feed is)
 
 -- nothing after a cancellation
 pub silent : (p : List Effect) → AllAllowed p → (f : ℕ) → IsSilentAfterCancel p f
 silent [] all f = tt
-silent (Polls g m ms ∷ p) all f = (λ e. subst (λ n. is_cancelled p n ≡ false) e all.0.2, silent p all.1 f)
-silent (_ ∷ p) all f = silent p all.1 f
+silent (_ ∷ p) all f = grind (arith, common_steps, silent p all.1 f)
 
 -- a short reply has all that there was
 whole_take : {A : Type 0} (m : ℕ) (xs : List A) → length (take m xs) < m → take m xs ≡ xs
@@ -211,47 +200,34 @@ rows_whole (r ∷ rs) b n = ap (λ l. r ∷ l) (rows_whole rs b n)
 due_told : (kind : Kind) (n k : ℕ) → is_due kind (last_resolved n (due_if (is_due kind n k) k)) k ≡ false
 due_told kind n k = grind (arith, common_steps)
 
-pub exhausted : (p : List Effect) (f m : ℕ) (feed : Feed) → Allowed p (Polls f m (next_messages p f feed m)) → IsFeeding p f feed → length (next_messages p f feed m) < m
-    → (untold_rows (Polls f m (next_messages p f feed m) ∷ p) f feed ≡ []) × (due_message (Polls f m (next_messages p f feed m) ∷ p) f feed ≡ [])
-exhausted p f m feed allowed h short =
+pub exhausted : (p : List Effect) (f g m : ℕ) (ms : List Message) (feed : Feed) → Allowed p (Polls g m ms) → g ≡ f → ms ≡ next_messages p f feed m
+    → IsFeeding p f feed → length ms < m
+    → (untold_rows (Polls g m ms ∷ p) f feed ≡ []) × (due_message (Polls g m ms ∷ p) f feed ≡ [])
+exhausted p f g m ms feed allowed e told h short =
     let left : untold_rows p f feed ≡ h.begins.0 = untold_is p f feed h.begins.0 h.begins.1 in
-    let all : next_messages p f feed m ≡ map messages.Row h.begins.0 ++ due_message p f feed = whole_take m (map messages.Row (untold_rows p f feed) ++ due_message p f feed) short ∙ ap (λ l. map messages.Row l ++ due_message p f feed) left in
-    let now : told_to (Polls f m (next_messages p f feed m) ∷ p) f ≡ told_to p f ++ (map messages.Row h.begins.0 ++ due_message p f feed) = rw (eq-eqb f f refl) (ap (λ l. told_to p f ++ l) all) in
-    let rows : rows_in (told_to (Polls f m (next_messages p f feed m) ∷ p) f) ≡ list_of p feed (closed_of p) =
-    grind (arith, common_steps, filter_map-append, rows_whole) in
-    let last : resolved_of (Polls f m (next_messages p f feed m) ∷ p) f feed ≡ last_resolved (resolved_of p f feed) (due_message p f feed) =
+    let all : ms ≡ map messages.Row h.begins.0 ++ due_message p f feed = told
+    ∙ whole_take m (map messages.Row (untold_rows p f feed) ++ due_message p f feed) (subst (λ l. length l < m) told short)
+    ∙ ap (λ l. map messages.Row l ++ due_message p f feed) left in
+    let now : told_to (Polls g m ms ∷ p) f ≡ told_to p f ++ (map messages.Row h.begins.0 ++ due_message p f feed) = rw (eq-eqb g f e) (ap (λ l. told_to p f ++ l) all) in
+    let rows : rows_in (told_to (Polls g m ms ∷ p) f) ≡ list_of p feed (closed_of p) = grind (arith, common_steps, filter_map-append, rows_whole) in
+    let last : resolved_of (Polls g m ms ∷ p) f feed ≡ last_resolved (resolved_of p f feed) (due_message p f feed) =
     ap (last_resolved (start_of feed)) now ∙ resolved_join (start_of feed) (told_to p f) (map messages.Row h.begins.0 ++ due_message p f feed) ∙ resolved_rows (resolved_of p f feed) h.begins.0 (due_message p f feed) in (
-      untold_is (Polls f m (next_messages p f feed m) ∷ p) f feed [] (
-          list_stays p (Polls f m (next_messages p f feed m)) allowed feed h.settled (closed_of p) (omega arith) ∙ sym rows ∙ sym (append-nil _)),
+      untold_is (Polls g m ms ∷ p) f feed [] (list_stays p (Polls g m ms) allowed feed h.settled (closed_of p) (omega arith) ∙ sym rows
+          ∙ sym (append-nil _)),
       ap (λ n. due_if (is_due feed.kind n (closed_of p)) (closed_of p)) last ∙ ap (λ b. due_if b (closed_of p)) (due_told feed.kind (resolved_of p f feed) (closed_of p)),
     )
 
 pub unknown_exhausts : (p : List Effect) → AllAllowed p → (f : ℕ) (feed : Feed) → feed_of p f ≡ None → LeavesNothingDue p f feed
 unknown_exhausts [] all f feed none = tt
-unknown_exhausts (Opens g seat kind span cursor ∷ p) all f feed none = grind (arith, common_steps, unknown_exhausts p all.1 f feed)
-unknown_exhausts (Polls g m ms ∷ p) all f feed none = grind (arith, common_steps, unknown_exhausts p all.1 f feed none)
-unknown_exhausts (_ ∷ p) all f feed none = unknown_exhausts p all.1 f feed none
+unknown_exhausts (_ ∷ p) all f feed none = grind (arith, common_steps, unknown_exhausts p all.1)
 
 pub exhausts : (p : List Effect) → AllAllowed p → (f : ℕ) (feed : Feed) → feed_of p f ≡ Some feed → LeavesNothingDue p f feed
 exhausts [] all f feed is = tt
-exhausts (Opens g seat kind span cursor ∷ p) all f feed is = by_test (g == f)
-    (λ same. unknown_exhausts p all.1 f feed (unopened p all.1 f (let e = eqb-true g f same in omega (arith, all.0.0))).0)
-    (λ other. exhausts p all.1 f feed (rw other at is))
-exhausts (Polls g m ms ∷ p) all f feed is = (
-  λ e.
-      let one : all.0.0 ≡ feed = (let both : Some all.0.0 ≡ Some feed = sym all.0.1 ∙ ap (feed_of p) e ∙ is in cc) in
-      let told' : ms ≡ next_messages p f feed m = all.0.3 ∙ ap (λ n. next_messages p n all.0.0 m) e ∙ ap (λ v. next_messages p f v m) one in
-      let P : ℕ → List Message → Type 0 = λ n ns. length ns < m → (untold_rows (Polls n m ns ∷ p) f feed ≡ []) × (due_message (Polls n m ns ∷ p) f feed ≡ []) in
-      let allowed : Allowed p (Polls f m (next_messages p f feed m)) = subst (λ ns. Allowed p (Polls f m ns)) told' (subst (λ n. Allowed p (Polls n m ms)) e all.0) in
-      subst (λ n. P n ms) (sym e) (subst (P f) (sym told') (λ short. exhausted p f m feed allowed (feeding p all.1 f feed is) short)),
-  exhausts p all.1 f feed is,
-)
+exhausts (Opens g seat kind span cursor ∷ p) all f feed is = grind (arith, common_steps, unknown_exhausts, unopened, eqb-true, exhausts p all.1 f feed)
+exhausts (Polls g m ms ∷ p) all f feed is = (λ e short. exhausted p f g m ms feed all.0 e (polled p f g m ms feed all.0 e is).0 (feeding p all.1 f feed is) short, exhausts p all.1 f feed is)
 exhausts (_ ∷ p) all f feed is = exhausts p all.1 f feed is
 
 -- where no resolved message is due any more, closed is nearer than the gap
-due_none : (kind : Kind) (n c : ℕ) → due_if (is_due kind n c) c ≡ [] → is_due kind n c ≡ false
-due_none kind n c none = grind (arith, common_steps)
-
 pub reaches : (p : List Effect) (f : ℕ) (feed : Feed) → LeavesNothingDue p f feed → ReachesClosed p f feed
 reaches [] f feed h = tt
 reaches (Polls g m ms ∷ p) f feed h = grind (arith, common_steps, reaches p f feed h.1)
@@ -269,19 +245,22 @@ all_above t (messages.Resolved n ∷ ms) rest h = all_above t ms rest h
 pub cancel_front : (xs ys zs : List Row) → xs ++ ys ≡ xs ++ zs → ys ≡ zs
 cancel_front xs ys zs e = sym (drop-append_seam xs ys) ∙ ap (drop (length xs)) e ∙ drop-append_seam xs zs
 
+-- what a list goes on with after a closed timestamp is above that
+pub rest_past : (p : List Effect) (feed : Feed) (t : ℕ) (rest : List Row) → t ≤ closed_of p
+    → list_of p feed t ++ rest ≡ list_of p feed (closed_of p) → RowsAbove t rest
+rest_past p feed t rest low is =
+    let more = list_above p feed t (closed_of p) low in subst (RowsAbove t) (sym (cancel_front (list_of p feed t) rest more.0 (is ∙ more.1))) more.2
+
 pub parts_of : (p : List Effect) (feed : Feed) (before : List Row) (ms : List Message) (rest : List Row) → before ++ (rows_in ms ++ rest) ≡ list_of p feed (closed_of p)
     → DividesList p feed before ms → AllBelow (closed_of p) ms → RowsFollowResolved ms
 parts_of p feed before [] rest is h below = tt
 parts_of p feed before (messages.Row r ∷ ms) rest is h below = parts_of p feed (before ++ r ∷ []) ms rest (append_assoc before (r ∷ []) (rows_in ms ++ rest) ∙ is) h below
-parts_of p feed before (messages.Resolved t ∷ ms) rest is h below =
-    let more = list_above p feed t (closed_of p) below.0 in
-    grind (arith, common_steps, cancel_front, all_above, parts_of p feed before ms rest is h.1 below.1)
+parts_of p feed before (messages.Resolved t ∷ ms) rest is h below = grind (arith, common_steps, rest_past, all_above, parts_of p feed before ms rest is h.1 below.1)
 
 -- each feed is right
 pub fed : (p : List Effect) → AllAllowed p → (f : ℕ) (feed : Feed) → feed_of p f ≡ Some feed → FeedIsRight p f feed
 fed p all f feed is = let h = feeding p all f feed is in record {
-  begins = λ n low. let more = list_goes_on p feed (closed_of p) n low in
-      (h.begins.0 ++ more.0, more.1 ∙ ap (λ l. l ++ more.0) h.begins.1 ∙ append_assoc (rows_in (told_to p f)) h.begins.0 more.0);
+  begins = λ n low. let more = list_above p feed (closed_of p) n low in (h.begins.0 ++ more.0, grind (arith, common_steps, append_assoc));
   divides = h.divides;
   follows = parts_of p feed [] (told_to p f) h.begins.0 (sym h.begins.1) h.divides h.below;
   apart = h.apart;

@@ -1,6 +1,6 @@
 -- Messages that are taken are above the floor of those before them.
 use Rattle.spans.proofs.Common.{Row, and_parts, append-nil, common_steps, le-leb, leb-true, ltb-true}
-use Rattle.std.proofs.Common.{◌≡◌, ℕ, suc, ◌-◌, ◌<◌, ◌≤◌, Bool, true, false, cond, not, List, [], ◌∷◌, ◌++◌, Option, Some, None, refl, sym, subst, inl, inr, arith, append_assoc}
+use Rattle.std.proofs.Common.{◌≡◌, ℕ, suc, ◌-◌, ◌<◌, ◌≤◌, Bool, true, false, cond, not, List, [], ◌∷◌, ◌++◌, Option, Some, None, refl, sym, subst, arith, append_assoc}
 use Rattle.std.specs.Prelude.{max}
 use Rattle.spans.specs.declared.span.Span.{Span}
 use Rattle.spans.specs.declared.calls.messages.Message.{Message}
@@ -26,11 +26,15 @@ abbrev pub floor_by : Message → ℕ
 floor_by (messages.Row r) = r.ts - 1
 floor_by (messages.Resolved t) = t
 
+-- the floor after two lists of messages
+pub floor_append : (n : ℕ) (ms ns : List Message) → floor_after n (ms ++ ns) ≡ floor_after (floor_after n ms) ns
+floor_append n [] ns = refl
+floor_append n (messages.Row r ∷ ms) ns = floor_append (r.ts - 1) ms ns
+floor_append n (messages.Resolved t ∷ ms) ns = floor_append t ms ns
+
 pub floor_join : (n : ℕ) (ms : List Message) (m : Message) → floor_after n (ms ++ m ∷ []) ≡ floor_by m
-floor_join n [] (messages.Row r) = refl
-floor_join n [] (messages.Resolved t) = refl
-floor_join n (messages.Row r ∷ ms) m = floor_join (r.ts - 1) ms m
-floor_join n (messages.Resolved t ∷ ms) m = floor_join t ms m
+floor_join n ms (messages.Row r) = floor_append n ms (messages.Row r ∷ [])
+floor_join n ms (messages.Resolved t) = floor_append n ms (messages.Resolved t ∷ [])
 
 -- what is above all resolved timestamps, and not below the last row, is above the floor
 floor_last : (n k : ℕ) (o : Option Row) (m : Message) (ms : List Message) (t : ℕ) → last_resolved k (m ∷ ms) < t → reaches (last_row o (m ∷ ms)) t ≡ true → floor_after n (m ∷ ms) < t
@@ -39,7 +43,7 @@ floor_last n k o (messages.Resolved u) [] t above high = omega arith
 floor_last n k o (messages.Row r) (m ∷ ms) t above high = floor_last (r.ts - 1) k (Some r) m ms t above high
 floor_last n k o (messages.Resolved u) (m ∷ ms) t above high = floor_last u (max k u) o m ms t above high
 
-floor_below : (n : ℕ) (ms : List Message) (t : ℕ) → last_resolved n ms < t → reaches (last_row None ms) t ≡ true → floor_after n ms < t
+pub floor_below : (n : ℕ) (ms : List Message) (t : ℕ) → last_resolved n ms < t → reaches (last_row None ms) t ≡ true → floor_after n ms < t
 floor_below n [] t above high = above
 floor_below n (m ∷ ms) t above high = floor_last n n None m ms t above high
 
@@ -58,11 +62,8 @@ above_floor span start taken (messages.Resolved t) none = grind (arith, common_s
 
 -- so the floor doesn't fall
 floor_rises : (span : Span) (start : ℕ) (taken : List Message) (m : Message) → apply_fault span start taken m ≡ None → floor_after start taken ≤ floor_after start (taken ++ m ∷ [])
-floor_rises span start taken m none = rw (floor_join start taken m) (by_message m (above_floor span start taken m none))
-  where
-    by_message : (m : Message) → floor_after start taken < time_of m → floor_after start taken ≤ floor_by m
-    by_message (messages.Row r) above = omega arith
-    by_message (messages.Resolved t) above = omega arith
+floor_rises span start taken (messages.Row r) none = grind (arith, common_steps, floor_join, above_floor span start taken (messages.Row r) none)
+floor_rises span start taken (messages.Resolved t) none = grind (arith, common_steps, floor_join, above_floor span start taken (messages.Resolved t) none)
 
 pub floor_grows : (span : Span) (start : ℕ) (taken ms : List Message) → AllTaken span start taken ms → floor_after start taken ≤ floor_after start (taken ++ ms)
 floor_grows span start taken [] h = rw (append-nil taken) (omega arith)
@@ -80,9 +81,5 @@ all_above_floor span start taken (m ∷ ms) h = grind (arith, common_steps, abov
 -- a row that was taken is at most one above the floor
 pub row_near_floor : (span : Span) (start : ℕ) (taken ms : List Message) (s : Row) → AllTaken span start taken ms → IsRowIn s (rows_in ms) → s.ts ≤ suc (floor_after start (taken ++ ms))
 row_near_floor span start taken [] s h i = absurd i
-row_near_floor span start taken (messages.Row r ∷ ms) s h i = subst (λ l. s.ts ≤ suc (floor_after start l)) (append_assoc taken (messages.Row r ∷ []) ms) (elim i [
-  | inl here ↦
-      grind (arith, common_steps, floor_join, floor_grows)
-  | inr there ↦ row_near_floor span start (taken ++ messages.Row r ∷ []) ms s h.1 there
-])
+row_near_floor span start taken (messages.Row r ∷ ms) s h i = grind (arith, common_steps, floor_join, floor_grows, row_near_floor span start (taken ++ messages.Row r ∷ []) ms s h.1)
 row_near_floor span start taken (messages.Resolved t ∷ ms) s h i = subst (λ l. s.ts ≤ suc (floor_after start l)) (append_assoc taken (messages.Resolved t ∷ []) ms) (row_near_floor span start (taken ++ messages.Resolved t ∷ []) ms s h.1 i)

@@ -1,12 +1,12 @@
 -- A feed that goes on from another's complete timestamp: what it tells, and what it repeats.
-use Rattle.spans.proofs.Common.{Row, common_steps, filter-append, nat_tests, or_parts}
-use Rattle.std.proofs.Common.{◌≡◌, ℕ, zero, suc, ◌<◌, ◌≤◌, Bool, true, false, cond, ◌&&◌, ◌||◌, List, [], ◌∷◌, ◌++◌, Some, refl, sym, ◌∙◌, ap, subst, inl, inr, arith}
+use Rattle.spans.proofs.Common.{ltb-true, ltb-false, Row, common_steps, filter-append, nat_tests}
+use Rattle.std.proofs.Common.{◌≡◌, ℕ, zero, suc, ◌<◌, ◌≤◌, Bool, true, false, cond, ◌||◌, List, [], ◌∷◌, ◌++◌, Some, refl, sym, ◌∙◌, ap, subst, inl, inr, arith}
 use Rattle.std.specs.Prelude.{nat_lt, bytes_eq, max}
 use Rattle.spans.specs.declared.span.Span.{Span}
 use Rattle.spans.specs.declared.calls.messages.Message.{Message}
 use Rattle.spans.specs.declared.calls.messages.Message.TheVariants as messages
 use Rattle.spans.specs.Effects.{Effect}
-use Rattle.spans.specs.Transactions.{closed_of, is_committed}
+use Rattle.spans.specs.Transactions.{closed_of}
 use Rattle.spans.specs.Serial.{Map, put, map_at, span_part}
 use Rattle.spans.specs.Streams.{rows_of, stream_of}
 use Rattle.spans.specs.Feeds.{Feed, feed_of, told_to, rows_in, first_rows, list_of, start_of}
@@ -29,23 +29,16 @@ none_first p feed next n goes = grind (arith, common_steps, first_none, by_test,
 next_list : (p : List Effect) (feed next : Feed) (n m : ℕ) → GoesOn feed next n → list_of p next m ≡ stream_of p feed.span n m
 next_list p feed next n m goes = grind (arith, common_steps, none_first)
 
+txn_high : (p : List Effect) (span : Span) (n t : ℕ) → high_rows n (rows_of p span t) ≡ cond (nat_lt n t) (rows_of p span t) []
+txn_high p span n t = let at : (r : Row) → IsRowIn r (rows_of p span t) → r.ts ≡ t = λ r i. ((in_txn_rows p span t r).0 i).0 in by_test (nat_lt n t)
+    (λ is. rw is (all_high n (rows_of p span t) (λ r i. let e = at r i in let l = ltb-true n t is in omega arith)))
+    (λ isnt. rw isnt (none_high n (rows_of p span t) (λ r i. let e = at r i in let l = ltb-false n t isnt in omega arith)))
+
 -- a stream from a later cursor on is what is high of the longer one
 stream_high : (p : List Effect) (span : Span) (c n m : ℕ) → c ≤ n → high_rows n (stream_of p span c m) ≡ stream_of p span n m
 stream_high p span c n zero low = refl
 stream_high p span c n (suc t) low =
-    filter-append (λ (r : Row). nat_lt n r.ts) (stream_of p span c t) (cond (nat_lt c (suc t) && is_committed p (suc t)) (rows_of p span (suc t)) [])
-    ∙ ap (λ l. l ++ high_rows n (cond (nat_lt c (suc t) && is_committed p (suc t)) (rows_of p span (suc t)) [])) (stream_high p span c n t low)
-    ∙ ap (λ l. stream_of p span n t ++ l) (by_test (nat_lt n (suc t))
-    (λ above. let from : nat_lt c (suc t) ≡ true = grind (arith, nat_tests) in rw (above, from) (by_commit (is_committed p (suc t)) (grind (arith, nat_tests))))
-    (λ below. rw below (none_of (nat_lt c (suc t) && is_committed p (suc t)) (grind (arith, nat_tests)))))
-  where
-    by_commit : (b : Bool) → n < suc t → high_rows n (cond b (rows_of p span (suc t)) []) ≡ cond b (rows_of p span (suc t)) []
-    by_commit true above = all_high n (rows_of p span (suc t)) (λ r i. let at : r.ts ≡ suc t = ((in_txn_rows p span (suc t) r).0 i).0 in omega arith)
-    by_commit false above = refl
-
-    none_of : (b : Bool) → suc t ≤ n → high_rows n (cond b (rows_of p span (suc t)) []) ≡ []
-    none_of true below = none_high n (rows_of p span (suc t)) (λ r i. let at : r.ts ≡ suc t = ((in_txn_rows p span (suc t) r).0 i).0 in omega arith)
-    none_of false below = refl
+    let one = txn_high p span n (suc t) in grind (arith, common_steps, nat_tests, filter-append, stream_high p span c n t low)
 
 pub goes_on : (p : List Effect) (feed next : Feed) (n m : ℕ) → feed.cursor ≤ n → GoesOn feed next n → list_of p next m ≡ high_rows n (list_of p feed m)
 goes_on p feed next n m from goes = next_list p feed next n m goes ∙ sym (
@@ -61,15 +54,12 @@ has_row x (r ∷ rows) = bytes_eq r.key x || has_row x rows
 -- rows of other keys leave a key's value
 others_leave : (m : Map) (rows : List Row) (x : List ℕ) → has_row x rows ≡ false → by_rows m rows x ≡ m x
 others_leave m [] x none = refl
-others_leave m (r ∷ rows) x none = let both = or_parts (bytes_eq r.key x) (has_row x rows) none in others_leave (put m r.key r.after) rows x both.1 ∙ rw both.0 refl
+others_leave m (r ∷ rows) x none = grind (arith, common_steps, others_leave (put m r.key r.after) rows x)
 
 -- and what was there before a row of the key doesn't matter
 row_decides : (m n : Map) (rows : List Row) (x : List ℕ) → has_row x rows ≡ true → by_rows m rows x ≡ by_rows n rows x
 row_decides m n [] x some = cc
-row_decides m n (r ∷ rows) x some = by_test (has_row x rows)
-    (λ later. row_decides (put m r.key r.after) (put n r.key r.after) rows x later)
-    (λ last.
-    grind (arith, common_steps, others_leave))
+row_decides m n (r ∷ rows) x some = grind (arith, common_steps, others_leave, row_decides (put m r.key r.after) (put n r.key r.after) rows x)
 
 has_row_in : (x : List ℕ) (r : Row) (rows : List Row) → IsRowIn r rows → has_row x rows ≡ false → bytes_eq r.key x ≡ false
 has_row_in x r [] i none = absurd i

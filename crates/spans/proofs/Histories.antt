@@ -1,12 +1,12 @@
 -- Lists of events grow at their end, and histories at their front. Running out of memory does nothing.
-use Rattle.std.proofs.Common.{◌≡◌, ℕ, suc, ◌+◌, List, [], ◌∷◌, ◌++◌, length, reverse, refl, arith, ◌≤◌}
+use Rattle.spans.proofs.Common.{common_steps}
+use Rattle.std.proofs.Common.{◌≡◌, ℕ, suc, ◌+◌, List, [], ◌∷◌, ◌++◌, length, reverse, arith, ◌≤◌}
 use Rattle.std.proofs.lemmas.List.{reverse-append, length-map}
 use Rattle.spans.specs.declared.calls.commands.Cmd.{Cmd}
-use Rattle.spans.specs.declared.calls.commands.Cmd.TheVariants.{Begin, Put, Del}
 use Rattle.spans.specs.declared.calls.replies.Reply.TheVariants.{Refused}
 use Rattle.spans.specs.declared.calls.replies.Refusal.TheVariants.{NoMemory}
 use Rattle.spans.specs.declared.calls.events.Event.{Event}
-use Rattle.spans.specs.Effects.{NoEffect, effect, Effect, Opens, Protects, effects_of, effect_of}
+use Rattle.spans.specs.Effects.{NoEffect, effect, Effect, effects_of, effect_of}
 use Rattle.spans.specs.Legal.{IsGapless}
 use Rattle.spans.specs.Collection.{protections_made}
 use Rattle.spans.specs.Feeds.{feeds_opened}
@@ -22,10 +22,7 @@ turned_more es e = reverse-append es (e ∷ [])
 
 -- running out of memory does nothing
 pub wanting_does_nothing : (seat : ℕ) (cmd : Cmd) → effect seat cmd (Refused NoMemory) ≡ NoEffect
-wanting_does_nothing seat (Begin t) = refl
-wanting_does_nothing seat (Put t x v) = refl
-wanting_does_nothing seat (Del t x) = refl
-wanting_does_nothing seat (_) = refl
+wanting_does_nothing seat (_) = grind (arith, common_steps)
 
 -- each event has its effect
 pub effect_count : (h : List Event) → length (effects_of h) ≡ length h
@@ -34,10 +31,8 @@ effect_count h = length-map h effect_of
 -- each protection, and each feed, was made by an effect of its own
 pub made_at_most : (p : List Effect) → protections_made p ≤ length p
 made_at_most [] = omega arith
-made_at_most (Protects id t ∷ p) = omega (arith, made_at_most p)
-made_at_most (_ ∷ p) = omega (arith, made_at_most p)
+made_at_most (_ ∷ p) = grind (arith, common_steps, made_at_most p)
 
 pub opened_at_most : (p : List Effect) → feeds_opened p ≤ length p
 opened_at_most [] = omega arith
-opened_at_most (Opens f seat kind span cursor ∷ p) = omega (arith, opened_at_most p)
-opened_at_most (_ ∷ p) = omega (arith, opened_at_most p)
+opened_at_most (_ ∷ p) = grind (arith, common_steps, opened_at_most p)

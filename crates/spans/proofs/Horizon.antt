@@ -1,8 +1,8 @@
 -- The horizon never falls, and stays at or below closed and each protection that stands.
 use Rattle.std.proofs.lemmas.Grind.{common_steps}
-use Rattle.std.proofs.Common.{◌≡◌, ℕ, ◌≤◌, ◌==◌, not, List, [], ◌∷◌, ◌++◌, map, ap, arith, refl}
+use Rattle.std.proofs.Common.{◌≡◌, ℕ, ◌≤◌, List, [], ◌∷◌, ◌++◌, map, ap, arith, refl}
 use Rattle.std.specs.Prelude.{min}
-use Rattle.spans.specs.Effects.{Effect, Closes, HardCloses, Protects, Releases, Collects}
+use Rattle.spans.specs.Effects.{Effect, Collects}
 use Rattle.spans.specs.Transactions.{closed_of, least_of}
 use Rattle.spans.specs.Collection.{Protection, horizon_of, protections_of, live_feeds, floor_of}
 use Rattle.spans.proofs.Copies.{Allowed, AllAllowed, closed_grows}
@@ -22,10 +22,7 @@ least_join n (m ∷ ms) ns = ap (min m) (least_join n ms ns)
 -- the horizon is at or below closed
 pub horizon_low : (p : List Effect) → AllAllowed p → horizon_of p ≤ closed_of p
 horizon_low [] all = omega arith
-horizon_low (Collects n ∷ p) all = omega (arith, all.0.1, horizon_low p all.1, least_low (min all.0.0 (closed_of p)) (map (λ (n : Protection). n.at) (protections_of p) ++ map (floor_of p) (live_feeds p)))
-horizon_low (Closes n ∷ p) all = omega (arith, horizon_low p all.1, closed_grows p (Closes n) all.0)
-horizon_low (HardCloses to n ∷ p) all = omega (arith, horizon_low p all.1, closed_grows p (HardCloses to n) all.0)
-horizon_low (_ ∷ p) all = horizon_low p all.1
+horizon_low (_ ∷ p) all = grind (arith, common_steps, least_low, closed_grows, horizon_low p all.1)
 
 -- the horizon never falls
 pub horizon_grows : (p : List Effect) (d : Effect) → Allowed p d → horizon_of p ≤ horizon_of (d ∷ p)
@@ -40,11 +37,5 @@ least_under n m (x ∷ ps) ns i = grind (arith, common_steps, least_under n m ps
 -- each protection that stands is at or above the horizon
 pub protections_high : (p : List Effect) → AllAllowed p → (m : Protection) → Has m (protections_of p) → horizon_of p ≤ m.at
 protections_high [] all m i = absurd i
-protections_high (Protects id t ∷ p) all m i = grind (arith, common_steps, protections_high p all.1 m)
-protections_high (Releases id ∷ p) all m i = protections_high p all.1 m ((has_filter (λ (n : Protection). not (n.id == id)) m (protections_of p)).0 i).1
-protections_high (Collects n ∷ p) all m i =
-    let was : horizon_of p ≤ m.at = protections_high p all.1 m i in
-    let low : least_of (min all.0.0 (closed_of p)) (map (λ (v : Protection). v.at) (protections_of p) ++ map (floor_of p) (live_feeds p)) ≤ m.at =
-    least_under (min all.0.0 (closed_of p)) m (protections_of p) (map (floor_of p) (live_feeds p)) i in
-    omega (arith, all.0.1, was, low)
-protections_high (_ ∷ p) all m i = protections_high p all.1 m i
+protections_high (Collects n ∷ p) all m i = omega (arith, all.0.1, protections_high p all.1 m i, least_under (min all.0.0 (closed_of p)) m (protections_of p) (map (floor_of p) (live_feeds p)) i)
+protections_high (_ ∷ p) all m i = grind (arith, common_steps, has_filter, protections_high p all.1 m)

@@ -1,5 +1,5 @@
 -- The order of keys, and where a range begins that has the keys from a bound on.
-use Rattle.spans.proofs.Common.{Equal, Greater, Less, MAX_KEY_BYTES, Ordering, common_steps, is_from_start, is_le, is_lt, key_cmp, leb-false, nat_cmp, nat_cmp_total, nat_list_cmp_total, not-true, ordering_reverse, ordering_then, tied_itself}
+use Rattle.spans.proofs.Common.{Equal, Greater, Less, MAX_KEY_BYTES, Ordering, common_steps, is_from_start, is_le, is_lt, key_cmp, leb-false, nat_list_cmp_total, not-true, ordering_reverse, tied_itself}
 use Rattle.std.proofs.Common.{◌≡◌, ℕ, zero, suc, ◌<◌, ◌≤◌, true, false, List, [], ◌∷◌, length, take, Option, Some, None, refl, sym, ◌∙◌, ap, arith}
 use Rattle.std.specs.Prelude.{not, nat_le}
 use Rattle.spans.specs.KeyOrder.{key_lt, from_low, below_high}
@@ -29,39 +29,23 @@ under_high (Some high) k x below less = ap is_lt (nat_list_cmp_total.trans x k h
 
 pub stays_above : (high : Option (List ℕ)) (x y : List ℕ) → below_high high x ≡ false → key_cmp x y ≡ Less → below_high high y ≡ false
 stays_above None x y past less = (let no : true ≡ false = past in cc)
-stays_above (Some high) x y past less = by_order (key_cmp y high) refl
-  where
-    by_order : (o : Ordering) → key_cmp y high ≡ o → key_lt y high ≡ false
-    by_order Less e = (let no : true ≡ false = sym (ap is_lt (nat_list_cmp_total.trans x y high less e)) ∙ past in cc)
-    by_order Equal e = ap is_lt e
-    by_order Greater e = ap is_lt e
+stays_above (Some high) x y past less = grind (arith, common_steps, nat_list_cmp_total)
 
 -- ---- where the keys at or above a bound begin
 
 -- a key at or above a bound is above each beginning of it that is shorter
 above_shorter : (n : ℕ) (b x : List ℕ) → n < length b → key_lt x b ≡ false → key_lt (take n b) x ≡ true
 above_shorter n [] x less from = absurd (omega arith)
-above_shorter n (c ∷ b) [] less from = (let no : true ≡ false = from in cc)
-above_shorter zero (c ∷ b) (y ∷ x) less from = refl
-above_shorter (suc n) (c ∷ b) (y ∷ x) less from = by_order (nat_cmp y c) refl from (above_shorter n b x (omega arith))
-  where
-    by_order : (o : Ordering) → nat_cmp y c ≡ o → is_lt (ordering_then o (key_cmp x b)) ≡ false → (key_lt x b ≡ false → key_lt (take n b) x ≡ true) → is_lt (ordering_then (nat_cmp c y) (key_cmp (take n b) x)) ≡ true
-    by_order Less e from more = (let no : true ≡ false = from in cc)
-    by_order Equal e from more = rw (nat_cmp_total.antisymm c y ∙ ap ordering_reverse e) (more from)
-    by_order Greater e from more = rw (nat_cmp_total.antisymm c y ∙ ap ordering_reverse e) refl
+above_shorter zero (c ∷ b) x less from = grind (arith, common_steps)
+above_shorter (suc n) (c ∷ b) [] less from = grind (arith, common_steps)
+above_shorter (suc n) (c ∷ b) (y ∷ x) less from = grind (arith, common_steps, above_shorter n b x)
 
 -- and one that is no longer than that beginning, and above it, is above the bound
 above_whole : (n : ℕ) (b x : List ℕ) → n < length b → length x ≤ n → key_lt (take n b) x ≡ true → key_lt x b ≡ false
 above_whole n [] x less short above = absurd (omega arith)
-above_whole zero (c ∷ b) [] less short above = (let no : false ≡ true = above in cc)
-above_whole zero (c ∷ b) (y ∷ x) less short above = absurd (omega arith)
-above_whole (suc n) (c ∷ b) [] less short above = (let no : false ≡ true = above in cc)
-above_whole (suc n) (c ∷ b) (y ∷ x) less short above = by_order (nat_cmp c y) refl above (above_whole n b x (omega arith) (omega arith))
-  where
-    by_order : (o : Ordering) → nat_cmp c y ≡ o → is_lt (ordering_then o (key_cmp (take n b) x)) ≡ true → (key_lt (take n b) x ≡ true → key_lt x b ≡ false) → is_lt (ordering_then (nat_cmp y c) (key_cmp x b)) ≡ false
-    by_order Less e above more = rw (nat_cmp_total.antisymm y c ∙ ap ordering_reverse e) refl
-    by_order Equal e above more = rw (nat_cmp_total.antisymm y c ∙ ap ordering_reverse e) (more above)
-    by_order Greater e above more = (let no : false ≡ true = above in cc)
+above_whole zero (c ∷ b) x less short above = grind (arith, common_steps)
+above_whole (suc n) (c ∷ b) [] less short above = grind (arith, common_steps)
+above_whole (suc n) (c ∷ b) (y ∷ x) less short above = grind (arith, common_steps, above_whole n b x)
 
 reversed : (o : Ordering) → is_le (ordering_reverse o) ≡ not (is_lt o)
 reversed Less = refl

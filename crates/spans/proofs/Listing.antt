@@ -1,14 +1,14 @@
 -- What a feed's list is: the map at the cursor first, where the feed is initial, and then the stream.
-use Rattle.spans.proofs.Common.{Row, and_from, common_steps, eq-eqb, is_lt, lt-ltb, nat_tests, or_left, or_right}
-use Rattle.std.proofs.Common.{◌≡◌, ℕ, zero, suc, ◌<◌, ◌≤◌, ◌-◌, ◌⊎◌, ◌==◌, Bool, true, false, cond, List, [], ◌∷◌, ◌++◌, map, Some, None, refl, sym, ◌∙◌, ap, inl, inr, arith, append_assoc}
+use Rattle.spans.proofs.Common.{nat_tests, Row, and_from, common_steps, eq-eqb, lt-ltb, or_left, or_right}
+use Rattle.std.proofs.Common.{◌≡◌, ℕ, zero, suc, ◌<◌, ◌≤◌, ◌-◌, ◌⊎◌, true, false, List, [], ◌∷◌, ◌++◌, map, Some, None, refl, sym, ◌∙◌, ap, inl, inr, arith, append_assoc}
 use Rattle.std.specs.Prelude.{◌↔◌, is_some}
 use Rattle.spans.specs.declared.span.Span.{Span}
 use Rattle.spans.specs.Keys.{in_span, pairs_of, IsPairIn, KeysRise}
 use Rattle.spans.specs.declared.kind.Kind.{Kind}
-use Rattle.spans.specs.Effects.{After, Effect, Writes, Commits}
-use Rattle.spans.specs.Transactions.{closed_of, is_committed}
+use Rattle.spans.specs.Effects.{After, Effect}
+use Rattle.spans.specs.Transactions.{closed_of}
 use Rattle.spans.specs.Versions.{written_keys}
-use Rattle.spans.specs.Serial.{serial_run, map_at, span_part}
+use Rattle.spans.specs.Serial.{map_at, span_part}
 use Rattle.spans.specs.Streams.{stream_of, pair_row, snapshot_rows}
 use Rattle.spans.specs.Feeds.{Feed, first_rows, list_of, start_at, start_of}
 use Rattle.spans.proofs.Steps.{by_test, map_at_is}
@@ -16,18 +16,12 @@ use Rattle.spans.proofs.Copies.{Allowed}
 use Rattle.spans.proofs.Keyed.{IsIn, is_pair_of, pairs_rise, pairs_only, stays_in}
 use Rattle.spans.proofs.Legal.{keys_rise, settled_in}
 use Rattle.spans.proofs.StreamOrder.{IsRowIn, RisingRows, in_append, rises_append, IsStreamed, in_stream, stream_rises}
-use Rattle.spans.proofs.Streaming.{RowsAbove, stream_stays, stream_goes_on, stream_above}
+use Rattle.spans.proofs.Streaming.{RowsAbove, stream_stays, stream_above}
 
 -- what is closed stays, in the map too
 pub map_stays : (p : List Effect) (d : Effect) → Allowed p d → (t : ℕ) → t ≤ closed_of p → map_at (d ∷ p) t ≡ map_at p t
 map_stays p d allowed zero low = refl
-map_stays p d allowed (suc t) low = ran d allowed (map_stays p d allowed t (omega arith))
-  where
-    ran : (d : Effect) → Allowed p d → map_at (d ∷ p) t ≡ map_at p t
-        → cond (is_committed (d ∷ p) (suc t)) (serial_run (d ∷ p) (suc t) (map_at (d ∷ p) t)) (map_at (d ∷ p) t) ≡ cond (is_committed p (suc t)) (serial_run p (suc t) (map_at p t)) (map_at p t)
-    ran (Writes k y a) allowed e = let other : (k == suc t) ≡ false = grind (arith, nat_tests, allowed.0.above) in rw (other, e) refl
-    ran (Commits k) allowed e = let other : (k == suc t) ≡ false = grind (arith, nat_tests, allowed.above) in rw (other, e) refl
-    ran (_) allowed e = rw e refl
+map_stays p d allowed (suc t) low = grind (arith, common_steps, map_stays p d allowed t)
 
 -- a key with a value in a part of the map was written
 pub part_in : (p : List Effect) (span : Span) (t : ℕ) (x v : List ℕ) → span_part span (map_at p t) x ≡ Some v → IsIn x (written_keys p)
@@ -35,16 +29,15 @@ part_in p span t x v is = by_test (in_span span x)
     (λ inside. settled_in p x t v (sym (map_at_is p t x) ∙ rw inside at is))
     (λ out. absurd (let no' : None ≡ Some v = rw out at is in cc))
 
+keys_grow : (p : List Effect) (d : Effect) (x : List ℕ) → IsIn x (written_keys p) → IsIn x (written_keys (d ∷ p))
+keys_grow p (_) x i = grind (arith, common_steps, stays_in)
+
 -- so the map's rows stay
 snapshot_stays : (p : List Effect) (d : Effect) → Allowed p d → (span : Span) (t : ℕ) → t ≤ closed_of p → snapshot_rows (d ∷ p) span t ≡ snapshot_rows p span t
 snapshot_stays p d allowed span t low =
     ap (λ m. map (pair_row t) (pairs_of (span_part span m) (written_keys (d ∷ p)))) (map_stays p d allowed t low)
     ∙ ap (map (pair_row t)) (pairs_only (span_part span (map_at p t)) (written_keys (d ∷ p)) (written_keys p) (keys_rise (d ∷ p)) (keys_rise p)
-    (λ x v is. let i = part_in p span t x v is in (grows d x i, i)))
-  where
-    grows : (d : Effect) (x : List ℕ) → IsIn x (written_keys p) → IsIn x (written_keys (d ∷ p))
-    grows (Writes k y a) x i = stays_in y x (written_keys p) i
-    grows (_) x i = i
+    (λ x v is. let i = part_in p span t x v is in (keys_grow p d x i, i)))
 
 -- a row of the map at t
 pub record IsScanned (p : List Effect) (span : Span) (t : ℕ) (r : Row) : Type 0 where
@@ -62,34 +55,17 @@ in_pairs t r (pair ∷ pairs) = let more = in_pairs t r pairs in (
     | inl here ↦ (sym (ap (λ (q : Row). q.ts) here), pair.1, sym (ap (λ (q : Row). q.after) here), inl (ap (λ (q : Row). q.key) here, refl))
     | inr there ↦ (let m = more.0 there in (m.0, m.1, m.2, inr m.3))
   ],
-  λ i. elim i.3 [
-    | inl here ↦ inl (made r t pair i.0 here.0 (ap Some here.1 ∙ sym i.2))
-    | inr there ↦ inr (more.1 (i.0, i.1, i.2, there))
-  ],
+  λ i. grind (arith, common_steps),
 )
-  where
-    made : (r : Row) (t : ℕ) (pair : List ℕ × List ℕ) → r.ts ≡ t → pair.0 ≡ r.key → Some pair.1 ≡ r.after → pair_row t pair ≡ r
-    made r t pair e h k = rw (← e, h, k) refl
 
 -- which rows the map's are
 in_snapshot : (p : List Effect) (span : Span) (t : ℕ) (r : Row) → IsRowIn r (snapshot_rows p span t) ↔ IsScanned p span t r
-in_snapshot p span t r =
-    let rows = in_pairs t r (pairs_of (span_part span (map_at p t)) (written_keys p)) in (
-      λ i. let m = rows.0 i in
-          let has' = ((is_pair_of (span_part span (map_at p t)) (written_keys p) r.key m.1).0 m.3).1 in
-          by_test (in_span span r.key)
-          (λ inside. let has : map_at p t r.key ≡ Some m.1 = rw inside at has' in record {
-            at = m.0;
-            some = positive t m.1 has;
-            inside = inside;
-            has = has ∙ sym m.2;
-            value = ap is_some m.2;
-          })
-          (λ out. absurd (let no' : None ≡ Some m.1 = rw out at has' in cc)),
-      λ s. let v = some_of r.after s.value in
-          let has : span_part span (map_at p t) r.key ≡ Some v.0 = rw s.inside (s.has ∙ v.1) in
-          rows.1 (s.at, v.0, v.1, (is_pair_of (span_part span (map_at p t)) (written_keys p) r.key v.0).1 (part_in p span t r.key v.0 has, has)),
-    )
+in_snapshot p span t r = let rows = in_pairs t r (pairs_of (span_part span (map_at p t)) (written_keys p)) in (
+  λ i. let m = rows.0 i in let h = (is_pair_of (span_part span (map_at p t)) (written_keys p) r.key m.1).0 m.3 in
+      grind (arith, common_steps, positive),
+  λ s. let v = some_of r.after s.value in let h = (is_pair_of (span_part span (map_at p t)) (written_keys p) r.key v.0).1 in
+      rows.1 (s.at, v.0, v.1, grind (arith, common_steps, h, part_in)),
+)
   where
     positive : (t : ℕ) (v : List ℕ) → map_at p t r.key ≡ Some v → 0 < t
     positive zero v e = cc
@@ -103,7 +79,8 @@ in_snapshot p span t r =
 pairs_rows_rise : (t : ℕ) (pairs : List (List ℕ × List ℕ)) → KeysRise pairs → RisingRows (map (pair_row t) pairs)
 pairs_rows_rise t [] h = tt
 pairs_rows_rise t (pair ∷ pairs) h = (
-  λ s i. let m = (in_pairs t s pairs).0 i in or_right _ _ (and_from _ _ (eq-eqb t s.ts (sym m.0)) (ap is_lt (h.0 s.key m.1 m.3))),
+  λ s i. let m = (in_pairs t s pairs).0 i in let less = h.0 s.key m.1 m.3 in
+      grind (arith, common_steps, nat_tests, or_right, and_from, eq-eqb),
   pairs_rows_rise t pairs h.1,
 )
 
@@ -121,19 +98,13 @@ in_first kind p span c r = by_test kind.initial
     (λ is. let s = in_snapshot p span c r in (λ i. (is, s.0 (rw is at i)), λ i. rw is (s.1 i.1)))
     (λ isnt. (λ i. absurd (rw isnt at i), λ i. absurd (let no' : false ≡ true = sym isnt ∙ i.0 in cc)))
 
+no_pairs : (p : List Effect) (span : Span) (keys : List (List ℕ)) → pairs_of (span_part span (map_at p 0)) keys ≡ []
+no_pairs p span [] = refl
+no_pairs p span (x ∷ xs) = grind (arith, common_steps, no_pairs p span xs)
+
 -- nothing is there at 0
 pub first_none : (kind : Kind) (p : List Effect) (span : Span) (c : ℕ) → (kind.initial ≡ true → c ≡ 0) → first_rows kind p span c ≡ []
-first_none kind p span c zeroth = by_test kind.initial
-    (λ is. rw is (rw (zeroth is) (ap (map (pair_row 0)) (no_pairs (written_keys p)))))
-    (λ isnt. rw isnt refl)
-  where
-    no_value : (b : Bool) → let none : After = None in cond b none none ≡ none
-    no_value true = refl
-    no_value false = refl
-
-    no_pairs : (keys : List (List ℕ)) → pairs_of (span_part span (map_at p 0)) keys ≡ []
-    no_pairs [] = refl
-    no_pairs (x ∷ xs) = rw (no_value (in_span span x)) (no_pairs xs)
+first_none kind p span c zeroth = by_test kind.initial (λ is. rw is (rw (zeroth is) (ap (map (pair_row 0)) (no_pairs p span (written_keys p))))) (λ isnt. rw isnt refl)
 
 -- the start is at or below the cursor
 pub start_low : (kind : Kind) (c : ℕ) → start_at kind c ≤ c
@@ -179,11 +150,6 @@ IsSettled p feed = feed.kind.initial ≡ true → feed.cursor ≤ closed_of p
 -- what is closed stays, in the list too
 pub list_stays : (p : List Effect) (d : Effect) → Allowed p d → (feed : Feed) → IsSettled p feed → (n : ℕ) → n ≤ closed_of p → list_of (d ∷ p) feed n ≡ list_of p feed n
 list_stays p d allowed feed settled n low = grind (arith, common_steps, first_stays, stream_stays)
-
--- a longer list goes on from a shorter
-pub list_goes_on : (p : List Effect) (feed : Feed) (m n : ℕ) → m ≤ n → (rest : List Row) × (list_of p feed n ≡ list_of p feed m ++ rest)
-list_goes_on p feed m n low = let more = stream_goes_on p feed.span feed.cursor m n low in
-    (more.0, ap (λ l. first_rows feed.kind p feed.span feed.cursor ++ l) more.1 ∙ sym (append_assoc (first_rows feed.kind p feed.span feed.cursor) (stream_of p feed.span feed.cursor m) more.0))
 
 -- the rows that a list goes on with are above where it stood
 pub list_above : (p : List Effect) (feed : Feed) (m n : ℕ) → m ≤ n → (rest : List Row) × (list_of p feed n ≡ list_of p feed m ++ rest) × RowsAbove m rest

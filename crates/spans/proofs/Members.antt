@@ -1,12 +1,13 @@
 -- Lists that stand for sets: distinct lists of the same are of one length.
-use Rattle.spans.proofs.Common.{All-cons, All-nil, Greater, Less, common_steps, key_cmp, nat_list_cmp_total, ordering_reverse}
-use Rattle.std.proofs.Common.{Bool, List, refl, arith, inr, subst, false, suc, ap, true, inl, sym, length, ◌≡◌, ◌≤◌, ◌⊎◌, ◌∷◌, ◌++◌, ◌∙◌, ℕ, []}
+use Rattle.spans.proofs.Sets.{one_less}
+use Rattle.spans.proofs.Common.{All-cons, All-nil, common_steps}
+use Rattle.std.proofs.Common.{Bool, List, refl, arith, inr, false, suc, ap, true, inl, sym, length, ◌≡◌, ◌≤◌, ◌⊎◌, ◌∷◌, ◌++◌, ◌∙◌, ℕ, []}
 use Rattle.std.specs.Prelude.{All, filter, is_some, not, ◌+◌, ◌↔◌}
 pub use Rattle.spans.specs.Members.{Has, AreDistinct}
 use Rattle.spans.specs.Effects.{Begins, Effect}
 use Rattle.spans.specs.Transactions.{is_undecided, owner_of, begun_of, undecided_timestamps}
 use Rattle.spans.proofs.Copies.{AllAllowed}
-use Rattle.spans.proofs.Keyed.{IsIn, RisingKeys}
+use Rattle.spans.proofs.Keyed.{key_clash, IsIn, RisingKeys}
 use Rattle.spans.proofs.Open.{IsAmong}
 use Rattle.spans.proofs.Steps.{by_test}
 
@@ -15,36 +16,19 @@ record Without {A : Type 0} (x : A) (ys : List A) : Type 0 where
   pub rest : List A
   pub one_less : length ys ≡ suc (length rest)
   pub split : (y : A) → Has y ys → (x ≡ y) ⊎ Has y rest
-  pub part : (y : A) → Has y rest → Has y ys
-  pub distinct : AreDistinct ys → AreDistinct rest × (Has x rest → ⊥)
 
 -- a list that has x is one longer than without it
 without : {A : Type 0} (x : A) (ys : List A) → Has x ys → Without x ys
 without x [] i = absurd i
 without x (y ∷ ys) i = elim i [
-  | inl here ↦ record {
-    rest = ys;
-    one_less = refl;
-    split = λ z j. elim j [ inl e ↦ inl (sym here ∙ e) | inr k ↦ inr k ];
-    part = λ z j. inr j;
-    distinct = λ d. (d.1, λ j. d.0 (subst (λ w. Has w ys) (sym here) j));
-  }
+  | inl here ↦ record { rest = ys; one_less = refl; split = λ z j. grind (arith, common_steps) }
   | inr there ↦ (let w = without x ys there in record {
     rest = y ∷ w.rest;
     one_less = ap suc w.one_less;
-    split = λ z j. elim j [ inl e ↦ inr (inl e) | inr k ↦ (elim (w.split z k) [ inl e ↦ inl e | inr m ↦ inr (inr m) ]) ];
-    part = λ z j. elim j [ inl e ↦ inl e | inr k ↦ inr (w.part z k) ];
-    distinct = λ d. ((λ j. d.0 (w.part y j), (w.distinct d.1).0), λ j. elim j [ inl e ↦ d.0 (subst (λ v. Has v ys) (sym e) there) | inr k ↦ (w.distinct d.1).1 k ]);
+    split = λ z j. let s = w.split z in
+        grind (arith, common_steps);
   })
 ]
-
--- distinct lists of the same are of one length
-pub same_length : {A : Type 0} (xs ys : List A) → AreDistinct xs → AreDistinct ys → ((x : A) → Has x xs ↔ Has x ys) → length xs ≡ length ys
-same_length [] [] d e same = refl
-same_length [] (y ∷ ys) d e same = absurd ((same y).1 (inl refl))
-same_length (x ∷ xs) ys d e same =
-    let w = without x ys ((same x).0 (inl refl)) in
-    grind (arith, common_steps, same_length xs)
 
 -- a distinct list is no longer than one that has each of its members
 pub fits_in : {A : Type 0} (xs ys : List A) → AreDistinct xs → ((x : A) → Has x xs → Has x ys) → length xs ≤ length ys
@@ -52,6 +36,10 @@ fits_in [] ys d all = omega arith
 fits_in (x ∷ xs) ys d all =
     let w = without x ys (all x (inl refl)) in
     grind (arith, common_steps, fits_in xs)
+
+-- distinct lists of the same are of one length
+pub same_length : {A : Type 0} (xs ys : List A) → AreDistinct xs → AreDistinct ys → ((x : A) → Has x xs ↔ Has x ys) → length xs ≡ length ys
+same_length xs ys d e same = omega (arith, fits_in xs ys d (λ x i. (same x).0 i), fits_in ys xs e (λ x i. (same x).1 i))
 
 -- what a filter leaves is what passes the test
 pub has_filter : {A : Type 0} (q : A → Bool) (x : A) (xs : List A) → Has x (filter q xs) ↔ ((q x ≡ true) × Has x xs)
@@ -75,26 +63,20 @@ distinct_append (x ∷ xs) ys d e apart = grind (arith, common_steps, has_append
 
 -- a key among keys is one of the list
 pub in_has : (x : List ℕ) (ks : List (List ℕ)) → IsIn x ks → Has x ks
-in_has x [] i = i
-in_has x (y ∷ ys) i = elim i [ inl e ↦ inl e | inr k ↦ inr (in_has x ys k) ]
+in_has x ks i = i
 
 -- and the other way round
 pub has_is : (x : List ℕ) (ks : List (List ℕ)) → Has x ks → IsIn x ks
-has_is x [] i = i
-has_is x (y ∷ ys) i = elim i [ inl e ↦ inl e | inr k ↦ inr (has_is x ys k) ]
+has_is x ks i = i
 
 -- a timestamp among timestamps is one of the list
 pub among_has : (t : ℕ) (ts : List ℕ) → IsAmong t ts → Has t ts
-among_has t [] i = i
-among_has t (k ∷ ks) i = elim i [ inl e ↦ inl e | inr j ↦ inr (among_has t ks j) ]
+among_has t ts i = i
 
 -- rising keys are distinct
 pub rising_distinct : (ks : List (List ℕ)) → RisingKeys ks → AreDistinct ks
 rising_distinct [] r = tt
-rising_distinct (x ∷ xs) r = (
-  λ i. let e : key_cmp x x ≡ Less = r.0 x (has_is x xs i) in let back : key_cmp x x ≡ ordering_reverse (key_cmp x x) = nat_list_cmp_total.antisymm x x in let no' : Less ≡ Greater = sym e ∙ back ∙ ap ordering_reverse e in cc,
-  rising_distinct xs r.1,
-)
+rising_distinct (x ∷ xs) r = (λ i. let e = r.0 x (has_is x xs i) in key_clash x x e e, rising_distinct xs r.1)
 
 -- who is among the begun has an owner
 pub has_begun : (p : List Effect) (t : ℕ) → Has t (begun_of p) → is_some (owner_of p t) ≡ true

@@ -1,24 +1,23 @@
 -- Allowed deeds keep what the guide promises.
 use Rattle.spans.proofs.Common.{common_steps, eqb-true}
-use Rattle.std.proofs.Common.{◌≡◌, ℕ, ◌+◌, ◌-◌, ◌≤◌, List, [], ◌∷◌, ◌++◌, length, Some, refl, sym, ◌∙◌, subst, inl, inr, arith}
+use Rattle.std.proofs.Common.{rules, ◌≡◌, ℕ, ◌+◌, ◌-◌, ◌≤◌, List, [], ◌∷◌, ◌++◌, length, Some, refl, sym, ◌∙◌, subst, inl, inr, arith}
 use Rattle.spans.specs.declared.calls.replies.Reply.TheVariants as replies
 use Rattle.spans.specs.declared.calls.events.Event.{Event}
 use Rattle.spans.specs.Legal.{IsLegal}
 use Rattle.spans.specs.Effects.{effects_of, After, Effect, Reads, Scans, Protects, Releases}
 use Rattle.spans.specs.Transactions.{closed_of}
 use Rattle.spans.specs.Versions.{write_of, visible}
-use Rattle.spans.specs.Collection.{Protection, LiveFeed, horizon_of, protections_of, live_feeds, floor_of, versions_of, is_dead, dead_of}
-use Rattle.spans.specs.Promises.{ReadsOwn, NeverFalls, HasRisen, MapsStand, Stands, ProtectionsHold, IsHorizonHeld, SnapshotsStand, left_versions, AreVersionsCounted}
+use Rattle.spans.specs.Collection.{Protection, protections_of, versions_of, is_dead, dead_of}
+use Rattle.spans.specs.Promises.{ReadsOwn, HasRisen, MapsStand, Stands, ProtectionsHold, IsHorizonHeld, left_versions, AreVersionsCounted}
 use Rattle.spans.proofs.Steps.{by_test}
 use Rattle.spans.proofs.Keyed.{among_rows}
-use Rattle.spans.proofs.Copies.{IsActive, Allowed, AllAllowed, closed_grows}
+use Rattle.spans.proofs.Copies.{IsActive, AllAllowed, closed_grows}
 use Rattle.spans.proofs.Legal.{legal_allowed}
 use Rattle.spans.proofs.Listing.{map_stays}
 use Rattle.spans.proofs.Members.{Has, all_of, has_filter, parted}
 use Rattle.spans.proofs.VersionNames.{versions_distinct}
 use Rattle.spans.proofs.Horizon.{horizon_low, horizon_grows, protections_high}
 use Rattle.spans.proofs.FeedFloors.{floors_high, live_floor_high}
-use Rattle.spans.proofs.Dead.{left_newest}
 
 -- of a key that it wrote an open transaction sees what it wrote last
 sees_own : (p : List Effect) (x : List ℕ) (t : ℕ) (a : After) → IsActive p t → write_of p t x ≡ Some a → (visible p x t).after ≡ a
@@ -28,17 +27,15 @@ pub reads_own : (p : List Effect) → AllAllowed p → ReadsOwn p
 reads_own [] all = tt
 reads_own (Reads t x v ∷ p) all = (λ a wrote. all.0.2 ∙ sees_own p x t a all.0.0 wrote, reads_own p all.1)
 reads_own (Scans t span rows ∷ p) all = (
-  λ x a inside wrote. among_rows span (λ y. (visible p y t).after) rows all.0.2 x inside ∙ sees_own p x t a all.0.0 wrote,
+  λ x a inside wrote. among_rows span (λ y. (visible p y t).after) rows all.0.2 x inside
+      ∙ sees_own p x t a all.0.0 wrote,
   reads_own p all.1,
 )
 reads_own (_ ∷ p) all = reads_own p all.1
 
-never_falls : (p : List Effect) (d : Effect) → Allowed p d → NeverFalls p (d ∷ p)
-never_falls p d allowed = record { closed = closed_grows p d allowed; horizon = horizon_grows p d allowed }
-
 pub has_risen : (p : List Effect) → AllAllowed p → HasRisen p
 has_risen [] all = tt
-has_risen (d ∷ p) all = (never_falls p d all.0, has_risen p all.1)
+has_risen (d ∷ p) all = (record { closed = closed_grows p d all.0; horizon = horizon_grows p d all.0 }, has_risen p all.1)
 
 -- closed is at least where it was, and each map up to there is what it was
 stands_for_ever : (later h : List Event) → IsLegal (later ++ h)
@@ -63,20 +60,10 @@ stands_listed (Releases n ∷ after) before id t stands = grind (arith, common_s
 stands_listed (_ ∷ after) before id t stands = stands_listed after before id t stands
 
 protections_hold : (p : List Effect) → AllAllowed p → ProtectionsHold p
-protections_hold p all = λ after before id t is stands.
-    protections_high p all (protection id t) (subst (λ q. Has (protection id t) (protections_of q)) (sym is) (stands_listed after before id t stands))
+protections_hold p all = λ after before id t is stands. protections_high p all (protection id t) (subst (λ q. Has (protection id t) (protections_of q)) (sym is) (stands_listed after before id t stands))
 
 pub horizon_held : (p : List Effect) → AllAllowed p → IsHorizonHeld p
-horizon_held p all = record {
-  closed = horizon_low p all;
-  protections = all_of (λ (n : Protection). horizon_of p ≤ n.at) (protections_of p) (protections_high p all);
-  feeds = all_of (λ (n : LiveFeed). horizon_of p ≤ floor_of p n) (live_feeds p) (live_floor_high p all);
-  held = protections_hold p all;
-  living = floors_high p all;
-}
-
-pub snapshots_stand : (p : List Effect) → SnapshotsStand p
-snapshots_stand p = left_newest p
+horizon_held p all = search (horizon_low, all_of, protections_high, live_floor_high, protections_hold, floors_high, rules, arith)
 
 pub versions_counted : (p : List Effect) → AllAllowed p → AreVersionsCounted p
 versions_counted p all =

@@ -1,23 +1,21 @@
 -- The limit of a report is the limit of its history.
-use Rattle.spans.proofs.Common.{All-append, All-cons, All-filter, All-head, All-nil, All-tail, All-weaker, common_steps, eq-eqb, eqb-true, reverse-append}
-use Rattle.std.proofs.Common.{◌≡◌, ℕ, suc, ◌==◌, Bool, not, List, [], ◌∷◌, ◌++◌, map, reverse, Some, refl, sym, ◌∙◌, ap, subst, arith}
+use Rattle.spans.proofs.FeedFloors.{live_is}
+use Rattle.spans.proofs.Members.{all_of}
+use Rattle.spans.proofs.Common.{All-append, All-cons, All-head, All-nil, All-tail, common_steps, reverse-append}
+use Rattle.std.proofs.Common.{◌≡◌, Bool, List, [], ◌∷◌, ◌++◌, map, reverse, Some, refl, sym, ◌∙◌, ap, subst, arith}
 use Rattle.std.specs.Prelude.{All, nat_lt, if◌then◌else◌}
 use Rattle.spans.specs.declared.calls.events.Event.{Event}
-use Rattle.spans.specs.declared.kind.Kind.{Kind}
-use Rattle.spans.specs.declared.span.Span.{Span}
 use Rattle.spans.specs.declared.report.Limit.{Limit}
 use Rattle.spans.specs.declared.report.Report.{Report}
 use Rattle.spans.specs.declared.report.FeedReport.{FeedReport}
 use Rattle.spans.specs.declared.report.Holder.TheVariants as holders
-use Rattle.spans.specs.Effects.{Effect, Opens, Cancels, effects_of}
-use Rattle.spans.specs.Feeds.{Feed, feed_of, feeds_opened}
+use Rattle.spans.specs.Effects.{Effect, effects_of}
+use Rattle.spans.specs.Feeds.{Feed, feed_of}
 use Rattle.spans.specs.Collection.{Protection, LiveFeed, live_feeds, protections_of}
 use Rattle.spans.specs.Legal.{IsLegal}
 use Rattle.spans.specs.Report.{first_least, protection_limit, feed_limit, limit_of, protection_report, IsFeedReport, IsReport, told_protection, told_feed, limit_in}
 use Rattle.spans.proofs.Copies.{AllAllowed}
-use Rattle.spans.proofs.Feeding.{unopened}
 use Rattle.spans.proofs.Legal.{legal_allowed}
-use Rattle.spans.proofs.Steps.{by_test}
 
 -- a list was gone through after another
 pub first_least-append : (l : Limit) (ms ns : List Limit) → first_least l (ms ++ ns) ≡ first_least (first_least l ms) ns
@@ -33,18 +31,8 @@ All-reverse P (x ∷ xs) all = subst (All P) (sym (reverse-append (x ∷ []) xs)
 abbrev pub WasOpened : List Effect → LiveFeed → Type 0
 WasOpened p w = (feed : Feed) × (feed_of p w.number ≡ Some feed) × (feed.cursor ≡ w.cursor)
 
--- a number is given once
-opened_before : (p : List Effect) → AllAllowed p → (g seat : ℕ) (kind : Kind) (span : Span) (cursor : ℕ) → g ≡ suc (feeds_opened p) → (w : LiveFeed) → WasOpened p w → WasOpened (Opens g seat kind span cursor ∷ p) w
-opened_before p all g seat kind span cursor next w o = grind (arith, common_steps, by_test, unopened, eqb-true)
-
 pub lives_opened : (p : List Effect) → AllAllowed p → All (WasOpened p) (live_feeds p)
-lives_opened [] all = All-nil (WasOpened [])
-lives_opened (Opens g seat kind span cursor ∷ p) all =
-    let q = Opens g seat kind span cursor ∷ p in
-    All-cons (WasOpened q) (record { number = g; cursor = cursor }) (live_feeds p) (record { seat = seat; kind = kind; span = span; cursor = cursor }, rw (eq-eqb g g refl) refl, refl)
-    (All-weaker (WasOpened p) (WasOpened q) (λ w o. opened_before p all.1 g seat kind span cursor all.0.0 w o) (live_feeds p) (lives_opened p all.1))
-lives_opened (Cancels g ∷ p) all = All-filter (λ (n : LiveFeed). not (n.number == g)) (WasOpened p) (live_feeds p) (lives_opened p all.1)
-lives_opened (_ ∷ p) all = lives_opened p all.1
+lives_opened p all = all_of (WasOpened p) (live_feeds p) (λ w i. let l = live_is p all w.number w.cursor i in (l.0, l.1, l.3))
 
 -- the protections of a report hold as those of its history
 pub protection_limits : (ps : List Protection) → map told_protection (map protection_report ps) ≡ map protection_limit ps
@@ -61,11 +49,9 @@ feed_limits whole p [] [] e rs os = refl
 feed_limits whole p [] (w ∷ ws) e rs os = absurd cc
 feed_limits whole p (n ∷ ns) [] e rs os = absurd cc
 feed_limits whole p (n ∷ ns) (w ∷ ws) e rs os =
-    let same : n.number ≡ w.number = cc in
-    let rest : map (λ (n : FeedReport). n.number) ns ≡ map (λ (n : LiveFeed). n.number) ws = cc in
-    let here : told_feed n ≡ feed_limit p w = feed_holds whole p n w same (All-head (IsFeedReport whole p) n ns rs) (All-head (WasOpened p) w ws os) in
-    let more : map told_feed ns ≡ map (feed_limit p) ws = feed_limits whole p ns ws rest (All-tail (IsFeedReport whole p) n ns rs) (All-tail (WasOpened p) w ws os) in
-    ap (λ l. l ∷ map told_feed ns) here ∙ ap (λ l. feed_limit p w ∷ l) more
+    let here = feed_holds whole p n w (cc) (All-head (IsFeedReport whole p) n ns rs) (All-head (WasOpened p) w ws os) in
+    let more = feed_limits whole p ns ws (cc) (All-tail (IsFeedReport whole p) n ns rs) (All-tail (WasOpened p) w ws os) in
+    rw (here, more) refl
 
 -- the limit that is found in a report of a legal history
 pub report_limit : (h : List Event) → IsLegal h → (whole : Bool) (r : Report) → IsReport whole (effects_of h) r → limit_in r ≡ limit_of (effects_of h)

@@ -1,12 +1,12 @@
 -- Sets of std as lists: of timestamps, and of keys.
-use Rattle.spans.proofs.Common.{AllByRecursion, Equal, Greater, IsStrictlySortedBy, Less, Ordering, common_steps, is_eq-slice_cmp, key_cmp, list_any, match_ordering, nat_cmp, nat_tests, range_contains}
+use Rattle.spans.proofs.Common.{AllByRecursion, IsStrictlySortedBy, Less, Ordering, common_steps, is_eq-slice_cmp, key_cmp, list_any, nat_cmp, nat_tests, range_contains}
 use Rattle.std.proofs.Common.{List, ap, arith, refl, true, ℕ, ◌≡◌, ◌∷◌, [], Bool, ◌∙◌, ◌||◌, cond, false, ◌<◌, ◌==◌, length}
 use Rattle.std.specs.Prelude.{filter, nat_le, ◌↔◌, bytes_eq}
 use Rattle.std.specs.BTreeMap.{is_at}
 use Rattle.std.specs.BTreeSet as sets
 use Rattle.std.specs.declared.ops.Bound.TheVariants.{Included, Unbounded}
 use Rattle.spans.specs.Members.{AreDistinct, Has}
-use Rattle.spans.specs.Keys.{insert_key, insert_where}
+use Rattle.spans.specs.Keys.{insert_key}
 use Rattle.spans.proofs.Steps.{by_test}
 
 -- the range of all is the whole set
@@ -47,12 +47,7 @@ in_range to t = grind (arith, nat_tests)
 -- the set puts a key where the definitions do
 pub put_is : (x : List ℕ) (keys : List (List ℕ)) → sets.insert_key key_cmp keys x ≡ insert_key x keys
 put_is x [] = refl
-put_is x (y ∷ keys) = by_order (key_cmp x y) (put_is x keys)
-  where
-    by_order : (o : Ordering) → sets.insert_key key_cmp keys x ≡ insert_key x keys → match_ordering o (x ∷ y ∷ keys) (y ∷ keys) (y ∷ sets.insert_key key_cmp keys x) ≡ insert_where o x y keys (insert_key x keys)
-    by_order Less more = refl
-    by_order Equal more = refl
-    by_order Greater more = ap (λ l. y ∷ l) more
+put_is x (y ∷ keys) = grind (arith, common_steps, put_is x keys)
 
 -- a set that one key came to, or went from
 pub one_more : (x y : List ℕ) (b c : Bool) → c ≡ cond (is_at (key_cmp x) y) true b → c ≡ (bytes_eq x y || b)

@@ -1,7 +1,7 @@
 -- A stream rises strictly by timestamp and then by key.
 use Rattle.spans.proofs.Common.{Row, and_from, and_parts, common_steps, eq-eqb, eqb-true, false_from_ne_true, filter-append, list_any, lt-ltb, ltb-true, or_cases, or_left, or_right}
 use Rattle.std.proofs.Common.{rules}
-use Rattle.std.proofs.Common.{◌≡◌, ℕ, zero, suc, ◌<◌, ◌≤◌, ◌⊎◌, Bool, true, false, not, cond, ◌&&◌, List, [], ◌∷◌, ◌++◌, map, Option, Some, None, refl, sym, ◌∙◌, ap, subst, inl, inr, arith}
+use Rattle.std.proofs.Common.{◌≡◌, ℕ, zero, suc, ◌<◌, ◌≤◌, ◌⊎◌, Bool, true, false, not, cond, ◌&&◌, List, [], ◌∷◌, ◌++◌, map, Option, Some, None, refl, ap, inl, inr, arith}
 use Rattle.std.specs.Prelude.{◌↔◌, is_some, nat_lt, filter}
 use Rattle.spans.specs.declared.span.Span.{Span}
 use Rattle.spans.specs.Keys.{in_span}
@@ -42,11 +42,8 @@ rises_append (x ∷ xs) ys h k before = grind (arith, common_steps, in_append, r
 -- what rises rises in both parts, and the first is before the second
 pub rises_parts : (xs ys : List Row) → RisingRows (xs ++ ys) → RisingRows xs × RisingRows ys × ((r s : Row) → IsRowIn r xs → IsRowIn s ys → row_lt r s ≡ true)
 rises_parts [] ys h = (tt, h, λ r s i j. absurd i)
-rises_parts (x ∷ xs) ys h = let more = rises_parts xs ys h.1 in (
-  (λ s i. h.0 s ((in_append s xs ys).1 (inl i)), more.0),
-  more.1,
-  λ r s i j. elim i [ inl here ↦ subst (λ q. row_lt q s ≡ true) here (h.0 s ((in_append s xs ys).1 (inr j))) | inr there ↦ more.2 r s there j ],
-)
+rises_parts (x ∷ xs) ys h = let more = rises_parts xs ys h.1 in let at : (s : Row)
+    → IsRowIn s (xs ++ ys) ↔ (IsRowIn s xs ⊎ IsRowIn s ys) = λ s. in_append s xs ys in grind (arith, common_steps, at)
 
 abbrev row : List Effect → ℕ → List ℕ → Row
 row p t x = record { ts = t; key = x; after = written_value (write_of p t x) }
@@ -72,17 +69,10 @@ pub record IsStreamed (p : List Effect) (span : Span) (c n : ℕ) (r : Row) : Ty
   pub wrote : write_of p r.ts r.key ≡ Some r.after
 
 pub in_txn_rows : (p : List Effect) (span : Span) (t : ℕ) (r : Row) → IsRowIn r (rows_of p span t) ↔ ((r.ts ≡ t) × (in_span span r.key ≡ true) × (write_of p t r.key ≡ Some r.after))
-in_txn_rows p span t r = let m = in_rows p t r (filter (in_span span) (write_set p t)) in (
-  λ i. let k = m.0 i in let f = (filter_in (in_span span) r.key (write_set p t)).0 k.0 in
-      (sym (ap (λ (q : Row). q.ts) k.1), f.0, some_value (write_of p t r.key) r.after (sym (has_written p t r.key) ∙ (has_in r.key (write_set p t)).0 f.1) (ap (λ (q : Row). q.after) k.1)),
-  λ i. m.1 (
-    (filter_in (in_span span) r.key (write_set p t)).1 (i.1, (has_in r.key (write_set p t)).1 (has_written p t r.key ∙ ap is_some i.2)),
-    made r.ts t r.key r.after i.0 (ap written_value i.2),
-  ),
-)
-  where
-    made : (n t : ℕ) (x : List ℕ) (a : After) → n ≡ t → written_value (write_of p t x) ≡ a → row p t x ≡ record { ts = n; key = x; after = a }
-    made n t x a e h = rw (e, h) refl
+in_txn_rows p span t r =
+    let m = in_rows p t r (filter (in_span span) (write_set p t)) in let f = filter_in (in_span span) r.key (write_set p t) in
+    let w = has_written p t r.key in let h = has_in r.key (write_set p t) in
+    grind (arith, common_steps, some_value)
 
 pub in_stream : (p : List Effect) (span : Span) (c n : ℕ) (r : Row) → IsRowIn r (stream_of p span c n) ↔ IsStreamed p span c n r
 in_stream p span c zero r = (λ i. absurd i, λ s. absurd (omega (arith, s.above, s.low)))
@@ -90,16 +80,10 @@ in_stream p span c (suc t) r = grind (arith, common_steps, in_append, in_txn_row
 
 pub stream_rises : (p : List Effect) (span : Span) (c n : ℕ) → RisingRows (stream_of p span c n)
 stream_rises p span c zero = tt
-stream_rises p span c (suc t) = rises_append (stream_of p span c t) (cond (nat_lt c (suc t) && is_committed p (suc t)) (rows_of p span (suc t)) []) (stream_rises p span c t) (last (nat_lt c (suc t) && is_committed p (suc t)))
-    (λ r s i j. let l = ((in_stream p span c t r).0 i).low in let e : s.ts ≡ suc t = at (nat_lt c (suc t) && is_committed p (suc t)) s j in or_left _ _ (lt-ltb r.ts s.ts (omega arith)))
-  where
-    last : (b : Bool) → RisingRows (cond b (rows_of p span (suc t)) [])
-    last false = tt
-    last true = rows_rise p (suc t) (filter (in_span span) (write_set p (suc t))) (filter_rises (in_span span) (write_set p (suc t)) (write_set_rises p (suc t)))
-
-    at : (b : Bool) (s : Row) → IsRowIn s (cond b (rows_of p span (suc t)) []) → s.ts ≡ suc t
-    at false s i = absurd i
-    at true s i = ((in_txn_rows p span (suc t) s).0 i).0
+stream_rises p span c (suc t) =
+    let now = rows_rise p (suc t) (filter (in_span span) (write_set p (suc t))) (filter_rises (in_span span) (write_set p (suc t)) (write_set_rises p (suc t))) in
+    rises_append (stream_of p span c t) (cond (nat_lt c (suc t) && is_committed p (suc t)) (rows_of p span (suc t)) []) (stream_rises p span c t) (grind (arith, common_steps))
+    (λ r s i j. let l = ((in_stream p span c t r).0 i).low in let q = in_txn_rows p span (suc t) s in grind (arith, common_steps, or_left, lt-ltb))
 
 -- the row was told
 abbrev pub is_told : List Row → Row → Bool

@@ -1,9 +1,9 @@
 -- What a stream goes on with, and what of it stays.
-use Rattle.spans.proofs.Common.{Row, append-nil, common_steps, cond_both, eqb-true, nat_tests}
-use Rattle.std.proofs.Common.{◌≡◌, ℕ, zero, suc, ◌<◌, ◌≤◌, ◌==◌, false, cond, ◌&&◌, List, [], ◌∷◌, ◌++◌, map, refl, sym, ◌∙◌, ap, arith, append_assoc}
+use Rattle.spans.proofs.Common.{Row, append-nil, common_steps, eqb-true, nat_tests}
+use Rattle.std.proofs.Common.{Bool, true, ◌≡◌, ℕ, zero, suc, ◌<◌, ◌≤◌, ◌==◌, false, cond, ◌&&◌, List, [], ◌∷◌, ◌++◌, map, refl, sym, ◌∙◌, ap, arith, append_assoc}
 use Rattle.std.specs.Prelude.{nat_lt, filter}
 use Rattle.spans.specs.declared.span.Span.{Span}
-use Rattle.spans.specs.Effects.{Effect, Writes, Commits}
+use Rattle.spans.specs.Effects.{Effect}
 use Rattle.spans.specs.Transactions.{closed_of, is_committed}
 use Rattle.spans.specs.Versions.{write_of, write_set}
 use Rattle.spans.specs.Keys.{in_span}
@@ -14,22 +14,11 @@ use Rattle.spans.proofs.Copies.{Allowed}
 -- what is closed stays, in the stream too
 pub rows_stay : (p : List Effect) (d : Effect) → Allowed p d → (span : Span) (c i : ℕ) → i ≤ closed_of p
     → cond (nat_lt c i && is_committed (d ∷ p) i) (rows_of (d ∷ p) span i) [] ≡ cond (nat_lt c i && is_committed p i) (rows_of p span i) []
-rows_stay p (Writes t y a) allowed span c i low = grind (arith, common_steps)
-rows_stay p (Commits t) allowed span c i low = grind (arith, common_steps)
-rows_stay p (_) allowed span c i low = refl
+rows_stay p (_) allowed span c i low = grind (arith, common_steps)
 
 pub stream_stays : (p : List Effect) (d : Effect) → Allowed p d → (span : Span) (c n : ℕ) → n ≤ closed_of p → stream_of (d ∷ p) span c n ≡ stream_of p span c n
 stream_stays p d allowed span c zero low = refl
 stream_stays p d allowed span c (suc t) low = rw (stream_stays p d allowed span c t (omega arith), rows_stay p d allowed span c (suc t) low) refl
-
--- a longer stream goes on from a shorter
-pub stream_goes_on : (p : List Effect) (span : Span) (c m n : ℕ) → m ≤ n → (rest : List Row) × (stream_of p span c n ≡ stream_of p span c m ++ rest)
-stream_goes_on p span c m zero low = let e : m ≡ 0 = omega arith in ([], rw e refl)
-stream_goes_on p span c m (suc n) low =
-    let shorter : (m ≤ n → (rest : List Row) × (stream_of p span c n ≡ stream_of p span c m ++ rest)) = stream_goes_on p span c m n in
-    by_test (m == suc n)
-    (λ same. ([], rw (eqb-true m (suc n) same) (sym (append-nil _))))
-    (λ other. let before = shorter (grind (arith, nat_tests)) in (before.0 ++ cond (nat_lt c (suc n) && is_committed p (suc n)) (rows_of p span (suc n)) [], ap (λ l. l ++ cond (nat_lt c (suc n) && is_committed p (suc n)) (rows_of p span (suc n)) []) before.1 ∙ append_assoc (stream_of p span c m) before.0 (cond (nat_lt c (suc n) && is_committed p (suc n)) (rows_of p span (suc n)) [])))
 
 -- nothing streams at or below the cursor
 pub stream_none : (p : List Effect) (span : Span) (c n : ℕ) → n ≤ c → stream_of p span c n ≡ []
@@ -49,17 +38,13 @@ above_join t (r ∷ rs) ss h k = (h.0, above_join t rs ss h.1 k)
 -- the rows that a stream goes on with are above where it stood
 pub stream_above : (p : List Effect) (span : Span) (c m n : ℕ) → m ≤ n → (rest : List Row) × (stream_of p span c n ≡ stream_of p span c m ++ rest) × RowsAbove m rest
 stream_above p span c m zero low = let e : m ≡ 0 = omega arith in ([], rw e refl, tt)
-stream_above p span c m (suc n) low =
-    let shorter : (m ≤ n → (rest : List Row) × (stream_of p span c n ≡ stream_of p span c m ++ rest) × RowsAbove m rest) = stream_above p span c m n in
-    by_test (m == suc n)
-    (λ same. ([], rw (eqb-true m (suc n) same) (sym (append-nil _)), tt))
-    (λ other. let before = shorter (grind (arith, nat_tests)) in (
-      before.0 ++ cond (nat_lt c (suc n) && is_committed p (suc n)) (rows_of p span (suc n)) [],
-      ap (λ l. l ++ cond (nat_lt c (suc n) && is_committed p (suc n)) (rows_of p span (suc n)) []) before.1 ∙ append_assoc (stream_of p span c m) before.0 (cond (nat_lt c (suc n) && is_committed p (suc n)) (rows_of p span (suc n)) []),
-      above_join m before.0 (cond (nat_lt c (suc n) && is_committed p (suc n)) (rows_of p span (suc n)) []) before.2
-          (cond_both (nat_lt c (suc n) && is_committed p (suc n)) (rows_of p span (suc n)) [] (RowsAbove m) (λ _. rows_above (filter (in_span span) (write_set p (suc n))) (grind (arith, nat_tests))) (λ _. tt)),
-    ))
+stream_above p span c m (suc n) low = by_test (m == suc n) (λ same. ([], rw (eqb-true m (suc n) same) (sym (append-nil _)), tt)) (λ other.
+    let before = stream_above p span c m n (grind (arith, nat_tests)) in
+    let last : List Row = cond (nat_lt c (suc n) && is_committed p (suc n)) (rows_of p span (suc n)) [] in
+    (before.0 ++ last, ap (λ l. l ++ last) before.1 ∙ append_assoc (stream_of p span c m) before.0 last, above_join m before.0 last before.2 (above_all (nat_lt c (suc n) && is_committed p (suc n)) (filter (in_span span) (write_set p (suc n))) (grind (arith, nat_tests)))))
   where
-    rows_above : (keys : List (List ℕ)) → m < suc n → RowsAbove m (map (λ x. record { ts = suc n; key = x; after = written_value (write_of p (suc n) x) }) keys)
-    rows_above [] above = tt
-    rows_above (x ∷ xs) above = (above, rows_above xs above)
+    above_all : (b : Bool) (keys : List (List ℕ)) → m < suc n
+        → RowsAbove m (cond b (map (λ x. record { ts = suc n; key = x; after = written_value (write_of p (suc n) x) }) keys) [])
+    above_all false keys above = tt
+    above_all true [] above = tt
+    above_all true (x ∷ xs) above = (above, above_all true xs above)

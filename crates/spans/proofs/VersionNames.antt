@@ -1,18 +1,17 @@
 -- The versions of a history, by their names.
 use Rattle.std.proofs.lemmas.Grind.{common_steps}
 use Rattle.std.proofs.Common.{arith}
-use Rattle.std.proofs.Common.{Bool, List, not, inr, refl, None, Option, subst, false, ap, true, Some, inl, sym, cond, map, ◌≡◌, ◌∷◌, ◌∙◌, ℕ, []}
+use Rattle.std.proofs.Common.{List, not, subst, true, sym, map, ◌≡◌, ◌∷◌, ℕ, []}
 use Rattle.std.specs.Prelude.{filter, flat_map, is_some, ◌↔◌}
 use Rattle.spans.specs.Collection.{VersionName, versions_of, version_name}
-use Rattle.spans.specs.Effects.{After, Effect}
+use Rattle.spans.specs.Effects.{Effect}
 use Rattle.spans.specs.Transactions.{is_aborted, begun_of}
-use Rattle.spans.specs.Versions.{version_of, write_of, write_set}
+use Rattle.spans.specs.Versions.{version_of, write_set}
 use Rattle.spans.proofs.Copies.{AllAllowed}
 use Rattle.spans.proofs.Open.{begun_among}
-use Rattle.spans.proofs.Steps.{version_wrote}
 use Rattle.spans.proofs.WriteSets.{write_set_rises, has_written, has_in}
 use Rattle.spans.proofs.Closed.{wrote_begun}
-use Rattle.spans.proofs.Members.{Has, AreDistinct, has_is, distinct_append, in_has, begun_distinct, distinct_filter, among_has, rising_distinct, has_filter, has_append}
+use Rattle.spans.proofs.Members.{Has, AreDistinct, distinct_append, begun_distinct, distinct_filter, rising_distinct, has_filter, has_append}
 
 -- the version of x that t made
 abbrev named : ℕ → List ℕ → VersionName
@@ -21,13 +20,7 @@ named t x = version_name x t
 -- it is listed for t exactly where its key is among the keys
 has_named : (t : ℕ) (v : VersionName) (ks : List (List ℕ)) → Has v (map (named t) ks) ↔ ((t ≡ v.ts) × Has v.key ks)
 has_named t v [] = (λ i. absurd i, λ i. absurd i.1)
-has_named t v (x ∷ xs) = let more = has_named t v xs in (
-  λ i. elim i [ inl here ↦ (ap (λ (v : VersionName). v.ts) here, inl (ap (λ (v : VersionName). v.key) here)) | inr there ↦ (let m = more.0 there in (m.0, inr m.1)) ],
-  λ i. elim i.1 [ inl here ↦ inl (joined t v.ts x v.key i.0 here) | inr there ↦ inr (more.1 (i.0, there)) ],
-)
-  where
-    joined : (t n : ℕ) (x y : List ℕ) → t ≡ n → x ≡ y → named t x ≡ named n y
-    joined t n x y e h = rw (e, h) refl
+has_named t v (x ∷ xs) = grind (arith, common_steps, has_named t v xs)
 
 -- distinct keys give distinct versions
 distinct_named : (t : ℕ) (ks : List (List ℕ)) → AreDistinct ks → AreDistinct (map (named t) ks)
@@ -61,20 +54,8 @@ pub has_versions : (p : List Effect) → AllAllowed p → (v : VersionName) → 
 has_versions p all v =
     let m = has_of p v (filter (λ t. not (is_aborted p t)) (begun_of p)) in
     let f = has_filter (λ t. not (is_aborted p t)) v.ts (begun_of p) in
-    let w = has_written p v.ts v.key in (
-      λ i. let h = m.0 i in step (is_aborted p v.ts) (write_of p v.ts v.key) (f.0 h.0).0 (sym w ∙ (has_in v.key (write_set p v.ts)).0 (has_is v.key (write_set p v.ts) h.1)),
-      λ is. by_version (version_of p v.key v.ts) refl is,
-    )
-  where
-    step : (b : Bool) (o : Option After) → not b ≡ true → is_some o ≡ true → is_some (cond b None o) ≡ true
-    step true o e h = cc
-    step false o e h = h
-
-    by_version : (o : Option After) → version_of p v.key v.ts ≡ o → is_some o ≡ true → Has v (versions_of p)
-    by_version None e is = cc
-    by_version (Some a) e is =
-        let wrote = version_wrote p v.key v.ts a e in
-        (has_of p v (filter (λ t. not (is_aborted p t)) (begun_of p))).1 (
-          (has_filter (λ t. not (is_aborted p t)) v.ts (begun_of p)).1 (ap not wrote.0, among_has v.ts (begun_of p) (begun_among p v.ts (wrote_begun p all v.ts v.key a wrote.1))),
-          in_has v.key (write_set p v.ts) ((has_in v.key (write_set p v.ts)).1 (has_written p v.ts v.key ∙ ap is_some wrote.1)),
-        )
+    let w = has_written p v.ts v.key in
+    let k = has_in v.key (write_set p v.ts) in
+    let b = begun_among p v.ts in
+    let o = wrote_begun p all v.ts v.key in
+    (λ i. grind (arith, common_steps), λ is. m.1 (grind (arith, common_steps, o, b), grind (arith, common_steps)))

@@ -1,6 +1,6 @@
 -- A consumer has the map at each resolved timestamp.
 use Rattle.spans.proofs.Common.{Row, append-nil, common_steps, ltb-true, nat_tests}
-use Rattle.std.proofs.Common.{◌≡◌, ℕ, zero, suc, ◌<◌, ◌≤◌, Bool, true, false, cond, ◌&&◌, ◌||◌, List, [], ◌∷◌, ◌++◌, map, Option, Some, None, refl, sym, ◌∙◌, ap, arith, append_assoc}
+use Rattle.std.proofs.Common.{◌≡◌, ℕ, zero, suc, ◌<◌, ◌≤◌, cond, ◌&&◌, List, [], ◌∷◌, ◌++◌, map, Some, None, refl, sym, ◌∙◌, ap, arith, append_assoc}
 use Rattle.std.specs.Prelude.{is_some, bytes_eq, nat_lt, filter}
 use Rattle.spans.specs.declared.span.Span.{Span}
 use Rattle.spans.specs.declared.calls.messages.Message.{Message}
@@ -8,15 +8,15 @@ use Rattle.spans.specs.declared.calls.messages.Message.TheVariants as messages
 use Rattle.spans.specs.declared.kind.Kind.{Kind}
 use Rattle.spans.specs.Effects.{After, Effect}
 use Rattle.spans.specs.Transactions.{is_committed}
-use Rattle.spans.specs.Versions.{write_of, write_set, written_keys}
-use Rattle.spans.specs.Keys.{in_span, pairs_of, with_value}
-use Rattle.spans.specs.Serial.{Map, put, serial_run, map_at, span_part}
+use Rattle.spans.specs.Versions.{write_of, write_set}
+use Rattle.spans.specs.Keys.{in_span, pairs_of}
+use Rattle.spans.specs.Serial.{Map, put, map_at, span_part}
 use Rattle.spans.specs.Feeds.{Feed, told_to, rows_in, first_rows, list_of, start_of}
 use Rattle.spans.specs.Streams.{rows_of, written_value, stream_of, pair_row}
 use Rattle.spans.specs.FeedRight.{DividesList}
 use Rattle.spans.proofs.Feeding.{ResolvedRise}
 use Rattle.spans.specs.Consumer.{view_of, seed_of}
-use Rattle.spans.proofs.Steps.{by_test, same_key, or_else, after_is}
+use Rattle.spans.proofs.Steps.{by_test, same_key, after_is}
 use Rattle.spans.proofs.WriteSets.{has, has_in, has_written, has_filtered}
 use Rattle.spans.proofs.Streaming.{stream_none}
 use Rattle.spans.proofs.Listing.{start_next, part_in}
@@ -39,37 +39,22 @@ by_rows_join m (r ∷ rs) ss = by_rows_join (put m r.key r.after) rs ss
 pub by_keys : (f : List ℕ → After) (t : ℕ) (m : Map) (keys : List (List ℕ)) (x : List ℕ)
     → by_rows m (map (λ y. record { ts = t; key = y; after = f y }) keys) x ≡ cond (has x keys) (f x) (m x)
 by_keys f t m [] x = refl
-by_keys f t m (y ∷ ys) x = by_keys f t (put m y (f y)) ys x ∙ by_test (bytes_eq y x)
-    (λ here. rw here (ap (λ z. cond (has x ys) (f x) (f z)) (same_key y x here) ∙ alike (has x ys) (f x)))
-    (λ there. rw there refl)
-  where
-    alike : (b : Bool) (v : After) → cond b v v ≡ v
-    alike true v = refl
-    alike false v = refl
+by_keys f t m (y ∷ ys) x = grind (arith, common_steps, same_key, by_keys f t (put m y (f y)) ys x)
+
+txn_rows : (p : List Effect) (span : Span) (t : ℕ) (m : Map) (x : List ℕ)
+    → by_rows m (rows_of p span t) x ≡ cond (in_span span x && is_some (write_of p t x)) (written_value (write_of p t x)) (m x)
+txn_rows p span t m x = let rows = by_keys (λ y. written_value (write_of p t y)) t m (filter (in_span span) (write_set p t)) x in
+    grind (arith, common_steps, has_filtered, has_written)
 
 -- the stream leads from map to map
 pub streamed : (p : List Effect) (span : Span) (c t : ℕ) (x : List ℕ) → c ≤ t → by_rows (span_part span (map_at p c)) (stream_of p span c t) x ≡ span_part span (map_at p t) x
 streamed p span c zero x low = let e : c ≡ 0 = omega arith in rw e refl
-streamed p span c (suc t) x low =
-    let shorter : (c ≤ t → by_rows (span_part span (map_at p c)) (stream_of p span c t) x ≡ span_part span (map_at p t) x) = streamed p span c t x in
-    by_test (nat_lt c (suc t))
-    (λ is. let before = shorter (let l = ltb-true c (suc t) is in omega arith) in
-    rw is (ap (λ m. m x) (by_rows_join (span_part span (map_at p c)) (stream_of p span c t) (cond (is_committed p (suc t)) (rows_of p span (suc t)) []))
-    ∙ with_txn (is_committed p (suc t)) (by_rows (span_part span (map_at p c)) (stream_of p span c t)) before))
-    (λ isnt. let e : c ≡ suc t = grind (arith, nat_tests) in
-    rw (stream_none p span c (suc t) (omega arith), e) refl)
-  where
-    by_write : (o : Option After) (b : Bool) (now then : After) → now ≡ cond b then None → cond (b && is_some o) (written_value o) now ≡ cond b (or_else o then) None
-    by_write None true now then e = e
-    by_write (Some a) true now then e = refl
-    by_write o false now then e = e
-
-    with_txn : (b : Bool) (m : Map) → m x ≡ span_part span (map_at p t) x → by_rows m (cond b (rows_of p span (suc t)) []) x ≡ span_part span (cond b (serial_run p (suc t) (map_at p t)) (map_at p t)) x
-    with_txn false m e = e
-    with_txn true m e = by_keys (λ y. written_value (write_of p (suc t) y)) (suc t) m (filter (in_span span) (write_set p (suc t))) x
-        ∙ ap (λ b. cond b (written_value (write_of p (suc t) x)) (m x)) (has_filtered (in_span span) x (write_set p (suc t)) ∙ ap (λ b. in_span span x && b) (has_written p (suc t) x))
-        ∙ by_write (write_of p (suc t) x) (in_span span x) (m x) (map_at p t x) e
-        ∙ ap (λ v. cond (in_span span x) v None) (sym (after_is p (suc t) (map_at p t) x))
+streamed p span c (suc t) x low = by_test (nat_lt c (suc t))
+    (λ is. let before = streamed p span c t x (let l = ltb-true c (suc t) is in omega arith) in
+    let now = txn_rows p span (suc t) (by_rows (span_part span (map_at p c)) (stream_of p span c t)) x in
+    let ran = after_is p (suc t) (map_at p t) x in
+    rw is (ap (λ n. n x) (by_rows_join (span_part span (map_at p c)) (stream_of p span c t) (cond (is_committed p (suc t)) (rows_of p span (suc t)) [])) ∙ grind (arith, common_steps)))
+    (λ isnt. let e : c ≡ suc t = grind (arith, nat_tests) in rw (stream_none p span c (suc t) (omega arith), e) refl)
 
 pub divides_at : (p : List Effect) (feed : Feed) (acc : List Row) (before rest : List Message) (t : ℕ) → DividesList p feed acc (before ++ messages.Resolved t ∷ rest) → acc ++ rows_in before ≡ list_of p feed t
 divides_at p feed acc [] rest t h = append-nil acc ∙ h.0
@@ -94,34 +79,13 @@ value_or (Some v) w = Some v
 -- the rows of some keys, each with its value in a map, give that map at those keys
 by_pairs : (m f : Map) (t : ℕ) (keys : List (List ℕ)) (x : List ℕ) → by_rows m (map (pair_row t) (pairs_of f keys)) x ≡ cond (has x keys) (value_or (f x) (m x)) (m x)
 by_pairs m f t [] x = refl
-by_pairs m f t (y ∷ ys) x = by_value (f y) refl (λ n. by_pairs n f t ys x)
-  where
-    same : (b : Bool) (v : After) → cond b v v ≡ v
-    same true v = refl
-    same false v = refl
-
-    by_value : (o : After) → f y ≡ o → ((n : Map) → by_rows n (map (pair_row t) (pairs_of f ys)) x ≡ cond (has x ys) (value_or (f x) (n x)) (n x))
-        → by_rows m (map (pair_row t) (with_value y o (pairs_of f ys))) x ≡ cond (bytes_eq y x || has x ys) (value_or (f x) (m x)) (m x)
-    by_value None e more = more m ∙ by_test (bytes_eq y x)
-        (λ here. let none : f x ≡ None = ap f (sym (same_key y x here)) ∙ e in rw (here, none) (same (has x ys) (m x)))
-        (λ there. rw there refl)
-    by_value (Some v) e more = more (put m y (Some v)) ∙ by_test (bytes_eq y x)
-        (λ here. let some : f x ≡ Some v = ap f (sym (same_key y x here)) ∙ e in rw (here, some) (same (has x ys) (Some v)))
-        (λ there. rw there refl)
+by_pairs m f t (y ∷ ys) x = let more : (n : Map)
+    → by_rows n (map (pair_row t) (pairs_of f ys)) x ≡ cond (has x ys) (value_or (f x) (n x)) (n x) = λ n. by_pairs n f t ys x in
+    grind (arith, common_steps, same_key, more)
 
 -- what a feed tells first leads from the consumer's seed to the map at the cursor
 seeded : (kind : Kind) (p : List Effect) (span : Span) (c : ℕ) (x : List ℕ) → by_rows (seed_of kind p span c) (first_rows kind p span c) x ≡ span_part span (map_at p c) x
-seeded kind p span c x = by_test kind.initial
-    (λ is. rw is (by_pairs (λ y. None) (span_part span (map_at p c)) c (written_keys p) x ∙ by_value (span_part span (map_at p c) x) refl))
-    (λ isnt. rw isnt refl)
-  where
-    by_value : (o : After) → span_part span (map_at p c) x ≡ o → cond (has x (written_keys p)) (value_or o None) None ≡ o
-    by_value None e = none (has x (written_keys p))
-      where
-        none : (b : Bool) → cond b (value_or None None) None ≡ None
-        none true = refl
-        none false = refl
-    by_value (Some v) e = let here : has x (written_keys p) ≡ true = (has_in x (written_keys p)).0 (part_in p span c x v e) in rw here refl
+seeded kind p span c x = grind (arith, common_steps, by_pairs, has_in, part_in)
 
 -- the list leads from the consumer's seed to the map
 pub list_views : (p : List Effect) (feed : Feed) (t : ℕ) (x : List ℕ) → feed.cursor ≤ t → by_rows (seed_of feed.kind p feed.span feed.cursor) (list_of p feed t) x ≡ span_part feed.span (map_at p t) x

@@ -1,10 +1,10 @@
 -- Which keys are among those that a transaction wrote.
-use Rattle.spans.proofs.Common.{Equal, Greater, Less, Ordering, and-false, common_steps, exact_bytes, key_cmp, list_any, or_cases, or_left, or_right}
+use Rattle.spans.proofs.Common.{Equal, and-false, common_steps, exact_bytes, key_cmp, list_any, or_cases, or_left, or_right}
 use Rattle.std.proofs.Common.{arith}
-use Rattle.std.proofs.Common.{◌≡◌, ℕ, Bool, true, false, ◌&&◌, ◌||◌, List, [], ◌∷◌, refl, sym, ◌∙◌, ap}
+use Rattle.std.proofs.Common.{◌≡◌, ℕ, Bool, true, ◌&&◌, ◌||◌, List, [], ◌∷◌, refl, sym}
 use Rattle.std.specs.Prelude.{◌↔◌, is_some, bytes_eq, filter}
-use Rattle.spans.specs.Effects.{Effect, Writes}
-use Rattle.spans.specs.Keys.{insert_where, insert_key}
+use Rattle.spans.specs.Effects.{Effect}
+use Rattle.spans.specs.Keys.{insert_key}
 use Rattle.spans.specs.Versions.{write_of, write_set}
 use Rattle.spans.proofs.Steps.{by_test, same_key, key_itself}
 use Rattle.spans.proofs.Keyed.{IsIn, RisingKeys, add_rises}
@@ -15,26 +15,11 @@ has x keys = list_any (λ y. bytes_eq y x) keys
 
 pub has_added : (x y : List ℕ) (keys : List (List ℕ)) → has x (insert_key y keys) ≡ (bytes_eq y x || has x keys)
 has_added x y [] = refl
-has_added x y (z ∷ zs) = by_order (key_cmp y z) refl (has_added x y zs)
-  where
-    twice : (a b : Bool) → (a || b) ≡ (a || (a || b))
-    twice true b = refl
-    twice false b = refl
-
-    swap : (a b c : Bool) → (a || (b || c)) ≡ (b || (a || c))
-    swap true true c = refl
-    swap true false c = refl
-    swap false b c = refl
-
-    by_order : (o : Ordering) → key_cmp y z ≡ o → has x (insert_key y zs) ≡ (bytes_eq y x || has x zs) → has x (insert_where o y z zs (insert_key y zs)) ≡ (bytes_eq y x || has x (z ∷ zs))
-    by_order Less e more = refl
-    by_order Equal e more = twice (bytes_eq z x) (has x zs) ∙ ap (λ k. bytes_eq k x || has x (z ∷ zs)) (sym (exact_bytes y z e))
-    by_order Greater e more = ap (λ b. bytes_eq z x || b) more ∙ swap (bytes_eq z x) (bytes_eq y x) (has x zs)
+has_added x y (z ∷ zs) = let same : key_cmp y z ≡ Equal → y ≡ z = exact_bytes y z in grind (arith, common_steps, has_added x y zs)
 
 pub has_written : (p : List Effect) (t : ℕ) (x : List ℕ) → has x (write_set p t) ≡ is_some (write_of p t x)
 has_written [] t x = refl
-has_written (Writes k y a ∷ p) t x = grind (arith, common_steps, by_test, has_added, has_written p t x)
-has_written (_ ∷ p) t x = has_written p t x
+has_written (_ ∷ p) t x = grind (arith, common_steps, has_added, has_written p t x)
 
 pub has_filtered : (q : List ℕ → Bool) (x : List ℕ) (keys : List (List ℕ)) → has x (filter q keys) ≡ (q x && has x keys)
 has_filtered q x [] = sym (and-false (q x))
@@ -46,5 +31,4 @@ has_in x (y ∷ ys) = grind (arith, common_steps, or_left, key_itself, or_right,
 
 pub write_set_rises : (p : List Effect) (t : ℕ) → RisingKeys (write_set p t)
 write_set_rises [] t = tt
-write_set_rises (Writes k x a ∷ p) t = grind (arith, common_steps, by_test, add_rises, write_set_rises p t)
-write_set_rises (_ ∷ p) t = write_set_rises p t
+write_set_rises (_ ∷ p) t = grind (arith, common_steps, add_rises, write_set_rises p t)

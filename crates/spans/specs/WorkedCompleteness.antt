@@ -1,15 +1,12 @@
 -- Worked examples of how far a consumer is complete, each computed from the definitions.
 use Rattle.std.specs.Prelude.{◌≡◌, ℕ, List, [], ◌∷◌, Option, Some, None, refl}
-use Rattle.spans.specs.declared.span.Span.{Span}
 use Rattle.spans.specs.declared.calls.messages.Message.{Message}
 use Rattle.spans.specs.declared.calls.messages.Message.TheVariants as messages
 use Rattle.spans.specs.Completeness.{complete_after, ready_after}
+use Rattle.spans.specs.WorkedHistories.{whole}
 
 abbrev told_row : ℕ → ℕ → Message
 told_row t x = messages.Row (record { ts = t; key = x ∷ []; after = None })
-
-abbrev whole : Span
-whole = record { lo = None; hi = None }
 
 -- a feed of cursor 5: at its cursor at first, just below the row that came last, and at what was resolved last
 abbrev through : List Message → Option ℕ

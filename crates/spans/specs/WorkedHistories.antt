@@ -18,19 +18,19 @@ abbrev pub replies_to : List Effect → List (ℕ × Cmd) → List Reply
 replies_to p [] = []
 replies_to p (call ∷ calls) = let r = answer_of p call.0 call.1 in r ∷ replies_to (effect call.0 call.1 r ∷ p) calls
 
-abbrev a : List ℕ
+abbrev pub a : List ℕ
 a = 97 ∷ []
 
-abbrev b : List ℕ
+abbrev pub b : List ℕ
 b = 98 ∷ []
 
-abbrev c : List ℕ
+abbrev pub c : List ℕ
 c = 99 ∷ []
 
-abbrev one : List ℕ
+abbrev pub one : List ℕ
 one = 49 ∷ []
 
-abbrev two : List ℕ
+abbrev pub two : List ℕ
 two = 50 ∷ []
 
 abbrev three : List ℕ
@@ -39,7 +39,7 @@ three = 51 ∷ []
 abbrev four : List ℕ
 four = 52 ∷ []
 
-abbrev whole : Span
+abbrev pub whole : Span
 whole = record { lo = None; hi = None }
 
 -- a row as a feed tells it

@@ -1,31 +1,15 @@
 -- Worked examples of what the guide promises, each computed from the definitions.
-use Rattle.std.specs.Prelude.{◌≡◌, ℕ, List, [], ◌∷◌, length, Some, None, refl}
+use Rattle.std.specs.Prelude.{◌≡◌, List, [], ◌∷◌, length, Some, None, refl}
 use Rattle.spans.specs.declared.calls.commands.Cmd.TheVariants.{Begin, Get, Scan, Put, Del, Commit, Abort, Close, CloseHard, Protect, Release, Collect, Open, Cancel, Stats}
 use Rattle.spans.specs.declared.calls.replies.Reply.TheVariants.{Started, Found, Rows, Written, Aborted, Closed, Protected, Released, Collected, Opened, Cancelled}
 use Rattle.spans.specs.declared.calls.replies.Reply.TheVariants as replies
-use Rattle.spans.specs.declared.span.Span.{Span}
 use Rattle.spans.specs.Effects.{Effect}
 use Rattle.spans.specs.Newest.{newest, version_at}
 use Rattle.spans.specs.Versions.{committed_version_of}
 use Rattle.spans.specs.Collection.{horizon_of, versions_of, dead_of}
 use Rattle.spans.specs.Promises.{Stands, left_version_of, left_versions}
-use Rattle.spans.specs.WorkedHistories.{replies_to}
+use Rattle.spans.specs.WorkedHistories.{replies_to, a, b, one, two, whole}
 use Rattle.spans.specs.WorkedReports.{after}
-
-abbrev a : List ℕ
-a = 97 ∷ []
-
-abbrev b : List ℕ
-b = 98 ∷ []
-
-abbrev one : List ℕ
-one = 49 ∷ []
-
-abbrev two : List ℕ
-two = 50 ∷ []
-
-abbrev whole : Span
-whole = record { lo = None; hi = None }
 
 -- a transaction reads and scans what it wrote last, a delete too, and aborts after that
 pub own_writes : replies_to [] ((0, Begin 10) ∷ (0, Put 10 a one) ∷ (0, Put 10 a two) ∷ (0, Get 10 a) ∷ (0, Scan 10 whole) ∷ (0, Del 10 a) ∷ (0, Get 10 a) ∷ (0, Scan 10 whole) ∷ (0, Abort 10) ∷ [])

@@ -4,32 +4,17 @@ use Rattle.std.specs.Prelude.{◌≡◌, ℕ, List, [], ◌∷◌, Some, None, r
 use Rattle.spans.specs.declared.calls.commands.Cmd.{Cmd}
 use Rattle.spans.specs.declared.calls.commands.Cmd.TheVariants.{Begin, Put, Del, Commit, Close, CloseHard, Protect, Release, Collect, Open, OpenInitial, OpenEvery, Poll, Cancel}
 use Rattle.spans.specs.declared.report.Holder.TheVariants.{Closed, Protection, Feed}
-use Rattle.spans.specs.declared.span.Span.{Span}
 use Rattle.spans.specs.Effects.{Effect, effect}
 use Rattle.spans.specs.Answer.{answer_of}
 use Rattle.spans.specs.Feeds.{told_to}
 use Rattle.spans.specs.Completeness.{complete_after}
 use Rattle.spans.specs.Report.{limit, limit_of, removable_of}
+use Rattle.spans.specs.WorkedHistories.{a, b, c, one, whole}
 
 -- what calls of seats did, after the effects p
 abbrev pub after : List Effect → List (ℕ × Cmd) → List Effect
 after p [] = p
 after p (call ∷ calls) = after (effect call.0 call.1 (answer_of p call.0 call.1) ∷ p) calls
-
-abbrev a : List ℕ
-a = 97 ∷ []
-
-abbrev b : List ℕ
-b = 98 ∷ []
-
-abbrev c : List ℕ
-c = 99 ∷ []
-
-abbrev one : List ℕ
-one = 49 ∷ []
-
-abbrev whole : Span
-whole = record { lo = None; hi = None }
 
 -- a feed that lags: a row of 10 was told, so it is complete through 9, and holds there
 abbrev lagging : List Effect

@@ -1,8 +1,7 @@
 -- What the steps of a draw and of a meeting leave.
-use Rattle.std.proofs.Common.{◌≡◌, ℕ, ◌<◌, ◌≢◌, List, [], sym, ap, ◌∙◌, subst}
+use Rattle.std.proofs.lemmas.Grind.{common_steps}
+use Rattle.std.proofs.Common.{arith, ◌≡◌, ℕ, ◌<◌, ◌≢◌, List, [], sym, ap, ◌∙◌, subst}
 use Rattle.timestamps.proofs.Common.{All, IsStrictlyIncreasing, flat_map}
-use mathlib.Core.Logic.{dite}
-use native.Mathlib.Decide.{ℕ_discrete}
 use Rattle.timestamps.specs.Blocks.{Sat, loads, draws, only_drawn, borrowing, without_lent, only_lent, taking_back}
 use Rattle.timestamps.specs.Numbers.{timestamps_of, AreApart}
 use Rattle.timestamps.proofs.Numbers.{apart_above, rises_on}
@@ -10,11 +9,7 @@ use Rattle.timestamps.proofs.Numbers.{apart_above, rises_on}
 -- after the compare-exchange, whatever it found
 pub rests : (n found : ℕ) (m m1 m2 : Sat) → m1 ≡ (loads m.0 n, m.1) → (found ≡ n → (m2 ≡ (draws m1.0 found, m1.1)) × All (λ b. b < found) m1.0.drawn) → (found ≢ n → m2 ≡ (loads m1.0 found, m1.1)) → m.0.lent ≡ [] → IsStrictlyIncreasing m.0.drawn
     → record { nothing_lent : m2.0.lent ≡ []; rising : IsStrictlyIncreasing m2.0.drawn }
-rests n found m m1 m2 loaded hit miss alone rising = let lent1 : m1.0.lent ≡ [] = ap (λ (z : Sat). z.0.lent) loaded ∙ alone in
-    let rising1 : IsStrictlyIncreasing m1.0.drawn = subst IsStrictlyIncreasing (sym (ap (λ (z : Sat). z.0.drawn) loaded)) rising in
-    dite (ℕ_discrete found n)
-    (λ e. let h = hit e in record { nothing_lent = ap (λ (z : Sat). z.0.lent) h.0 ∙ lent1; rising = subst IsStrictlyIncreasing (sym (ap (λ (z : Sat). z.0.drawn) h.0)) (rises_on m1.0.drawn found rising1 h.1) })
-    (λ ne. record { nothing_lent = ap (λ (z : Sat). z.0.lent) (miss ne) ∙ lent1; rising = subst IsStrictlyIncreasing (sym (ap (λ (z : Sat). z.0.drawn) (miss ne))) rising1 })
+rests n found m m1 m2 loaded hit miss alone rising = grind (arith, common_steps, rises_on)
 
 -- the lease of the block that was found has no timestamp of those before
 pub fresh_lease : (n found : ℕ) (lease : List ℕ) (m m1 m2 : Sat) → m1 ≡ (loads m.0 n, m.1) → (found ≡ n → (m2 ≡ (draws m1.0 found, m1.1)) × All (λ b. b < found) m1.0.drawn) → found ≡ n → lease ≡ timestamps_of n → AreApart (flat_map timestamps_of m.0.drawn) lease

@@ -1,7 +1,9 @@
 -- What the words of some bytes are, and how they decide the order of two lists.
-use Rattle.std.proofs.Common.{ℕ, zero, suc, List, [], ◌∷◌, ◌≡◌, ◌<◌, ◌≤◌, ◌⊎◌, inl, inr, ◌+◌, ◌*◌, refl, sym, ap, ◌∙◌, arith, get_or, take, drop, nat_cmp, subst}
+use Rattle.std.proofs.lemmas.Bool.Decides.{nat_tests}
+use Rattle.std.proofs.lemmas.Grind.{common_steps}
+use Rattle.std.proofs.Common.{ℕ, zero, suc, List, [], ◌∷◌, ◌≡◌, ◌≤◌, ◌+◌, ◌*◌, refl, sym, ap, ◌∙◌, arith, get_or, take, drop, nat_cmp, subst}
 use Rattle.std.proofs.Math.Nat.{mul_assoc}
-use Rattle.timestamps.proofs.Common.{cases_lt, drop-nil, get_or-drop, get_or-take, get_or_past, length-take}
+use Rattle.timestamps.proofs.Common.{drop-nil, get_or-drop, get_or-take, get_or_past, length-take}
 use Rattle.timestamps.specs.Bytes.{key_cmp}
 use Rattle.timestamps.specs.Words.{AreBytes, front_from, front_of}
 use Rattle.timestamps.proofs.Fronts.{cmp_on, front_read, fronts_differ}
@@ -14,8 +16,8 @@ width (suc n) = 256 * width n
 -- what stands in front of n bytes
 in_front : (n a b c : ℕ) (xs : List ℕ) → c ≡ a + b → front_from n c xs ≡ a * width n + front_from n b xs
 in_front zero a b c xs e = omega arith
-in_front (suc n) a b c [] e = in_front n (a * 256) (b * 256) (c * 256) [] (omega arith) ∙ ap (λ t. t + front_from n (b * 256) []) (mul_assoc a 256 (width n))
-in_front (suc n) a b c (x ∷ xs) e = in_front n (a * 256) (b * 256 + x) (c * 256 + x) xs (omega arith) ∙ ap (λ t. t + front_from n (b * 256 + x) xs) (mul_assoc a 256 (width n))
+in_front (suc n) a b c [] e = grind (arith, common_steps, mul_assoc a 256 (width n), in_front n (a * 256) (b * 256) (c * 256) [] (omega arith))
+in_front (suc n) a b c (x ∷ xs) e = grind (arith, common_steps, mul_assoc a 256 (width n), in_front n (a * 256) (b * 256 + x) (c * 256 + x) xs (omega arith))
 
 -- the bytes of a list go on where its first end
 front_on : (k m n a : ℕ) (xs : List ℕ) → k ≡ m + n → front_from k a xs ≡ front_from n (front_from m a xs) (drop m xs)
@@ -36,31 +38,17 @@ alike_on m xs ys same next = last_front m xs ∙ rw (same, next) (sym (last_fron
 pub front_alike : (n a : ℕ) (xs ys : List ℕ) → ((k : ℕ) → get_or xs k 0 ≡ get_or ys k 0) → front_from n a xs ≡ front_from n a ys
 front_alike zero a xs ys same = refl
 front_alike (suc n) a [] [] same = refl
-front_alike (suc n) a [] (y ∷ ys) same = let e : a * 256 ≡ a * 256 + y = omega (arith, same 0) in front_alike n (a * 256) [] ys (λ k. same (suc k)) ∙ ap (λ t. front_from n t ys) e
-front_alike (suc n) a (x ∷ xs) [] same = let e : a * 256 + x ≡ a * 256 = omega (arith, same 0) in ap (λ t. front_from n t xs) e ∙ front_alike n (a * 256) xs [] (λ k. same (suc k))
-front_alike (suc n) a (x ∷ xs) (y ∷ ys) same = let e : a * 256 + x ≡ a * 256 + y = omega (arith, same 0) in ap (λ t. front_from n t xs) e ∙ front_alike n (a * 256 + y) xs ys (λ k. same (suc k))
-
--- what words spell are bytes, eight of each
-pub bytes_first : (x : ℕ) (xs : List ℕ) → x < 256 → AreBytes xs → AreBytes (x ∷ xs)
-bytes_first x xs l h zero = l
-bytes_first x xs l h (suc k) = h k
+front_alike (suc n) a [] (y ∷ ys) same = grind (arith, common_steps, same 0, front_alike n (a * 256) [] ys (λ k. same (suc k)))
+front_alike (suc n) a (x ∷ xs) [] same = grind (arith, common_steps, same 0, front_alike n (a * 256) xs [] (λ k. same (suc k)))
+front_alike (suc n) a (x ∷ xs) (y ∷ ys) same = grind (arith, common_steps, same 0, front_alike n (a * 256 + y) xs ys (λ k. same (suc k)))
 
 pub take_bytes : (n : ℕ) (xs : List ℕ) → AreBytes xs → AreBytes (take n xs)
-take_bytes zero xs h = λ k. omega arith
-take_bytes (suc n) [] h = λ k. omega arith
-take_bytes (suc n) (x ∷ xs) h = bytes_first x (take n xs) (h 0) (take_bytes n xs (λ k. h (suc k)))
-
--- the first words that differ decide, since what is before them counts more and is the same
-differ_on : (l r a x y : ℕ) → l ≡ a + x → r ≡ a + y → (x ≡ y → ⊥) → l ≡ r → ⊥
-differ_on l r a x y e e' f same = f (omega arith)
+take_bytes n xs h = λ k. grind (arith, common_steps, nat_tests, h k, get_or-take n xs k 0, get_or_past (take n xs) k 0, length-take n xs)
 
 pub words_differ : (m : ℕ) (xs ys : List ℕ) → AreBytes xs → AreBytes ys → front_from m 0 xs ≡ front_from m 0 ys → (front_of (drop m xs) ≡ front_of (drop m ys) → ⊥) → key_cmp xs ys ≡ nat_cmp (front_of (drop m xs)) (front_of (drop m ys))
 words_differ m xs ys h g same f =
-    let before = front_from m 0 ys * width 8 in
-    let left : front_from (m + 8) 0 xs ≡ before + front_of (drop m xs) = last_front m xs ∙ ap (λ t. t * width 8 + front_of (drop m xs)) same in
-    let right : front_from (m + 8) 0 ys ≡ before + front_of (drop m ys) = last_front m ys in
-    let differ = fronts_differ (m + 8) 0 xs ys h g (differ_on _ _ before _ _ left right f) in
-    differ ∙ rw (left, right) (cmp_on before (front_of (drop m xs)) (front_of (drop m ys)))
+    let left = last_front m xs in let right = last_front m ys in
+    grind (arith, common_steps, fronts_differ (m + 8) 0 xs ys h g, cmp_on (front_from m 0 ys * width 8) (front_of (drop m xs)) (front_of (drop m ys)))
 
 -- a whole word is that of the bytes whose first it was read from
 pub chunk_word : (xs first : List ℕ) → first ≡ take 8 xs → front_of xs
@@ -69,11 +57,7 @@ chunk_word xs first same = front_read xs first (λ k l. ap (λ t. get_or t k 0) 
 
 -- zeros behind a text are read as if it had ended
 pub read_padded : (len : ℕ) (bytes : List ℕ) → ((j : ℕ) → len ≤ j → get_or bytes j 0 ≡ 0) → (i : ℕ) → get_or bytes i 0 ≡ get_or (take len bytes) i 0
-read_padded len bytes zeros i = cut (cases_lt i len)
-  where
-    cut : (i < len) ⊎ (len ≤ i) → get_or bytes i 0 ≡ get_or (take len bytes) i 0
-    cut (inl below) = sym (get_or-take len bytes i 0 below)
-    cut (inr beyond) = zeros i beyond ∙ sym (get_or_past (take len bytes) i 0 (let size = length-take len bytes in omega arith))
+read_padded len bytes zeros i = grind (arith, common_steps, nat_tests, zeros i, get_or-take len bytes i 0, get_or_past (take len bytes) i 0, length-take len bytes)
 
 -- and are in no word of it
 pub word_padded : (k len : ℕ) (bytes : List ℕ) → ((j : ℕ) → len ≤ j → get_or bytes j 0 ≡ 0) → front_of (drop k bytes) ≡ front_of (drop k (take len bytes))

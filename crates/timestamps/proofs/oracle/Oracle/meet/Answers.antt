@@ -24,6 +24,4 @@ returns-clause-blocks c = met _ c.args.one.now.seat.me c.join_seat.new.seat.me c
     c.join_seat.ensures.2 c.load.ensures.2.0 c.split_seat-theirs-2.ensures.2 c.split_seat-theirs.ensures.4 c.split_seat-theirs-2.ensures.4 c.join_seat-2.ensures.2 c.load.ensures.2.2
 
 pub returns-clause-leases : goal.returns-clause-leases
-returns-clause-leases c = apart_leases _ _
-    (met _ c.args.one.now.seat.me c.join_seat.new.seat.me c.load.new.seat.me c.split_seat-theirs-2.new.seat.me c.args.other.now.seat.me c.split_seat-theirs.new.seat.me c.join_seat-2.new.seat.me c.split_seat-theirs.result.me c.split_seat-theirs-2.result.me
-    c.join_seat.ensures.2 c.load.ensures.2.0 c.split_seat-theirs-2.ensures.2 c.split_seat-theirs.ensures.4 c.split_seat-theirs-2.ensures.4 c.join_seat-2.ensures.2 c.load.ensures.2.2)
+returns-clause-leases c = apart_leases _ _ (returns-clause-blocks c)
