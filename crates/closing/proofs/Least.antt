@@ -1,6 +1,6 @@
 -- The least protected timestamp is that of the first by timestamp.
-use Rattle.closing.proofs.Common.{AllByRecursion, IsStrictlySortedBy, Less, Protection, by_test, common_steps, eq-eqb, eqb-true, is_at, is_eq, is_gt, keys_of, lookup, map-append, nat_cmp, nat_tests}
-use Rattle.std.proofs.Common.{Bool, List, None, Option, Some, ap, arith, false, inl, inr, min, refl, subst, sym, true, ℕ, ◌≤◌, ◌==◌, ◌⊎◌, ◌≡◌, ◌++◌, ◌∷◌, ◌∙◌, []}
+use Rattle.closing.proofs.Common.{AllByRecursion, IsStrictlySortedBy, Less, Protection, by_test, common_steps, eq-eqb, is_at, is_eq, is_gt, keys_of, lookup, map-append, nat_cmp, nat_tests}
+use Rattle.std.proofs.Common.{Bool, List, Option, Some, ap, arith, false, inl, inr, min, refl, subst, sym, true, ℕ, ◌≤◌, ◌==◌, ◌⊎◌, ◌≡◌, ◌++◌, ◌∷◌, ◌∙◌, []}
 use Rattle.std.specs.Prelude.{map}
 use Rattle.std.proofs.lemmas.Cmp.{nat_cmp_total, tied_itself}
 use Rattle.spans.specs.Transactions.{least_of}
@@ -49,15 +49,11 @@ unfolding IsStrictlySortedBy
 has_number t [] rising i = absurd i
 has_number t (e ∷ es) rising i = elim (among_parts t (times es) (e.1 ∷ []) (subst (IsAmong t) (times_more e es) i)) [
   | inl l ↦ (let more = has_number t es rising.1 l in (more.0, rw (other_number e.0 more.0 t es rising.0 more.1) more.1))
-  | inr r ↦ (let here : is_at (nat_cmp e.0) e.0 ≡ true = ap is_eq (tied_itself nat_cmp_total e.0) in (e.0, rw here (ap Some (last r))))
+  | inr r ↦ (let here : is_at (nat_cmp e.0) e.0 ≡ true = ap is_eq (tied_itself nat_cmp_total e.0) in (e.0, rw here (ap Some (elim r [ inl this ↦ this | inr none ↦ absurd none ]))))
 ]
-  where
-    last : IsAmong t (e.1 ∷ []) → e.1 ≡ t
-    last i = elim i [ inl here ↦ here | inr there ↦ absurd there ]
 
 just : (o : Option ℕ) (t : ℕ) → is_just o t ≡ true → o ≡ Some t
-just None t e = cc
-just (Some s) t e = ap Some (eqb-true s t e)
+just o t e = grind (arith, common_steps)
 
 not_above : (t id s k : ℕ) → is_gt (pair_cmp (t, id) (s, k)) ≡ false → t ≤ s
 not_above t id s k e = grind (arith, nat_tests)

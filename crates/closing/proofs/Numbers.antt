@@ -1,22 +1,15 @@
 -- Protections by rising numbers, and the same with the newest first.
-use Rattle.closing.proofs.Common.{AllByRecursion, Greater, IsStrictlySortedBy, Less, Protection, append-nil, by_test, common_steps, insert_entry, is_at, keys_of, list_any, lookup, nat_cmp, nat_tests, remove_entry}
-use Rattle.std.proofs.Common.{Bool, List, None, ap, arith, false, refl, subst, sym, true, ℕ, ◌+◌, ◌<◌, ◌==◌, ◌≡◌, ◌++◌, ◌∷◌, ◌∙◌, []}
+use Rattle.closing.proofs.Common.{AllByRecursion, IsStrictlySortedBy, Less, Protection, append-nil, common_steps, insert_entry, is_at, keys_of, list_any, lookup, nat_cmp, remove_entry}
+use Rattle.std.proofs.Common.{Bool, List, None, ap, arith, refl, subst, ℕ, ◌+◌, ◌<◌, ◌==◌, ◌≡◌, ◌++◌, ◌∷◌, []}
 use Rattle.std.specs.Prelude.{filter, is_some, not}
-use Rattle.std.specs.Cmp.{nat_cmp_is}
 use Rattle.std.proofs.lemmas.List.Elements.{filter-append}
 use Rattle.closing.specs.Standing.{newest_first, protection}
 use Rattle.closing.specs.Ties.{AreNumbered}
 
-pub same_number : (a b : ℕ) → is_at (nat_cmp a) b ≡ (b == a)
-same_number a b = grind (arith, nat_tests)
-
-higher : (a b : ℕ) → b < a → nat_cmp a b ≡ Greater
-higher a b h = sym (nat_cmp_is a b Greater h)
-
 -- a number above all comes last
 pub insert_last : (n t : ℕ) (es : List (ℕ × ℕ)) → AreNumbered n es → insert_entry nat_cmp es (n + 1) t ≡ es ++ (n + 1, t) ∷ []
 insert_last n t [] low = refl
-insert_last n t (e ∷ es) low = let above : nat_cmp (n + 1) e.0 ≡ Greater = higher (n + 1) e.0 (omega (arith, low.0)) in rw above (ap (λ l. e ∷ l) (insert_last n t es low.1))
+insert_last n t (e ∷ es) low = grind (arith, common_steps, insert_last n t es)
 
 pub newest_push : (es : List (ℕ × ℕ)) (e : ℕ × ℕ) → newest_first (es ++ e ∷ []) ≡ protection e.0 e.1 ∷ newest_first es
 newest_push [] e = refl
@@ -28,12 +21,12 @@ numbered_push n t (e ∷ es) low = (omega (arith, low.0), numbered_push n t es l
 
 pub numbered_removed : (n : ℕ) (test : ℕ → Bool) (es : List (ℕ × ℕ)) → AreNumbered n es → AreNumbered n (remove_entry test es)
 numbered_removed n test [] low = tt
-numbered_removed n test (e ∷ es) low = by_test (test e.0) (λ is. rw is low.1) (λ isnt. rw isnt (low.0, numbered_removed n test es low.1))
+numbered_removed n test (e ∷ es) low = grind (arith, common_steps, numbered_removed n test es)
 
 -- a number that wasn't given stands nowhere
 pub none_beyond : (n id : ℕ) (es : List (ℕ × ℕ)) → AreNumbered n es → n < id → lookup (is_at (nat_cmp id)) es ≡ None
 none_beyond n id [] low beyond = refl
-none_beyond n id (e ∷ es) low beyond = let above : nat_cmp id e.0 ≡ Greater = higher id e.0 (omega (arith, low.0)) in rw above (none_beyond n id es low.1 beyond)
+none_beyond n id (e ∷ es) low beyond = grind (arith, common_steps, none_beyond n id es)
 
 kept_all : (id : ℕ) (es : List (ℕ × ℕ)) → AllByRecursion (λ k. nat_cmp id k ≡ Less) (keys_of es) → filter (λ (n : Protection). not (n.id == id)) (newest_first es) ≡ newest_first es
 kept_all id [] above = refl
@@ -43,14 +36,8 @@ kept_all id (e ∷ es) above = grind (arith, common_steps, kept_all id es above.
 pub newest_removed : (id : ℕ) (es : List (ℕ × ℕ)) → IsStrictlySortedBy nat_cmp (keys_of es) → newest_first (remove_entry (is_at (nat_cmp id)) es) ≡ filter (λ (n : Protection). not (n.id == id)) (newest_first es)
 unfolding IsStrictlySortedBy
 newest_removed id [] rising = refl
-newest_removed id (e ∷ es) rising = by_test (is_at (nat_cmp id) e.0)
-    (λ is. let same : (e.0 == id) ≡ true = sym (same_number id e.0) ∙ is in
-    let k : e.0 ≡ id = grind (arith, nat_tests) in
-    rw is (sym (filter-append (λ (n : Protection). not (n.id == id)) (newest_first es) (protection e.0 e.1 ∷ [])
-    ∙ rw (same, kept_all id es (subst (λ m. AllByRecursion (λ q. nat_cmp m q ≡ Less) (keys_of es)) k rising.0)) (append-nil (newest_first es)))))
-    (λ isnt. let other : (e.0 == id) ≡ false = sym (same_number id e.0) ∙ isnt in
-    rw isnt (sym (filter-append (λ (n : Protection). not (n.id == id)) (newest_first es) (protection e.0 e.1 ∷ [])
-    ∙ rw (other, ← newest_removed id es rising.1) refl)))
+newest_removed id (e ∷ es) rising = let all : e.0 ≡ id → filter (λ (n : Protection). not (n.id == id)) (newest_first es) ≡ newest_first es = λ same. kept_all id es (subst (λ m. AllByRecursion (λ q. nat_cmp m q ≡ Less) (keys_of es)) same rising.0) in
+    let parts = filter-append (λ (n : Protection). not (n.id == id)) (newest_first es) (protection e.0 e.1 ∷ []) in grind (arith, common_steps, append-nil, newest_removed id es rising.1)
 
 -- whether a number stands
 pub number_stands : (id : ℕ) (es : List (ℕ × ℕ)) → list_any (λ (n : Protection). n.id == id) (newest_first es) ≡ is_some (lookup (is_at (nat_cmp id)) es)

@@ -1,17 +1,11 @@
 -- The two orders of the protections stay tied to each other.
-use Rattle.closing.proofs.Common.{and_parts, by_test, common_steps, eqb-true, is_at, nat_cmp, nat_tests}
-use Rattle.std.proofs.Common.{Bool, None, Option, Some, ap, arith, cond, false, sym, true, ℕ, ◌&&◌, ◌==◌, ◌≡◌, ◌∙◌}
+use Rattle.closing.proofs.Common.{common_steps, is_at, nat_cmp}
+use Rattle.std.proofs.Common.{Bool, None, Option, Some, arith, cond, false, true, ℕ, ◌≡◌}
 use Rattle.closing.specs.Ties.{is_just, pair_cmp}
 
 -- the set has just the timestamps that the map has, each with its number
 abbrev pub AreAlike : (ℕ × ℕ → Bool) → (ℕ → Option ℕ) → Type 0
 AreAlike c g = (t id : ℕ) → c (t, id) ≡ is_just (g id) t
-
-same_pair : (t id s k : ℕ) → is_at (pair_cmp (t, id)) (s, k) ≡ ((s == t) && (k == id))
-same_pair t id s k = grind (arith, nat_tests)
-
-turned : (a b : ℕ) → (a == b) ≡ (b == a)
-turned a b = grind (arith, nat_tests)
 
 -- a new number with its timestamp
 pub alike_put : (c c' : ℕ × ℕ → Bool) (g g' : ℕ → Option ℕ) (t id : ℕ) → g id ≡ None → AreAlike c g
@@ -26,9 +20,4 @@ alike_taken c c' g g' t id stood alike take drop s k = grind (arith, common_step
 -- a new pair that is taken back
 pub alike_again : (c c' c'' : ℕ × ℕ → Bool) (g : ℕ → Option ℕ) (t id : ℕ) → g id ≡ None → AreAlike c g
     → ((q : ℕ × ℕ) → c' q ≡ cond (is_at (pair_cmp (t, id)) q) true (c q)) → ((q : ℕ × ℕ) → c'' q ≡ cond (is_at (pair_cmp (t, id)) q) false (c' q)) → AreAlike c'' g
-alike_again c c' c'' g t id free alike put take s k = by_test (is_at (pair_cmp (t, id)) (s, k))
-    (λ is. take (s, k) ∙ rw is (sym (ap (λ o. is_just o s) (ap g (same k is) ∙ free))))
-    (λ isnt. take (s, k) ∙ rw isnt (put (s, k) ∙ rw isnt (alike s k)))
-  where
-    same : (k : ℕ) → is_at (pair_cmp (t, id)) (s, k) ≡ true → k ≡ id
-    same k is = eqb-true k id (and_parts (s == t) (k == id) (sym (same_pair t id s k) ∙ is)).1
+alike_again c c' c'' g t id free alike put take s k = grind (arith, common_steps)

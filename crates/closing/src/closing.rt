@@ -95,6 +95,7 @@ impl Closing {
 
     /// Protects a timestamp, and answers the protection's number. Where it is out of memory, nothing is
     /// protected.
+    #[tactic(auto, using(crate::proofs::Numbers::number_stands, crate::proofs::Numbers::none_beyond, crate::proofs::Numbers::insert_last, crate::proofs::Numbers::newest_push))]
     pub fn protect(&mut self, t: u64) -> Result<u64, AllocError>
         requires room { made_in self.old < u64.MAX }
         ensures number { IfOk result (λ id. id ≡ suc (made_in self.old)) }
@@ -119,6 +120,7 @@ impl Closing {
     }
 
     /// Ends a protection, and answers whether one of this number stood. It takes no memory.
+    #[tactic(auto, using(crate::proofs::Numbers::newest_removed))]
     pub fn release(&mut self, id: u64) -> bool
         ensures stood { result ≡ list_any (λ (n : Protection). n.id == id) (protections_in self.old) }
         ensures released { protections_in self.new ≡ filter (λ (n : Protection). not (n.id == id)) (protections_in self.old) }

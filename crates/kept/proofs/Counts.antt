@@ -1,6 +1,7 @@
 -- The counts of a commit, a hard closing and the statistics, from what is kept.
-use Rattle.kept.proofs.Common.{AllAllowed, AreDistinct, Cancels, Effect, Equal, Feed, Greater, Has, IsIn, IsKeptOf, Kept, Less, LiveFeed, Opens, RisingKeys, VersionName, Writes, among_has, and_from, and_parts, begun_among, begun_of, by_test, common_steps, dead_of, distinct_filter, false_from_ne_true, feed_of, has_filter, has_is, in_has, insert_key, insert_where, is_aborted, is_cancelled, is_committed, is_live, is_undecided, live_feeds, live_is, open_distinct, ordering_reverse, place_of, rising_distinct, same_key, same_length, undecided_timestamps, unopened, versions_of, write_count, write_of, write_set}
-use Rattle.std.proofs.Common.{Bool, List, None, Option, Some, [], ap, arith, cond, false, inl, inr, length, map, not, refl, subst, suc, sym, true, ℕ, ◌&&◌, ◌+◌, ◌-◌, ◌==◌, ◌∙◌, ◌∷◌, ◌≡◌}
+use Rattle.kept.proofs.Rising.{Falls, falls_distinct}
+use Rattle.kept.proofs.Common.{parted, AllAllowed, AreDistinct, Cancels, Effect, Equal, Greater, Has, IsIn, IsKeptOf, Kept, Less, LiveFeed, Opens, RisingKeys, VersionName, Writes, among_has, and_from, and_parts, begun_among, begun_of, by_test, common_steps, dead_of, distinct_filter, false_from_ne_true, has_filter, has_is, in_has, insert_key, insert_where, is_aborted, is_committed, is_live, is_undecided, live_feeds, live_is, open_distinct, ordering_reverse, rising_distinct, same_key, same_length, undecided_timestamps, unopened, versions_of, write_count, write_set, feeds_opened, has_versions, is_dead, ltb-false, ltb-true, versions_distinct}
+use Rattle.std.proofs.Common.{Bool, List, [], ap, arith, cond, false, inl, inr, length, map, not, refl, subst, suc, sym, true, ℕ, ◌&&◌, ◌-◌, ◌==◌, ◌∙◌, ◌∷◌, ◌≡◌, ◌≤◌}
 use Rattle.std.proofs.lemmas.Cmp.{nat_list_cmp_total}
 use Rattle.std.proofs.lemmas.Map.Lookups.{exact_bytes}
 use Rattle.std.specs.Prelude.{bytes_eq, filter, is_some, nat_le, ◌↔◌}
@@ -13,7 +14,6 @@ use Rattle.kept.specs.Table.{is_open}
 use Rattle.kept.proofs.AfterCloses.{open_is}
 use Rattle.kept.proofs.Dead.{open_kept}
 use Rattle.kept.proofs.Floors.{place_at}
-use Rattle.kept.proofs.VersionCounts.{stored_count}
 
 -- a list of those that pass the test is as long as any other
 pub those_length : {A : Type 0} (test : A → Bool) (xs ys : List A) → AreThose test xs → AreDistinct ys → ((x : A) → Has x ys ↔ (test x ≡ true)) → length xs ≡ length ys
@@ -33,58 +33,54 @@ pub cut_count : (k : Kept) (p : List Effect) → AllAllowed p → IsKeptOf k p �
 cut_count k p all fits to ts those = those_length (λ t. nat_le t to && is_open (k.transaction t)) ts (filter (λ t. nat_le t to) (undecided_timestamps p)) those (distinct_filter (λ t. nat_le t to) (undecided_timestamps p) (open_distinct p all))
     (λ t. let h = has_undecided p t in grind (arith, common_steps, has_filter, and_from, open_is, and_parts))
 
+-- the numbers of feeds
+abbrev pub numbers : List LiveFeed → List ℕ
+numbers ws = map (λ (n : LiveFeed). n.number) ws
+
 -- a number in a mapped list comes of an element
 pub has_number : (f : ℕ) (ws : List LiveFeed) → Has f (map (λ (n : LiveFeed). n.number) ws) → (c : ℕ) × Has (live_feed f c) ws
 has_number f [] i = absurd i
 has_number f (w ∷ ws) i = elim i [
-  | inl here ↦ (w.cursor, inl (named_feed here))
+  | inl here ↦ (w.cursor, inl (ap (λ n. live_feed n w.cursor) here))
   | inr there ↦ (let m = has_number f ws there in (m.0, inr m.1))
 ]
-  where
-    named_feed : w.number ≡ f → w ≡ live_feed f w.cursor
-    named_feed e = ap (λ n. live_feed n w.cursor) e
 
 -- what a function makes of an element is in the mapped list
 pub has_mapped : {A B : Type 0} (f : A → B) (x : A) (xs : List A) → Has x xs → Has (f x) (map f xs)
 has_mapped f x [] i = absurd i
 has_mapped f x (y ∷ ys) i = elim i [ inl here ↦ inl (ap f here) | inr there ↦ inr (has_mapped f x ys there) ]
 
--- distinct numbers stay so where some go
-numbers_filter : (q : LiveFeed → Bool) (ws : List LiveFeed) → AreDistinct (map (λ (n : LiveFeed). n.number) ws) → AreDistinct (map (λ (n : LiveFeed). n.number) (filter q ws))
-numbers_filter q [] d = tt
-numbers_filter q (w ∷ ws) d = let more = numbers_filter q ws d.1 in by_test (q w)
-    (λ is. rw is (λ i. d.0 (still ws i), more))
+-- a feed that lives was opened
+live_low : (p : List Effect) → AllAllowed p → (f c : ℕ) → Has (live_feed f c) (live_feeds p) → f ≤ feeds_opened p
+live_low p all f c i = grind (arith, common_steps, live_is, by_test, unopened, ltb-true, ltb-false)
+
+-- numbers that fall still do where some go
+falls_filter : (q : LiveFeed → Bool) (ws : List LiveFeed) → Falls (numbers ws) → Falls (numbers (filter q ws))
+falls_filter q [] falls = tt
+falls_filter q (w ∷ ws) falls = let more = falls_filter q ws falls.1 in by_test (q w)
+    (λ is. rw is (λ y i. falls.0 y (still y ws i), more))
     (λ isnt. rw isnt more)
   where
-    still : (ws : List LiveFeed) → Has w.number (map (λ (n : LiveFeed). n.number) (filter q ws)) → Has w.number (map (λ (n : LiveFeed). n.number) ws)
-    still ws i = let m = has_number w.number (filter q ws) i in has_mapped (λ (n : LiveFeed). n.number) (live_feed w.number m.0) ws ((has_filter q (live_feed w.number m.0) ws).0 m.1).1
+    still : (y : ℕ) (ws : List LiveFeed) → Has y (numbers (filter q ws)) → Has y (numbers ws)
+    still y ws i = let m = has_number y (filter q ws) i in has_mapped (λ (n : LiveFeed). n.number) (live_feed y m.0) ws ((has_filter q (live_feed y m.0) ws).0 m.1).1
 
--- no feed is listed twice
-pub numbers_distinct : (p : List Effect) → AllAllowed p → AreDistinct (map (λ (n : LiveFeed). n.number) (live_feeds p))
-numbers_distinct [] all = tt
-numbers_distinct (Opens f seat kind span cursor ∷ p) all = (
-  λ i. let m = has_number f (live_feeds p) i in let l = live_is p all.1 f m.0 m.1 in
-      let no' : None ≡ Some l.0 = sym (unopened p all.1 f (omega (arith, all.0.0))).0 ∙ l.1 in cc,
-  numbers_distinct p all.1,
+-- the feeds that live stand with the newest first
+pub live_falls : (p : List Effect) → AllAllowed p → Falls (numbers (live_feeds p))
+live_falls [] all = tt
+live_falls (Opens f seat kind span cursor ∷ p) all = (
+  λ y i. let m = has_number y (live_feeds p) i in let low : y ≤ feeds_opened p = live_low p all.1 y m.0 m.1 in omega (arith, all.0.0),
+  live_falls p all.1,
 )
-numbers_distinct (Cancels f ∷ p) all = numbers_filter (λ (n : LiveFeed). not (n.number == f)) (live_feeds p) (numbers_distinct p all.1)
-numbers_distinct (_ ∷ p) all = numbers_distinct p all.1
+live_falls (Cancels f ∷ p) all = falls_filter (λ (n : LiveFeed). not (n.number == f)) (live_feeds p) (live_falls p all.1)
+live_falls (_ ∷ p) all = live_falls p all.1
 
 -- the listed feeds are those that are kept
 pub has_live : (k : Kept) (p : List Effect) → AllAllowed p → IsKeptOf k p → (f : ℕ) → Has f (map (λ (n : LiveFeed). n.number) (live_feeds p)) ↔ (is_some (k.feed f) ≡ true)
-has_live k p all fits f = (
-  λ i. let m = has_number f (live_feeds p) i in let l = live_is p all f m.0 m.1 in ap is_some (place_at k p fits f l.0 l.1 l.2),
-  λ is. by_parts (is_cancelled p f) refl (feed_of p f) refl (ap is_some (sym (fits.feeds f)) ∙ is),
-)
-  where
-    by_parts : (b : Bool) → is_cancelled p f ≡ b → (o : Option Feed) → feed_of p f ≡ o → is_some (place_of p f) ≡ true → Has f (map (λ (n : LiveFeed). n.number) (live_feeds p))
-    by_parts true c o e is = absurd (let no' : false ≡ true = rw c at is in cc)
-    by_parts false c None e is = absurd (let no' : false ≡ true = rw (c, e) at is in cc)
-    by_parts false c (Some feed) e is = has_mapped (λ (n : LiveFeed). n.number) (live_feed f feed.cursor) (live_feeds p) (is_live p f feed e c)
+has_live k p all fits f = grind (arith, common_steps, has_number, live_is, place_at, has_mapped, is_live)
 
 -- the live feeds that are kept are as many as those of the history
 pub feeds_count : (k : Kept) (p : List Effect) → AllAllowed p → IsKeptOf k p → (fs : List ℕ) → AreThose (λ f. is_some (k.feed f)) fs → length fs ≡ length (live_feeds p)
-feeds_count k p all fits fs those = those_length (λ f. is_some (k.feed f)) fs (map (λ (n : LiveFeed). n.number) (live_feeds p)) those (numbers_distinct p all) (has_live k p all fits) ∙ as_many (live_feeds p)
+feeds_count k p all fits fs those = those_length (λ f. is_some (k.feed f)) fs (map (λ (n : LiveFeed). n.number) (live_feeds p)) those (falls_distinct (numbers (live_feeds p)) (live_falls p all)) (has_live k p all fits) ∙ as_many (live_feeds p)
   where
     as_many : (ws : List LiveFeed) → length (map (λ (n : LiveFeed). n.number) ws) ≡ length ws
     as_many [] = refl
@@ -92,7 +88,10 @@ feeds_count k p all fits fs those = those_length (λ f. is_some (k.feed f)) fs (
 
 -- the kept versions are as many as those of the history that aren't dead
 pub versions_count : (k : Kept) (p : List Effect) → AllAllowed p → IsKeptOf k p → (vs : List VersionName) → AreThose (λ v. is_some (k.version v.key v.ts)) vs → length vs ≡ length (versions_of p) - length (dead_of p)
-versions_count k p all fits vs those = let e : length (versions_of p) ≡ length vs + length (dead_of p) = stored_count k p all fits vs those.distinct those.each in omega (arith, e)
+versions_count k p all fits vs those = let left : VersionName → Bool = λ v. not (is_dead p v) in
+    let e = those_length (λ v. is_some (k.version v.key v.ts)) vs (filter left (versions_of p)) those (distinct_filter left (versions_of p) (versions_distinct p all)) (λ v.
+    let f = has_filter left v (versions_of p) in let h = has_versions p all v in let there = fits.versions v.key v.ts in grind (arith, common_steps)) in
+    omega (arith, e, parted (is_dead p) (versions_of p))
 
 -- a key that comes before all of rising keys isn't among them
 not_among : (x : List ℕ) (ys : List (List ℕ)) → ((z : List ℕ) → IsIn z ys → key_cmp x z ≡ Less) → has x ys ≡ false
@@ -111,23 +110,12 @@ inserted_length x (y ∷ ys) r = by_order (key_cmp x y) refl (inserted_length x 
     by_order Greater e more = ap suc more ∙ by_test (bytes_eq y x)
         (λ same. absurd (let at : key_cmp x x ≡ Greater = subst (λ z. key_cmp x z ≡ Greater) (same_key y x same) e in
         let back : key_cmp x x ≡ ordering_reverse (key_cmp x x) = nat_list_cmp_total.antisymm x x in let no' : Greater ≡ Less = sym at ∙ back ∙ ap ordering_reverse at in cc))
-        (λ other. rw other (step (has x ys) (length ys)))
-      where
-        step : (b : Bool) (n : ℕ) → suc (cond b n (suc n)) ≡ cond b (suc n) (suc (suc n))
-        step true n = refl
-        step false n = refl
+        (λ other. rw other (grind (arith, common_steps)))
 
 -- the keys that a transaction wrote are as many as it has in its write set
 pub write_set_length : (p : List Effect) (t : ℕ) → length (write_set p t) ≡ write_count p t
 write_set_length [] t = refl
-write_set_length (Writes k x a ∷ p) t = by_test (k == t)
-    (λ same. rw same (inserted_length x (write_set p t) (write_set_rises p t) ∙ ap (λ b. cond b (length (write_set p t)) (suc (length (write_set p t)))) (has_written p t x)
-    ∙ step (is_some (write_of p t x)) (write_set_length p t)))
-    (λ other. rw other (write_set_length p t))
-  where
-    step : {n m : ℕ} (b : Bool) → n ≡ m → cond b n (suc n) ≡ cond (not b) (suc m) m
-    step true e = e
-    step false e = ap suc e
+write_set_length (Writes k x a ∷ p) t = grind (arith, common_steps, by_test, inserted_length, write_set_rises, has_written, write_set_length p t)
 write_set_length (_ ∷ p) t = write_set_length p t
 
 -- the versions of an undecided transaction stand at the keys that it wrote

@@ -1,6 +1,6 @@
 -- What is dead, and what is kept.
 use Rattle.kept.proofs.Common.{After, AllAllowed, Effect, IsKeptOf, Kept, committed_is, committed_version_of, common_steps, dead_is, false_from_ne_true, horizon_of, is_aborted, is_committed, is_dead, kept_version, nat_tests, not_both, version_name, version_of, write_of}
-use Rattle.std.proofs.Common.{Bool, List, ap, refl, None, Option, arith, false, true, Some, cond, ◌≡◌, ◌∙◌, ◌<◌, ℕ}
+use Rattle.std.proofs.Common.{List, ap, refl, None, arith, false, Some, cond, ◌≡◌, ◌∙◌, ◌<◌, ℕ}
 use Rattle.std.specs.Prelude.{nat_le}
 
 -- a committed version is a version
@@ -21,11 +21,7 @@ open_kept k p fits x t uncommitted unaborted = fits.versions x t ∙ ap (λ b. c
 
 -- where there is no version none is kept
 pub no_kept : (p : List Effect) (x : List ℕ) (i : ℕ) → version_of p x i ≡ None → kept_version p x i ≡ None
-no_kept p x i none = step (is_dead p (version_name x i)) (version_of p x i) none
-  where
-    step : (b : Bool) (o : Option After) → o ≡ None → cond b None o ≡ None
-    step true o e = refl
-    step false o e = e
+no_kept p x i none = grind (arith, common_steps)
 
 -- what is above the horizon is kept
 pub kept_above : (p : List Effect) (x : List ℕ) (i : ℕ) → horizon_of p < i → kept_version p x i ≡ version_of p x i
@@ -33,8 +29,4 @@ kept_above p x i above = grind (arith, common_steps)
 
 -- a kept version is a version
 pub kept_is : (p : List Effect) (x : List ℕ) (i : ℕ) (a : After) → kept_version p x i ≡ Some a → version_of p x i ≡ Some a
-kept_is p x i a h = step (is_dead p (version_name x i)) (version_of p x i) h
-  where
-    step : (b : Bool) (o : Option After) → cond b None o ≡ Some a → o ≡ Some a
-    step true o e = cc
-    step false o e = e
+kept_is p x i a h = grind (arith, common_steps)

@@ -1,6 +1,6 @@
 -- The floor of a feed from its place, and how far a collection goes.
 use Rattle.kept.proofs.Common.{AllAllowed, Effect, Feed, Has, IsKeptOf, IsRowIn, Kept, LiveFeed, Message, Place, Protection, ResolvedRise, Row, VersionName, apart_rises, closed_of, collection_horizon, common_steps, fed, feed_of, floor_after, floor_from, floor_of, in_append, in_list, is_cancelled, is_live, last_name, last_resolved, least_join, least_low, least_of, listed_above, listed_low, live_feeds, live_is, name_of, place_with, resolved_of, rows_in, some_gap, start_low, start_of, told_to}
-use Rattle.std.proofs.Common.{Bool, List, refl, inr, None, Option, arith, map, subst, false, ap, true, Some, inl, sym, ◌≡◌, ◌<◌, ◌≤◌, ◌-◌, ◌∷◌, ◌++◌, ◌∙◌, ℕ, []}
+use Rattle.std.proofs.Common.{List, refl, inr, None, Option, arith, map, subst, false, ap, Some, inl, sym, ◌≡◌, ◌<◌, ◌≤◌, ◌-◌, ◌∷◌, ◌++◌, ◌∙◌, ℕ, []}
 use Rattle.std.specs.Prelude.{max, min}
 use Rattle.spans.specs.FeedRight.{DividesList, RowsFollowResolved, RowsAreAbove, least_gap}
 use Rattle.kept.specs.Places.{place_floor, IsLeastFloor, or_min, live_feed, row_floor}
@@ -57,12 +57,7 @@ place_at k p fits f feed is live = fits.feeds f ∙ (rw (live, is) refl)
 
 -- and a place that is kept is that of a live feed
 pub placed_by : (k : Kept) (p : List Effect) → IsKeptOf k p → (f : ℕ) (place : Place) → k.feed f ≡ Some place → (feed : Feed) × (feed_of p f ≡ Some feed) × (is_cancelled p f ≡ false) × (place_with p f feed ≡ place)
-placed_by k p fits f place at = by_parts (is_cancelled p f) refl (feed_of p f) refl
-  where
-    by_parts : (b : Bool) → is_cancelled p f ≡ b → (o : Option Feed) → feed_of p f ≡ o → (feed : Feed) × (feed_of p f ≡ Some feed) × (is_cancelled p f ≡ false) × (place_with p f feed ≡ place)
-    by_parts true c o e = absurd (let no' : None ≡ Some place = sym (rw c refl) ∙ sym (fits.feeds f) ∙ at in cc)
-    by_parts false c None e = absurd (let no' : None ≡ Some place = sym (rw (c, e) refl) ∙ sym (fits.feeds f) ∙ at in cc)
-    by_parts false c (Some feed) e = (feed, e, c, (let both : Some (place_with p f feed) ≡ Some place = sym (place_at k p fits f feed e c) ∙ at in cc))
+placed_by k p fits f place at = grind (arith, common_steps, place_at)
 
 -- the least floor of the places is that of the live feeds
 pub least_floor_is : (k : Kept) (p : List Effect) → AllAllowed p → IsKeptOf k p → (o : Option ℕ) → IsLeastFloor k.feed o → (n : ℕ) → or_min o n ≡ least_of n (floors p (live_feeds p))

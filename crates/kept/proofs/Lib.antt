@@ -8,10 +8,8 @@ pub mod AfterReads
 pub mod AfterWrites
 pub mod AfterCloses
 pub mod AfterCollects
-pub mod AfterFeeds
 pub mod Late
 pub mod Noting
-pub mod VersionCounts
 pub mod DeadSeen
 pub mod Counts
 pub mod Scans

@@ -1,10 +1,10 @@
 -- The write rule by marks.
-use Rattle.kept.proofs.Common.{After, AllAllowed, Effect, IsActive, IsCrossed, and_from, and_parts, both_ways, by_test, closed_of, committed_version_of, common_steps, eqb-true, false_from_ne_true, found_whole, horizon_low, is_blocked, is_committed, kept, kept_version, lt-ltb, ltb-true, nat_tests, newest, newest_is, or_cases, or_left, or_right, too_late, version_of, visible, write_of}
-use Rattle.std.proofs.Common.{Bool, List, refl, inr, None, Option, arith, false, subst, suc, true, zero, Some, inl, sym, ◌≡◌, ◌<◌, ◌≤◌, ◌⊎◌, ◌==◌, ◌&&◌, ◌||◌, ◌∙◌, ℕ}
-use Rattle.std.specs.Prelude.{nat_lt, nat_le, ◌↔◌}
+use Rattle.kept.proofs.Common.{After, AllAllowed, Effect, IsCrossed, and_from, and_parts, both_ways, by_test, closed_of, committed_version_of, common_steps, eqb-true, false_from_ne_true, found_whole, is_blocked, is_committed, kept, lt-ltb, ltb-true, nat_tests, newest, newest_is, or_cases, or_left, or_right, too_late, version_of, visible, write_of, IsKeptOf, Kept, committed_is}
+use Rattle.std.proofs.Common.{Bool, List, refl, inr, None, Option, arith, false, subst, true, Some, inl, sym, ◌≡◌, ◌<◌, ◌≤◌, ◌⊎◌, ◌==◌, ◌&&◌, ◌||◌, ◌∙◌, ℕ, ◌-◌}
+use Rattle.std.specs.Prelude.{nat_lt, ◌↔◌}
 use Rattle.spans.proofs.Marks.{late_across}
 use Rattle.kept.specs.Marks.{until, IsPiece, IsMarkedBy}
-use Rattle.kept.proofs.Dead.{kept_above}
+use Rattle.kept.proofs.Dead.{kept_is}
 
 -- a version that stands wasn't too late, and isn't
 pub timely : (p : List Effect) → AllAllowed p → (x : List ℕ) (t : ℕ) (a : After) → version_of p x t ≡ Some a → too_late p x t ≡ false
@@ -16,50 +16,13 @@ timely p all x t a is = false_from_ne_true _ (λ late.
 pub crossed_like : (m : ℕ → Bool) (f g : ℕ → Option After) (i : ℕ) → ((n : ℕ) → i < n → f n ≡ None → g n ≡ None) → IsCrossed m f i → IsCrossed m g i
 crossed_like m f g i fewer c = record { reader = c.reader; mark = c.mark; above = c.above; none = λ n low high. fewer n low (c.none n low high) }
 
--- the marks of x answer as the write rule does
-abbrev pub MarksAt : List Effect → List ℕ → (ℕ → Bool) → (ℕ → Option After) → Type 0
-MarksAt p x m f = (i : ℕ) → closed_of p < i → committed_version_of p x i ≡ None → (too_late p x i ≡ true) ↔ IsCrossed m f i
-
--- the store's versions serve for all versions
-pub marks_kept : (p : List Effect) → AllAllowed p → (x : List ℕ) (m : ℕ → Bool) (f : ℕ → Option After) → ((n : ℕ) → f n ≡ kept_version p x n) → MarksAt p x m f ↔ MarksAt p x m (version_of p x)
-marks_kept p all x m f same = (
-  λ h i above fresh. let b = h i above fresh in (
-    λ late. crossed_like m f (version_of p x) i (λ n low none. sym (alike n i low above) ∙ sym (same n) ∙ none) (b.0 late),
-    λ c. b.1 (crossed_like m (version_of p x) f i (λ n low none. same n ∙ alike n i low above ∙ none) c),
-  ),
-  λ h i above fresh. let b = h i above fresh in (
-    λ late. crossed_like m (version_of p x) f i (λ n low none. same n ∙ alike n i low above ∙ none) (b.0 late),
-    λ c. b.1 (crossed_like m f (version_of p x) i (λ n low none. sym (alike n i low above) ∙ sym (same n) ∙ none) c),
-  ),
-)
-  where
-    alike : (n i : ℕ) → i < n → closed_of p < i → kept_version p x n ≡ version_of p x n
-    alike n i low above = kept_above p x n (omega (arith, horizon_low p all))
-
 -- a plain addition does
 pub added : (m m' : ℕ → Bool) (j above until : ℕ) → ((n : ℕ) → (m' n ≡ true) ↔ ((n ≡ j) ⊎ (m n ≡ true))) → IsMarkedBy m m' j above until
 added m m' j above until adds = grind (arith, common_steps)
 
 -- a piece of marks that became their greatest does as well
 pub merged : (m m' : ℕ → Bool) (j above until : ℕ) → above < j → j ≤ until → IsPiece m m' j above until → IsMarkedBy m m' j above until
-merged m m' j above until low high h = record {
-  only = λ n is. by_test (nat_lt above n && nat_le n until)
-      (λ in'. let b = and_parts _ _ in' in let e : n ≡ h.top = h.inside n (ltb-true _ _ b.0) (grind (arith, nat_tests, b.1)) is in
-      subst (λ t. (t ≡ j) ⊎ (m t ≡ true)) (sym e) h.is)
-      (λ out. inr (sym (h.outside n (beyond n out)) ∙ is));
-  covers = λ n is. by_test (nat_lt above n && nat_le n until)
-      (λ in'. let b = and_parts _ _ in' in let low' : above < n = ltb-true _ _ b.0 in let high' : n ≤ until = grind (arith, nat_tests, b.1) in
-      (h.top, h.marked, elim is [ inl own ↦ omega (arith, own, h.least) | inr old ↦ h.greatest n old low' high' ], inr (low', h.most)))
-      (λ out. elim is [
-        | inl own ↦ absurd (elim (beyond n out) [ inl l ↦ omega (arith, own, l) | inr g ↦ omega (arith, own, g) ])
-        | inr old ↦ (n, h.outside n (beyond n out) ∙ old, omega arith, inl refl)
-      ]);
-}
-  where
-    beyond : (n : ℕ) → (nat_lt above n && nat_le n until) ≡ false → (n ≤ above) ⊎ (until < n)
-    beyond n out = by_test (nat_lt above n)
-        (λ is. inr (let e : nat_le n until ≡ false = rw is at out in grind (arith, nat_tests)))
-        (λ isnt. inl (grind (arith, nat_tests)))
+merged m m' j above until low high h = grind (arith, common_steps, by_test, and_parts, ltb-true)
 
 -- a read marks
 pub marks_read : (p : List Effect) → AllAllowed p → (x : List ℕ) (j above until : ℕ) (m m' : ℕ → Bool) → is_blocked p x j ≡ false → (visible p x j).ts < j
@@ -113,33 +76,27 @@ marks_read p all x j above until m m' free others quiet marks i high fresh befor
 pub own_read : (p : List Effect) (x : List ℕ) (j i : ℕ) → (visible p x j).ts ≡ j → ((nat_lt (visible p x j).ts i && nat_lt i j) || too_late p x i) ≡ too_late p x i
 own_read p x j i own = grind (arith, common_steps)
 
--- a version that wasn't too late is crossed by nobody
-pub marks_written : (p : List Effect) (x : List ℕ) (t : ℕ) (m : ℕ → Bool) (g : ℕ → Option After) → IsActive p t → too_late p x t ≡ false
-    → ((n : ℕ) → (n == t) ≡ false → g n ≡ version_of p x n) → ((n : ℕ) → g n ≡ None → version_of p x n ≡ None)
-    → MarksAt p x m (version_of p x) → (i : ℕ) → closed_of p < i → committed_version_of p x i ≡ None → (too_late p x i ≡ true) ↔ IsCrossed m g i
-marks_written p x t m g here timely' other more marks i above fresh = grind (arith, common_steps)
+-- where versions that weren't too late come, nobody crosses who didn't, and all who did do
+pub marks_written : (k : Kept) (p : List Effect) → IsKeptOf k p → (x : List ℕ) (g : ℕ → Option After) → ((n : ℕ) → g n ≡ None → k.version x n ≡ None)
+    → ((n : ℕ) → (g n ≡ k.version x n) ⊎ ((closed_of p < n) × (committed_version_of p x n ≡ None) × (too_late p x n ≡ false)))
+    → (i : ℕ) → closed_of p < i → committed_version_of p x i ≡ None → (too_late p x i ≡ true) ↔ IsCrossed (k.marked x) g i
+marks_written k p fits x g fewer more i above fresh = grind (arith, common_steps)
 
--- where undecided versions go, nobody crosses who didn't
-pub marks_aborted : (p : List Effect) → AllAllowed p → (x : List ℕ) (m : ℕ → Bool) (g : ℕ → Option After)
-    → ((n : ℕ) → version_of p x n ≡ None → g n ≡ None) → ((n : ℕ) (a : After) → committed_version_of p x n ≡ Some a → g n ≡ Some a)
-    → MarksAt p x m (version_of p x) → (i : ℕ) → closed_of p < i → committed_version_of p x i ≡ None → (too_late p x i ≡ true) ↔ IsCrossed m g i
-marks_aborted p all x m g fewer still marks i above fresh = (
-  λ late. crossed_like m (version_of p x) g i (λ n low none. fewer n none) ((marks i above fresh).0 late),
-  λ c. by_reader c.reader c refl,
+-- where versions go that aren't committed, nobody crosses who didn't
+pub marks_fewer : (k : Kept) (p : List Effect) → AllAllowed p → IsKeptOf k p → (x : List ℕ) (g : ℕ → Option After) → ((n : ℕ) → k.version x n ≡ None → g n ≡ None)
+    → ((n : ℕ) (a : After) → closed_of p < n → committed_version_of p x n ≡ Some a → k.version x n ≡ Some a → g n ≡ Some a)
+    → (i : ℕ) → closed_of p < i → committed_version_of p x i ≡ None → (too_late p x i ≡ true) ↔ IsCrossed (k.marked x) g i
+marks_fewer k p all fits x g fewer still i above fresh = (
+  λ late. crossed_like (k.marked x) (k.version x) g i (λ n low none. fewer n none) ((fits.marks x i above fresh).0 late),
+  λ c. let w = newest_is (k.version x) (c.reader - 1) in by_test (nat_lt i (newest (k.version x) (c.reader - 1)).ts)
+      (λ between. absurd (by_version c _ refl (ltb-true _ _ between)))
+      (λ isnt. (fits.marks x i above fresh).1 (record { reader = c.reader; mark = c.mark; above = c.above; none = λ n low high. w.gap n (grind (arith, nat_tests)) (omega arith) })),
 )
   where
-    by_reader : (r : ℕ) → (c : IsCrossed m g i) → c.reader ≡ r → too_late p x i ≡ true
-    by_reader zero c e = absurd (omega (arith, c.above))
-    by_reader (suc r) c e = let w = newest_is (version_of p x) r in by_test (nat_lt i (newest (version_of p x) r).ts)
-        (λ between. absurd (elim w.has [
-          | inl zeroth ↦ (let l = ltb-true _ _ between in omega (arith, zeroth.0))
-          | inr some ↦ (let l : i < (newest (version_of p x) r).ts = ltb-true _ _ between in by_version _ refl l some.1 (record { reader = c.reader; mark = c.mark; above = omega (arith, w.at_most, e); none = λ n low high. w.gap n low (omega (arith, e)) }))
-        ]))
-        (λ isnt. (marks i above fresh).1 (record { reader = c.reader; mark = c.mark; above = c.above; none = λ n low high. w.gap n (grind (arith, nat_tests)) (omega (arith, e)) }))
-      where
-        by_version : (o : Option After) → committed_version_of p x (newest (version_of p x) r).ts ≡ o → i < (newest (version_of p x) r).ts → version_of p x (newest (version_of p x) r).ts ≡ Some (newest (version_of p x) r).after
-            → IsCrossed m (version_of p x) (newest (version_of p x) r).ts → ⊥
-        by_version None is l some c' = both_ways _ (timely p all x _ _ some) ((marks _ (omega arith) is).1 c')
-        by_version (Some a) is l some c' = let w = newest_is (version_of p x) r in
-            let none : g (newest (version_of p x) r).ts ≡ None = c.none _ l (omega (arith, w.at_most, e)) in
-            let no : None ≡ Some a = sym none ∙ still _ a is in cc
+    by_version : (c : IsCrossed (k.marked x) g i) (o : Option After) → committed_version_of p x (newest (k.version x) (c.reader - 1)).ts ≡ o → i < (newest (k.version x) (c.reader - 1)).ts → ⊥
+    by_version c None is l = let w = newest_is (k.version x) (c.reader - 1) in elim w.has [
+      | inl zeroth ↦ omega (arith, zeroth.0)
+      | inr some ↦ both_ways _ (timely p all x _ _ (kept_is p x _ _ (sym (fits.versions x _) ∙ some.1)))
+          ((fits.marks x _ (omega arith) is).1 (record { reader = c.reader; mark = c.mark; above = omega (arith, w.at_most, c.above); none = λ n low high. w.gap n low (omega arith) }))
+    ]
+    by_version c (Some a) is l = grind (arith, common_steps, newest_is (k.version x) (c.reader - 1), still, committed_is p x)

@@ -1,9 +1,10 @@
 -- What is left to tell, from what is kept.
-use Rattle.std.proofs.Common.{Bool, List, None, Option, Some, ap, arith, cond, false, inl, inr, map, subst, sym, take, true, ℕ, ◌++◌, ◌<◌, ◌∙◌, ◌≡◌, ◌≤◌}
-use Rattle.kept.proofs.Common.{After, AllAllowed, Effect, Feed, IsKeptOf, Kept, Place, Row, VersionName, and_parts, closed_of, due_if, due_message, feed_of, feeding, floors_high, horizon_of, is_aborted, is_after_name, is_cancelled, is_committed, is_due, kept_version, ltb-true, map_at_is, name_order, newest, next_messages, not_both, place_with, resolved_of, untold_is, untold_rows, version_wrote, write_of}
+use Rattle.std.proofs.lemmas.Grind.{common_steps}
+use Rattle.std.proofs.Common.{List, Some, ap, arith, false, inl, inr, map, subst, sym, take, true, ℕ, ◌++◌, ◌<◌, ◌∙◌, ◌≡◌, ◌≤◌}
+use Rattle.kept.proofs.Common.{AllAllowed, Effect, Feed, IsKeptOf, Kept, Place, Row, and_parts, closed_of, due_if, due_message, feed_of, feeding, floors_high, horizon_of, is_cancelled, is_committed, is_due, kept_version, ltb-true, map_at_is, name_order, newest, next_messages, not_both, place_with, resolved_of, untold_is, untold_rows, version_wrote}
 use Rattle.std.specs.Prelude.{max}
 use Rattle.spans.specs.Serial.{map_at}
-use Rattle.kept.specs.Places.{AreLeft, is_beyond, place_floor, row_floor}
+use Rattle.kept.specs.Places.{AreLeft, is_beyond, place_floor}
 use Rattle.kept.proofs.Dead.{kept_above, kept_is}
 use Rattle.kept.proofs.Floors.{place_floor_is}
 use Rattle.kept.proofs.Reading.{settled_is}
@@ -12,14 +13,7 @@ use Rattle.spans.specs.declared.calls.messages.Message.TheVariants as messages
 
 -- a row beyond a place, from the cursor on, is at or above the place's floor, and above it where it is above the cursor
 beyond_high : (place : Place) (r : Row) → place.cursor ≤ r.ts → is_beyond place r ≡ true → (place_floor place ≤ r.ts) × (place.cursor < r.ts → place_floor place < r.ts)
-beyond_high place r from later =
-    let b = and_parts _ _ later in
-    let after : place.after < r.ts = ltb-true _ _ b.0 in
-    let row : row_floor place.row < r.ts = by_row place.row b.1 in (omega (arith, after, row, from), λ above. omega (arith, after, row, above))
-  where
-    by_row : (o : Option VersionName) → is_after_name o r ≡ true → row_floor o < r.ts
-    by_row None is = let after : place.after < r.ts = ltb-true _ _ (and_parts _ _ later).0 in omega arith
-    by_row (Some n) is = let low : n.ts ≤ r.ts = name_order n r is in let after : place.after < r.ts = ltb-true _ _ (and_parts _ _ later).0 in omega arith
+beyond_high place r from later = grind (arith, common_steps, and_parts, ltb-true, name_order)
 
 -- the horizon is at or below the floor of a live feed's place
 horizon_under : (p : List Effect) → AllAllowed p → (f : ℕ) (feed : Feed) → feed_of p f ≡ Some feed → is_cancelled p f ≡ false → horizon_of p ≤ place_floor (place_with p f feed)
@@ -39,19 +33,13 @@ left_are k p all fits f feed is live =
       rising = u.0;
       each = λ r. (
         λ i. let s = (u.1 r).0 i in elim s.0 [
-          | inl first ↦ (let b = beyond_high (place_with p f feed) r (omega (arith, first.1.at)) s.1 in inl (record {
-            initial = first.0;
-            at = first.1.at;
-            found = found_is k p all fits r.key feed.cursor (omega (arith, under, b.0, first.1.at)) (h.settled first.0) ∙ first.1.has;
-            value = first.1.value;
-            inside = first.1.inside;
-            later = s.1;
-          }))
+          | inl first ↦ (let b = beyond_high (place_with p f feed) r (omega (arith, first.1.at)) s.1 in
+              let found = found_is k p all fits r.key feed.cursor (omega (arith, under, b.0, first.1.at)) (h.settled first.0) in inl (grind (arith, common_steps)))
           | inr streamed ↦ (
               let b = beyond_high (place_with p f feed) r (omega (arith, streamed.above)) s.1 in
               let over = b.1 streamed.above in
               let high : horizon_of p < r.ts = omega (arith, under, over) in
-              let there : k.version r.key r.ts ≡ Some r.after = fits.versions r.key r.ts ∙ kept_above p r.key r.ts high ∙ stands p (is_aborted p r.ts) (write_of p r.ts r.key) (not_both p all r.ts streamed.done) streamed.wrote in
+              let there : k.version r.key r.ts ≡ Some r.after = fits.versions r.key r.ts ∙ kept_above p r.key r.ts high ∙ (rw (not_both p all r.ts streamed.done) streamed.wrote) in
               inr (record { there = there; done = fits.committed r.key r.ts r.after there ∙ streamed.done; inside = streamed.inside; above = streamed.above; later = s.1; low = streamed.low }))
         ],
         λ i. elim i [
@@ -70,9 +58,6 @@ left_are k p all fits f feed is live =
         ],
       );
     })
-  where
-    stands : {a : After} (p : List Effect) (b : Bool) (o : Option After) → b ≡ false → o ≡ Some a → cond b None o ≡ Some a
-    stands p b o e h = rw e h
 
 -- and no other rows are
 pub left_is : (k : Kept) (p : List Effect) → AllAllowed p → IsKeptOf k p → (f : ℕ) (feed : Feed) → feed_of p f ≡ Some feed → is_cancelled p f ≡ false → (rows : List Row)

@@ -1,18 +1,17 @@
 -- A report of what is kept is the live report of the history.
-use Rattle.kept.proofs.Common.{All-contains, All-weaker, AllAllowed, Cancels, Effect, Event, Feed, Has, IsKeptOf, Kept, LiveFeed, Message, Opens, Place, ResolvedRise, Transaction, all_of, and_parts, by_test, closed_of, common_steps, effects_of, feed_of, feed_rises, feeding, feeds_opened, has_filter, is_undecided, last_resolved, legal_allowed, live_feeds, live_is, ltb-false, ltb-true, map-append, not-true, owner_of, place_with, reverse-append, told_to, transaction_with, unopened, write_count}
-use Rattle.std.proofs.Common.{Bool, List, None, Option, Some, [], ap, arith, cond, false, map, not, refl, reverse, subst, sym, true, ℕ, ◌++◌, ◌==◌, ◌∙◌, ◌∷◌, ◌≡◌, ◌≤◌}
-use Rattle.std.specs.Prelude.{Contains, filter, nat_lt, option_map, ◌↔◌}
+use Rattle.kept.proofs.Common.{All-contains, All-weaker, AllAllowed, Effect, Event, Feed, Has, IsKeptOf, Kept, LiveFeed, Message, ResolvedRise, Transaction, all_of, and_parts, common_steps, effects_of, feed_of, feed_rises, feeding, is_undecided, last_resolved, legal_allowed, live_feeds, map-append, not-true, owner_of, place_with, reverse-append, told_to, write_count, Row}
+use Rattle.std.proofs.Common.{List, None, Some, [], ap, arith, false, map, refl, reverse, subst, sym, true, ℕ, ◌++◌, ◌∙◌, ◌∷◌, ◌≡◌, ◌≤◌}
+use Rattle.std.specs.Prelude.{Contains, option_map, ◌↔◌}
 use Rattle.spans.specs.Report.{AreFeeds, AreUndecided, IsFeedReport, IsReport, last_told, protection_report}
 use Rattle.spans.specs.declared.calls.messages.Message.TheVariants as messages
 use Rattle.spans.specs.declared.report.FeedReport.{FeedReport}
 use Rattle.spans.specs.declared.report.Report.{Report}
 use Rattle.spans.specs.declared.report.TransactionReport.{TransactionReport}
-use Rattle.kept.specs.Places.{live_feed}
 use Rattle.kept.specs.Reports.{AreLive, AreOpen, IsKeptReport, IsToldOf, feed_report, if_above, resolved_at}
 use Rattle.kept.specs.StandsFor.{StandsFor}
 use Rattle.kept.proofs.AfterCloses.{open_is}
 use Rattle.kept.proofs.Contained.{contains_has}
-use Rattle.kept.proofs.Counts.{has_live, has_mapped, has_number, versions_count, written_count}
+use Rattle.kept.proofs.Counts.{numbers, has_live, has_mapped, versions_count, written_count, live_falls}
 use Rattle.kept.proofs.Floors.{place_floor_is, placed_by, told_through_is}
 use Rattle.kept.proofs.Rising.{Falls, Rises, has_last, increasing_rises, rises_last, same_rising}
 
@@ -20,12 +19,7 @@ use Rattle.kept.proofs.Rising.{Falls, Rises, has_last, increasing_rises, rises_l
 
 -- a transaction in the table has its owner
 owner_right : (k : Kept) (p : List Effect) → IsKeptOf k p → (t seat : ℕ) → option_map (λ (w : Transaction). w.seat) (k.transaction t) ≡ Some seat → owner_of p t ≡ Some seat
-owner_right k p fits t seat is = by_owner (nat_lt (closed_of p) t) (owner_of p t) (sym (ap (option_map (λ (w : Transaction). w.seat)) (fits.transactions t)) ∙ is)
-  where
-    by_owner : (b : Bool) (o : Option ℕ) → option_map (λ (w : Transaction). w.seat) (cond b (option_map (transaction_with p t) o) None) ≡ Some seat → o ≡ Some seat
-    by_owner false o is = cc
-    by_owner true None is = cc
-    by_owner true (Some s) is = is
+owner_right k p fits t seat is = grind (arith, common_steps)
 
 transactions_are : (k : Kept) (p : List Effect) → AllAllowed p → IsKeptOf k p → (ns : List TransactionReport) → AreOpen k ns → AreUndecided p ns
 transactions_are k p all fits ns open' = record {
@@ -42,32 +36,6 @@ transactions_are k p all fits ns open' = record {
     each t = (λ i. sym (open_is k p all fits t) ∙ (open'.each t).0 i, λ is. (open'.each t).1 (open_is k p all fits t ∙ is))
 
 -- ---- numbers of feeds
-
-abbrev numbers : List LiveFeed → List ℕ
-numbers ws = map (λ (n : LiveFeed). n.number) ws
-
--- a feed that lives was opened
-live_low : (p : List Effect) → AllAllowed p → (f c : ℕ) → Has (live_feed f c) (live_feeds p) → f ≤ feeds_opened p
-live_low p all f c i = grind (arith, common_steps, live_is, by_test, unopened, ltb-true, ltb-false)
-
-falls_filter : (q : LiveFeed → Bool) (ws : List LiveFeed) → Falls (numbers ws) → Falls (numbers (filter q ws))
-falls_filter q [] falls = tt
-falls_filter q (w ∷ ws) falls = let more = falls_filter q ws falls.1 in by_test (q w)
-    (λ is. rw is (λ y i. falls.0 y (still y ws i), more))
-    (λ isnt. rw isnt more)
-  where
-    still : (y : ℕ) (ws : List LiveFeed) → Has y (numbers (filter q ws)) → Has y (numbers ws)
-    still y ws i = let m = has_number y (filter q ws) i in has_mapped (λ (n : LiveFeed). n.number) (live_feed y m.0) ws ((has_filter q (live_feed y m.0) ws).0 m.1).1
-
--- the feeds that live stand with the newest first
-live_falls : (p : List Effect) → AllAllowed p → Falls (numbers (live_feeds p))
-live_falls [] all = tt
-live_falls (Opens f seat kind span cursor ∷ p) all = (
-  λ y i. let m = has_number y (live_feeds p) i in let low : y ≤ feeds_opened p = live_low p all.1 y m.0 m.1 in omega (arith, all.0.0),
-  live_falls p all.1,
-)
-live_falls (Cancels f ∷ p) all = falls_filter (λ (n : LiveFeed). not (n.number == f)) (live_feeds p) (live_falls p all.1)
-live_falls (_ ∷ p) all = live_falls p all.1
 
 back : (w : LiveFeed) (ws : List LiveFeed) → numbers (reverse (w ∷ ws)) ≡ numbers (reverse ws) ++ w.number ∷ []
 back w ws = ap numbers (reverse-append (w ∷ []) ws) ∙ map-append (λ (n : LiveFeed). n.number) (reverse ws) (w ∷ [])
@@ -96,14 +64,7 @@ report_right : (p : List Effect) → AllAllowed p → (f : ℕ) (feed : Feed) �
 report_right p all f feed is = grind (arith, common_steps, resolved_is, told_through_is, place_floor_is)
 
 feed_right : (k : Kept) (p : List Effect) → AllAllowed p → IsKeptOf k p → (n : FeedReport) → option_map (feed_report n.number) (k.feed n.number) ≡ Some n → IsFeedReport false p n
-feed_right k p all fits n is = by_place (k.feed n.number) refl is
-  where
-    by_place : (o : Option Place) → k.feed n.number ≡ o → option_map (feed_report n.number) o ≡ Some n → IsFeedReport false p n
-    by_place None e is = cc
-    by_place (Some place) e is =
-        let l = placed_by k p fits n.number place e in
-        let told : feed_report n.number place ≡ n = cc in
-        subst (IsFeedReport false p) (ap (feed_report n.number) l.3 ∙ told) (report_right p all n.number l.0 l.1)
+feed_right k p all fits n is = grind (arith, common_steps, placed_by, report_right)
 
 feeds_are : (k : Kept) (p : List Effect) → AllAllowed p → IsKeptOf k p → (ns : List FeedReport) → AreLive k.feed ns → AreFeeds false p ns
 feeds_are k p all fits ns live = record {

@@ -1,6 +1,6 @@
 -- Lists of numbers that rise, and lists that fall.
-use Rattle.kept.proofs.Common.{AllByRecursion, Has, Less, common_steps, nat_cmp, nat_tests}
-use Rattle.std.proofs.Common.{List, [], arith, inl, inr, refl, subst, sym, ℕ, ◌++◌, ◌<◌, ◌∷◌, ◌≡◌, ◌⊎◌}
+use Rattle.kept.proofs.Common.{AllByRecursion, Has, Less, common_steps, nat_cmp, nat_tests, AreDistinct}
+use Rattle.std.proofs.Common.{List, [], arith, inl, inr, refl, subst, ℕ, ◌++◌, ◌<◌, ◌∷◌, ◌≡◌, ◌⊎◌}
 use Rattle.std.specs.Prelude.{◌↔◌}
 use Rattle.std.specs.List.Sorted.{IsStrictlyIncreasing, IsStrictlySortedBy}
 use Rattle.std.proofs.lemmas.Map.Keys.{sorted_from_strictly_increasing}
@@ -14,6 +14,11 @@ Rises (x ∷ xs) = ((y : ℕ) → Has y xs → x < y) × Rises xs
 abbrev pub Falls : List ℕ → Type 0
 Falls [] = Unit {0}
 Falls (x ∷ xs) = ((y : ℕ) → Has y xs → y < x) × Falls xs
+
+-- so none stands twice
+pub falls_distinct : (xs : List ℕ) → Falls xs → AreDistinct xs
+falls_distinct [] falls = tt
+falls_distinct (x ∷ xs) falls = (λ i. let no : x < x = falls.0 x i in omega arith, falls_distinct xs falls.1)
 
 -- one more at the end
 pub has_last : (y x : ℕ) (xs : List ℕ) → Has y (xs ++ x ∷ []) ↔ (Has y xs ⊎ (x ≡ y))
@@ -33,10 +38,7 @@ same_rising [] [] r s same = refl
 same_rising [] (y ∷ ys) r s same = absurd ((same y).1 (inl refl))
 same_rising (x ∷ xs) [] r s same = absurd ((same x).0 (inl refl))
 same_rising (x ∷ xs) (y ∷ ys) r s same =
-    let first : x ≡ y = elim ((same x).0 (inl refl)) [
-      | inl here ↦ sym here
-      | inr there ↦ (elim ((same y).1 (inl refl)) [ inl here ↦ here | inr other ↦ (let a : y < x = s.0 x there in let b : x < y = r.0 y other in absurd (omega arith)) ])
-    ] in
+    let a = same x in let b = same y in let first : x ≡ y = grind (arith, common_steps) in
     grind (arith, common_steps, same_rising xs ys r.1 s.1)
 
 less_is : (x y : ℕ) → nat_cmp x y ≡ Less → x < y

@@ -1,6 +1,6 @@
 -- A scan of the kept keys finds what a scan of all written keys finds.
 use Rattle.kept.proofs.Common.{After, AllAllowed, Blocked, Effect, IsIn, IsKeptOf, Kept, Refusal, Reply, Rows, Span, blocked_in, closed_of, committed_value, common_steps, filter_in, filter_rises, filtered_same, first_refusal_or, horizon_of, in_span, is_blocked, keys_rise, newest_is, pairs_alike, pairs_of, pairs_of_some, settled_in, visible, visible_in, written_keys}
-use Rattle.std.proofs.Common.{Bool, List, None, Option, Some, [], ap, arith, inl, inr, map, not, refl, suc, sym, true, zero, ℕ, ◌&&◌, ◌<◌, ◌==◌, ◌∙◌, ◌∷◌, ◌≡◌, ◌≤◌, ◌⊎◌}
+use Rattle.std.proofs.Common.{Bool, List, None, Option, Some, [], ap, arith, inl, inr, map, not, refl, sym, true, ℕ, ◌&&◌, ◌<◌, ◌==◌, ◌∙◌, ◌∷◌, ◌≡◌, ◌≤◌, ◌⊎◌}
 use Rattle.std.specs.Prelude.{filter, is_some}
 use Rattle.kept.specs.Finding.{AreKeysOf, is_seen_blocked, seen}
 use Rattle.kept.proofs.Reading.{blocked_is, blocker_is, seen_value, settled_is}
@@ -59,8 +59,7 @@ scan_is k p all fits t high span keys are =
     rows = Rows (pairs_of (λ x. (visible p x t).after) (filter (in_span span) (written_keys p)))
 
     positive : (n : ℕ) (b : Bool) → (not (n == 0) && b) ≡ true → 0 < n
-    positive zero b is = cc
-    positive (suc n) b is = omega arith
+    positive n b is = grind (arith, common_steps)
 
 -- a scan at a closed timestamp
 pub scan_at_is : (k : Kept) (p : List Effect) → AllAllowed p → IsKeptOf k p → (t : ℕ) → horizon_of p ≤ t → t ≤ closed_of p → (span : Span) (keys : List (List ℕ)) → AreKeysOf k span keys

@@ -1,7 +1,7 @@
 -- The rows that a feed was not told are those beyond its place.
 use Rattle.kept.proofs.Common.{AllAllowed, Effect, Feed, IsFeeding, IsListed, IsRowIn, Message, RisingRows, Row, VersionName, and_from, and_parts, both_ways, closed_of, common_steps, false_from_ne_true, feed_of, in_append, in_list, is_after_name, last_name, list_rises, listed_above, lt-ltb, name_of, place_with, rest_above, rises_parts, rows_clash, rows_in, start_of, told_to}
 use Rattle.std.proofs.Common.{arith}
-use Rattle.std.proofs.Common.{List, refl, inr, None, Option, subst, false, true, Some, inl, sym, ◌≡◌, ◌∷◌, ◌∙◌, ℕ, []}
+use Rattle.std.proofs.Common.{List, refl, inr, None, Option, subst, false, true, Some, inl, sym, ◌≡◌, ◌∷◌, ℕ, []}
 use Rattle.std.specs.Prelude.{◌↔◌}
 use Rattle.spans.specs.Streams.{row_lt}
 use Rattle.kept.specs.Places.{is_beyond}
@@ -13,23 +13,8 @@ only_rows [] [] h k same = refl
 only_rows [] (s ∷ ss) h k same = absurd ((same s).1 (inl refl))
 only_rows (r ∷ rs) [] h k same = absurd ((same r).0 (inl refl))
 only_rows (r ∷ rs) (s ∷ ss) h k same =
-    let e : r ≡ s = first in
-    heads e (only_rows rs ss h.1 k.1 (λ q. (
-      λ i. elim ((same q).0 (inr i)) [ inl here ↦ absurd (let b = h.0 q i in let q' : r ≡ q = e ∙ here in let b' : row_lt r r ≡ true = subst (λ n. row_lt r n ≡ true) (sym q') b in rows_clash r r b' b') | inr there ↦ there ],
-      λ i. elim ((same q).1 (inr i)) [ inl here ↦ absurd (let b = k.0 q i in let q' : s ≡ q = sym e ∙ here in let b' : row_lt s s ≡ true = subst (λ n. row_lt s n ≡ true) (sym q') b in rows_clash s s b' b') | inr there ↦ there ],
-    )))
-  where
-    heads : {r s : Row} {rs ss : List Row} → r ≡ s → rs ≡ ss → (r ∷ rs) ≡ (s ∷ ss)
-    heads e h = rw (e, h) refl
-
-    first : r ≡ s
-    first = elim ((same r).0 (inl refl)) [
-      | inl e ↦ sym e
-      | inr later ↦ elim ((same s).1 (inl refl)) [
-        | inl e ↦ e
-        | inr later' ↦ absurd (rows_clash r s (h.0 s later') (k.0 r later))
-      ]
-    ]
+    let a = same r in let b = same s in let e : r ≡ s = grind (arith, common_steps, rows_clash) in
+    let more : rs ≡ ss = only_rows rs ss h.1 k.1 (λ q. let c = same q in grind (arith, common_steps, rows_clash)) in rw (e, more) refl
 
 -- a row after all that were told comes after the last
 after_all : (ms : List Message) (o : Option VersionName) (r : Row) → is_after_name o r ≡ true → ((s : Row) → IsRowIn s (rows_in ms) → row_lt s r ≡ true) → is_after_name (last_name o ms) r ≡ true

@@ -10,6 +10,7 @@ ghost use Rattle.kept.specs.Replies.{begin_reply, get_reply, abort_reply, read_a
 /// left for a feed.
 ///
 /// It does nothing. Its contract is the theorem.
+#[tactic(auto, using(crate::proofs::Answering::reply_is_answer))]
 pub fn kept_answers()
     ensures begin { (k : Kept) (seat t : ℕ) → Answers k seat (Begin t) (begin_reply k t) }
     ensures get { (k : Kept) (seat t : ℕ) (x : List ℕ) → Answers k seat (Get t x) (get_reply k seat t x) }

@@ -11,6 +11,7 @@ ghost use Rattle.kept.specs.Places.{AreFirsts, AreLeftAt, AreNext, AreParts, fir
 /// at or above a feed's start, which is its cursor, or just below that of an initial one.
 ///
 /// It does nothing. Its contract is the theorem.
+#[tactic(auto, using(crate::proofs::LeftRows::parts_left, crate::proofs::LeftRows::parts_next, crate::proofs::LeftRows::another_none, crate::proofs::LeftRows::resolved_none, crate::proofs::LeftRows::past_none, crate::proofs::LeftRows::placed_above))]
 pub fn rows_left()
     ensures joined { (k : Kept) (place : Place) (first more : List Row) → AreParts k place first more → AreLeftAt k place (first ++ more) }
     ensures next { (k : Kept) (place : Place) (max : ℕ) (first more : List Row) → AreParts k place first more → AreNext k place max (first_of max first more) }

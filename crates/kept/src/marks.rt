@@ -8,6 +8,7 @@ ghost use Rattle.kept.specs.Marks.{AreSameMarks, FindsOther, FindsOwn, IsAddedMa
 /// the version that was found and the next above t.
 ///
 /// It does nothing. Its contract is the theorem.
+#[tactic(auto, using(crate::proofs::Noting::own_noted, crate::proofs::Noting::added_noted, crate::proofs::Noting::merged_noted))]
 pub fn noted_reads()
     ensures own { (k : Kept) (x : List ℕ) (t : ℕ) (next : Option ℕ) (m' : ℕ → Bool) → FindsOwn k x t next → AreSameMarks (k.marked x) m' → IsNoted k x t m' }
     ensures added { (k : Kept) (x : List ℕ) (t : ℕ) (next : Option ℕ) (m' : ℕ → Bool) → FindsOther k x t next → IsAddedMark t (k.marked x) m' → IsNoted k x t m' }

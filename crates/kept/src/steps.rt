@@ -12,6 +12,7 @@ ghost use Rattle.kept.specs.Changes.{IsAlike, IsBegun, IsReadBy, IsScannedBy, Is
 /// kept, and changes it by its effect, or wants memory, leads on.
 ///
 /// It does nothing. Its contract is the theorem.
+#[tactic(auto, using(crate::proofs::AfterBegins::new_is_kept, crate::proofs::Standing::alike_stands, crate::proofs::Staying::alike_self, crate::proofs::Answering::changed_stands, crate::proofs::Answering::step_stands))]
 pub fn kept_steps()
     ensures new { StandsFor nothing_kept [] }
     ensures alike { (k k' : Kept) (h : List Event) → StandsFor k h → IsAlike k k' → StandsFor k' h }

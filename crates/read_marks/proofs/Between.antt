@@ -1,6 +1,6 @@
 -- Readers between two bounds, by the place where those above the lower one begin.
 use Rattle.read_marks.proofs.Common.{AtMost, IsBetween, IsNonDecreasing, common_steps, get_or_default}
-use Rattle.std.proofs.Common.{ℕ, List, Bool, true, false, not, ◌&&◌, ◌≡◌, ◌<◌, ◌≤◌, ◌-◌, ◌↔◌, length, get_or, arith, Option, None, Some, refl, ◌∙◌, slice_get}
+use Rattle.std.proofs.Common.{ℕ, List, Bool, true, false, not, ◌≡◌, ◌<◌, ◌≤◌, ◌-◌, ◌↔◌, length, get_or, arith, Option, None, Some, ◌∙◌, slice_get}
 use Rattle.std.proofs.lemmas.Option.{get_or_from_slice_get, slice_get_within}
 use Rattle.read_marks.specs.Readers.{SplitsAt, is_kept, is_reader}
 use Rattle.read_marks.proofs.Splitting.{from_place, reader_is}
@@ -13,20 +13,14 @@ module _ (xs : List ℕ) (x : ℕ) (is : slice_get xs (length xs - 1) ≡ Some x
   pub none_above_latest : (t : ℕ) (to : Option ℕ) → IsNonDecreasing xs → x ≤ t → IsBetween (is_reader xs) t to → ⊥
   none_above_latest t to up low b =
       let c = (reader_is xs b.reader).0 b.mark in
-      let lt : c.0 < length xs = c.1 in
-      let e : get_or xs c.0 x ≡ b.reader = get_or_default xs c.0 x b.reader c.1 ∙ c.2 in
-      let u : get_or xs c.0 x ≤ get_or xs (length xs - 1) x = up c.0 (length xs - 1) x (omega arith) (omega arith) in
-      let s : get_or xs (length xs - 1) x ≡ x = get_or_from_slice_get xs (length xs - 1) x x is in
-      let h : t < b.reader = b.higher in
-      omega arith
+      omega (arith, c.1, get_or_default xs c.0 x b.reader c.1 ∙ c.2, up c.0 (length xs - 1) x (omega (arith, c.1)) (omega (arith, c.1)), get_or_from_slice_get xs (length xs - 1) x x is, b.higher)
 
   pub has_latest : (t : ℕ) → t < x → IsBetween (is_reader xs) t None
   has_latest t above = record { reader = x; mark = (reader_is xs x).1 (length xs - 1, latest_inside, get_or_from_slice_get xs (length xs - 1) x x is); higher = above; low = tt }
 
   pub place_inside : (t at : ℕ) → SplitsAt xs t at → t < x → at < length xs
   place_inside t at p above =
-      let h : at ≤ length xs - 1 = from_place xs t at (length xs - 1) x p latest_inside (get_or_from_slice_get xs (length xs - 1) x x is) above in
-      omega (arith, latest_inside)
+      omega (arith, latest_inside, from_place xs t at (length xs - 1) x p latest_inside (get_or_from_slice_get xs (length xs - 1) x x is) above)
 
 pub has_first : (xs : List ℕ) (t at : ℕ) (to : Option ℕ) (x : ℕ) → SplitsAt xs t at → at < length xs → x ≡ get_or xs at x → AtMost to x → IsBetween (is_reader xs) t to
 has_first xs t at to x p lt is up = grind (arith, common_steps)
@@ -34,15 +28,8 @@ has_first xs t at to x p lt is up = grind (arith, common_steps)
 pub first_up_to : (xs : List ℕ) (t at to x : ℕ) → IsNonDecreasing xs → SplitsAt xs t at → at < length xs → x ≡ get_or xs at x → IsBetween (is_reader xs) t (Some to) → x ≤ to
 first_up_to xs t at to x up p lt is b =
     let c = (reader_is xs b.reader).0 b.mark in
-    let h : at ≤ c.0 = from_place xs t at c.0 b.reader p c.1 c.2 b.higher in
-    let u : get_or xs at x ≤ get_or xs c.0 x = up at c.0 x h c.1 in
-    grind (arith, common_steps)
-
-and-true : (a b : Bool) → (a && b) ≡ true → (a ≡ true) × (b ≡ true)
-and-true true b h = (refl, h)
-and-true false b h = cc
+    let u : get_or xs at x ≤ get_or xs c.0 x = up at c.0 x (from_place xs t at c.0 b.reader p c.1 c.2 b.higher) c.1 in grind (arith, common_steps)
 
 -- none is kept exactly where none is above what is forgotten
 pub none_kept : (xs : List ℕ) (t : ℕ) (b : Bool) → (b ≡ true) ↔ IsBetween (is_reader xs) t None → (not b ≡ true) ↔ ((j : ℕ) → is_kept t xs j ≡ false)
-none_kept xs t true is = grind (arith, common_steps)
-none_kept xs t false is = grind (arith, common_steps)
+none_kept xs t b is = grind (arith, common_steps)

@@ -1,28 +1,23 @@
 -- Each reader of the starts fits 64 bits.
-use Rattle.std.proofs.Common.{ℕ, List, Bool, true, false, cond, Result, Ok, Err, ◌≡◌, ◌≤◌, arith, subst, sym, map, max, nat_le}
+use Rattle.read_marks.proofs.Common.{common_steps}
+use Rattle.std.proofs.Common.{ℕ, List, Bool, false, cond, Result, Ok, Err, ◌≡◌, ◌≤◌, arith, subst, sym, map, max, nat_le}
 use Rattle.std.specs.Prelude.{OnErr, OnOk}
 use Rattle.read_marks.specs.Starts.{AreLow, reaches, step_at}
 use Rattle.read_marks.specs.Spans.{raised}
-use Rattle.read_marks.proofs.Raising.{Entries, forgotten_gone, picked_at, step-written}
+use Rattle.read_marks.proofs.Raising.{Entries, forgotten_gone, step-written}
 
 -- where each key has the latest reader that it had
 pub low_alike : (es fs : Entries) → ((x : List ℕ) → step_at (reaches x) 0 fs ≡ step_at (reaches x) 0 es) → AreLow es → AreLow fs
 low_alike es fs same low x = subst (λ n. n ≤ 18446744073709551615) (sym (same x)) (low x)
 
 either : (t : Bool) (a b : ℕ) → a ≤ 18446744073709551615 → b ≤ 18446744073709551615 → cond t a b ≤ 18446744073709551615
-either true a b first second = first
-either false a b first second = second
+either t a b first second = grind (arith, common_steps)
 
 pub low_raised : (p : List ℕ → Bool) (ts : ℕ) (es fs : Entries) → fs ≡ raised p ts es → ts ≤ 18446744073709551615 → AreLow es → AreLow fs
-low_raised p ts es fs is new low x =
-    let old : step_at (reaches x) 0 es ≤ 18446744073709551615 = low x in
-    subst (λ ds. step_at (reaches x) 0 ds ≤ 18446744073709551615) (sym is)
-    (subst (λ n. n ≤ 18446744073709551615) (sym (step-written p (reaches x) (λ v. max v ts) false 0 es)) (either (picked_at p (reaches x) false es) _ _ (omega arith) old))
+low_raised p ts es fs is new low x = let old = low x in let now = step-written p (reaches x) (λ v. max v ts) false 0 es in grind (arith, common_steps)
 
 pub low_forgotten : (through : ℕ) (es fs : Entries) → fs ≡ map (λ e. (e.0, cond (nat_le e.1 through) 0 e.1)) es → AreLow es → AreLow fs
-low_forgotten through es fs is low x =
-    subst (λ ds. step_at (reaches x) 0 ds ≤ 18446744073709551615) (sym is)
-    (subst (λ n. n ≤ 18446744073709551615) (sym (forgotten_gone (reaches x) through es)) (either (nat_le (step_at (reaches x) 0 es) through) 0 (step_at (reaches x) 0 es) (omega arith) (low x)))
+low_forgotten through es fs is low x = let old = low x in let now = forgotten_gone (reaches x) through es in grind (arith, common_steps)
 
 -- of a call that may fail, each way
 pub either_way : {A E P : Type 0} (r : Result A E) → OnOk r P → OnErr r P → P

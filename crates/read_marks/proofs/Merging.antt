@@ -29,15 +29,13 @@ same_place xs above until a b p q le bound none = grind (arith, common_steps)
 
 -- two tests that pass for the same
 pub same_test : (a b : Bool) → (a ≡ true → b ≡ true) → (b ≡ true → a ≡ true) → b ≡ a
-same_test true b f g = f refl
-same_test false true f g = sym (g refl)
-same_test false false f g = refl
+same_test a b f g = grind (arith, common_steps)
 
 merged_piece : (xs : List ℕ) (above until ts a b top : ℕ) → SplitsAt xs above a → SplitsAt xs until b → a ≤ length xs → above < ts → IsGreatest xs above until ts top → IsPiece (is_reader xs) (is_reader ((take a xs ++ top ∷ []) ++ drop b xs)) ts above until
 merged_piece xs above until ts a b top p q bound gap g = record {
   top = top;
   marked = to_reader (Contains-append_left (take a xs ++ top ∷ []) (drop b xs) top (Contains-push (take a xs) top));
-  is = which g.one;
+  is = (let one = g.one in let r = reader_is xs top in grind (arith, common_steps));
   least = g.past_ts;
   most = g.high;
   greatest = λ n m low high. g.past n ((reader_is xs n).0 m) low high;
@@ -45,22 +43,11 @@ merged_piece xs above until ts a b top p q bound gap g = record {
   inside = λ n low high m. only n low high (from_reader m);
 }
   where
-    ys : List ℕ
-    ys = (take a xs ++ top ∷ []) ++ drop b xs
-
     to_reader : {n : ℕ} → Contains ((take a xs ++ top ∷ []) ++ drop b xs) n → is_reader ((take a xs ++ top ∷ []) ++ drop b xs) n ≡ true
     to_reader {n} c = (reader_is ((take a xs ++ top ∷ []) ++ drop b xs) n).1 c
 
     from_reader : {n : ℕ} → is_reader ((take a xs ++ top ∷ []) ++ drop b xs) n ≡ true → (Contains (take a xs) n ⊎ (top ≡ n)) ⊎ Contains (drop b xs) n
-    from_reader {n} m = front (Contains-append_cases (take a xs ++ top ∷ []) (drop b xs) n ((reader_is ((take a xs ++ top ∷ []) ++ drop b xs) n).0 m))
-      where
-        front : Contains (take a xs ++ top ∷ []) n ⊎ Contains (drop b xs) n → (Contains (take a xs) n ⊎ (top ≡ n)) ⊎ Contains (drop b xs) n
-        front (inl c) = inl (Contains-push_cases (take a xs) top n c)
-        front (inr c) = inr c
-
-    which : (top ≡ ts) ⊎ Contains xs top → (top ≡ ts) ⊎ (is_reader xs top ≡ true)
-    which (inl e) = inl e
-    which (inr c) = inr ((reader_is xs top).1 c)
+    from_reader {n} m = elim (Contains-append_cases (take a xs ++ top ∷ []) (drop b xs) n ((reader_is ((take a xs ++ top ∷ []) ++ drop b xs) n).0 m)) [ inl c ↦ inl (Contains-push_cases (take a xs) top n c) | inr c ↦ inr c ]
 
     kept : (n : ℕ) → Contains xs n → (n ≤ above) ⊎ (until < n) → Contains ((take a xs ++ top ∷ []) ++ drop b xs) n
     kept n c (inl low) = Contains-append_left (take a xs ++ top ∷ []) (drop b xs) n (Contains-append_left (take a xs) (top ∷ []) n (to_front xs above a n p bound c low))
@@ -69,8 +56,7 @@ merged_piece xs above until ts a b top p q bound gap g = record {
     stays : (n : ℕ) → (n ≤ above) ⊎ (until < n) → (Contains (take a xs) n ⊎ (top ≡ n)) ⊎ Contains (drop b xs) n → is_reader xs n ≡ true
     stays n out (inl (inl c)) = (reader_is xs n).1 (in_front xs above a n p bound c).0
     stays n out (inr c) = (reader_is xs n).1 (in_back xs until b n q c).0
-    stays n (inl low) (inl (inr e)) = let l : above < top = g.low in absurd (omega arith)
-    stays n (inr high) (inl (inr e)) = let l : top ≤ until = g.high in absurd (omega arith)
+    stays n out (inl (inr e)) = absurd (elim out [ inl low ↦ omega (arith, g.low) | inr high ↦ omega (arith, g.high) ])
 
     only : (n : ℕ) → above < n → n ≤ until → (Contains (take a xs) n ⊎ (top ≡ n)) ⊎ Contains (drop b xs) n → n ≡ top
     only n low high (inl (inl c)) = let h = in_front xs above a n p bound c in let l : n ≤ above = h.1 in absurd (omega arith)
@@ -90,7 +76,7 @@ greatest_some xs above until ts a b w top up p q low high some bound is sum =
     record {
       low = omega arith;
       high = omega arith;
-      one = which (max_cases w ts top sum) own;
+      one = (let either = max_cases w ts top sum in grind (arith, common_steps));
       past_ts = omega arith;
       past = λ i c above-i until-i.
           let ci : c.0 < length xs = c.1 in
@@ -101,10 +87,6 @@ greatest_some xs above until ts a b w top up p q low high some bound is sum =
           let f : get_or xs (b - 1) i ≡ get_or xs (b - 1) w = get_or_default xs (b - 1) i w lt in
           omega arith;
     }
-  where
-    which : (top ≡ ts) ⊎ (w ≡ top) → Contains xs w → (top ≡ ts) ⊎ Contains xs top
-    which (inl e) c = inl e
-    which (inr e) c = inr (subst (λ (i : ℕ). Contains xs i) e c)
 
 -- the greatest, where none does
 greatest_none : (xs : List ℕ) (above until ts a b : ℕ) → SplitsAt xs above a → SplitsAt xs until b → above < ts → ts ≤ until → b ≤ a → IsGreatest xs above until ts ts

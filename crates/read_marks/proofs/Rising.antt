@@ -1,24 +1,15 @@
 -- The latest readers of some starts rise, one start after another.
 use Rattle.read_marks.proofs.Common.{AllByRecursion, IsStrictlySortedBy, Less, by_test, common_steps, filter, has, has_filtered, is_at, is_eq, key_cmp, key_itself, keys_of, lookup, or_right, same_key, set_value, take_more}
-use Rattle.std.proofs.Common.{ℕ, List, [], ◌∷◌, ◌++◌, Bool, true, false, cond, ◌||◌, ◌&&◌, ◌≡◌, ◌<◌, ◌+◌, refl, sym, ap, ◌∙◌, length, take, get_or, arith, subst, max, Option, Some, None}
+use Rattle.std.proofs.Common.{ℕ, List, [], ◌∷◌, ◌++◌, Bool, true, false, ◌||◌, ◌≡◌, ◌<◌, ◌+◌, refl, sym, ap, ◌∙◌, length, take, get_or, arith, subst, max, Option, Some, None}
 use Rattle.std.specs.Prelude.{bytes_eq}
 use Rattle.std.proofs.lemmas.Map.Text.{is_eq-slice_cmp}
 use Rattle.read_marks.specs.Spans.{raised, starts_in}
 use Rattle.read_marks.proofs.Raising.{Entries, picks}
 
-max-twice : (v ts : ℕ) → max (max v ts) ts ≡ max v ts
-max-twice v ts = grind arith
-
 -- first those of q, and then those of p
 pub raised_twice : (p q : List ℕ → Bool) (ts : ℕ) (es : Entries) → raised p ts (raised q ts es) ≡ raised (λ x. q x || p x) ts es
 raised_twice p q ts [] = refl
-raised_twice p q ts (e ∷ es) = rw (raised_twice p q ts es) (ap (λ v. (e.0, v) ∷ raised (λ x. q x || p x) ts es) (both (p e.0) (q e.0)))
-  where
-    both : (a b : Bool) → cond a (max (cond b (max e.1 ts) e.1) ts) (cond b (max e.1 ts) e.1) ≡ cond (b || a) (max e.1 ts) e.1
-    both true true = max-twice e.1 ts
-    both true false = refl
-    both false true = refl
-    both false false = refl
+raised_twice p q ts (e ∷ es) = grind (arith, common_steps, raised_twice p q ts es)
 
 -- tests that agree on all starts
 pub raised_alike : (p q : List ℕ → Bool) (ts : ℕ) (es : Entries) → ((x : List ℕ) → has x (keys_of es) ≡ true → p x ≡ q x) → raised p ts es ≡ raised q ts es
@@ -29,22 +20,17 @@ raised_alike p q ts (e ∷ es) alike = grind (arith, common_steps, has, key_itse
 none-raised : (k : List ℕ) (ts : ℕ) (es : Entries) → AllByRecursion (λ q. key_cmp k q ≡ Less) (keys_of es) → es ≡ raised (λ x. bytes_eq k x) ts es
 none-raised k ts [] above = refl
 none-raised k ts (e ∷ es) above =
-    let off : bytes_eq k e.0 ≡ false = sym (is_eq-slice_cmp k e.0) ∙ ap is_eq above.0 in
-    rw off (ap (λ fs. e ∷ fs) (none-raised k ts es above.1))
+    let off : bytes_eq k e.0 ≡ false = sym (is_eq-slice_cmp k e.0) ∙ ap is_eq above.0 in rw off (ap (λ fs. e ∷ fs) (none-raised k ts es above.1))
 
 -- one start alone
 pub raised_one : (k : List ℕ) (v ts : ℕ) (es : Entries) → IsStrictlySortedBy key_cmp (keys_of es) → lookup (is_at (key_cmp k)) es ≡ Some v → set_value (is_at (key_cmp k)) es (max v ts) ≡ raised (λ x. bytes_eq k x) ts es
 unfolding IsStrictlySortedBy
 raised_one k v ts [] sorted found = cc
 raised_one k v ts (e ∷ es) sorted found = by_test (is_at (key_cmp k) e.0)
-    (λ here.
-    let same : bytes_eq k e.0 ≡ true = sym (is_eq-slice_cmp k e.0) ∙ here in
-    let value : Some e.1 ≡ Some v = sym (rw here refl) ∙ found in
-    let is : e.1 ≡ v = cc in
+    (λ here. let same : bytes_eq k e.0 ≡ true = sym (is_eq-slice_cmp k e.0) ∙ here in
     let key : k ≡ e.0 = same_key k e.0 same in
-    rw (here, same, is) (ap (λ fs. (e.0, max v ts) ∷ fs) (none-raised k ts es (subst (λ x. AllByRecursion (λ q. key_cmp x q ≡ Less) (keys_of es)) (sym key) sorted.0))))
-    (λ there.
-    grind (arith, common_steps, is_eq-slice_cmp, raised_one k v ts es sorted.1))
+    let rest = none-raised k ts es (subst (λ x. AllByRecursion (λ q. key_cmp x q ≡ Less) (keys_of es)) (sym key) sorted.0) in grind (arith, common_steps))
+    (λ there. grind (arith, common_steps, is_eq-slice_cmp, raised_one k v ts es sorted.1))
 
 pub raised_none : (k : List ℕ) (ts : ℕ) (es : Entries) → lookup (is_at (key_cmp k)) es ≡ None → es ≡ raised (λ x. bytes_eq k x) ts es
 raised_none k ts [] none = refl
@@ -54,19 +40,11 @@ raised_none k ts (e ∷ es) none = grind (arith, common_steps, by_test, is_eq-sl
 
 pub raised_nothing : (ts : ℕ) (es : Entries) → es ≡ raised (λ x. false) ts es
 raised_nothing ts [] = refl
-raised_nothing ts (e ∷ es) = ap (λ fs. e ∷ fs) (raised_nothing ts es)
+raised_nothing ts (e ∷ es) = grind (arith, common_steps, raised_nothing ts es)
 
 has-push : (x k : List ℕ) (ks : List (List ℕ)) → has x (ks ++ k ∷ []) ≡ (has x ks || bytes_eq k x)
-has-push x k [] = or-false (bytes_eq k x)
-  where
-    or-false : (b : Bool) → (b || false) ≡ b
-    or-false true = refl
-    or-false false = refl
-has-push x k (j ∷ ks) = ap (λ b. bytes_eq j x || b) (has-push x k ks) ∙ grouped (bytes_eq j x) (has x ks) (bytes_eq k x)
-  where
-    grouped : (a b c : Bool) → (a || (b || c)) ≡ ((a || b) || c)
-    grouped true b c = refl
-    grouped false b c = refl
+has-push x k [] = grind (arith, common_steps)
+has-push x k (j ∷ ks) = grind (arith, common_steps, has-push x k ks)
 
 pub raised_more : (starts : List (List ℕ)) (i : ℕ) (k : List ℕ) (ts : ℕ) (es fs gs : Entries) → i < length starts → k ≡ get_or starts i k → fs ≡ raised (λ x. has x (take i starts)) ts es → gs ≡ raised (λ x. bytes_eq k x) ts fs
     → gs ≡ raised (λ x. has x (take (i + 1) starts)) ts es
@@ -79,8 +57,4 @@ keys-filtered p [] = refl
 keys-filtered p (e ∷ es) = grind (arith, common_steps, keys-filtered p es)
 
 pub raised_range : (lo : List ℕ) (hi : Option (List ℕ)) (ts : ℕ) (es : Entries) → raised (λ x. has x (keys_of (starts_in lo hi es))) ts es ≡ raised (picks lo hi) ts es
-raised_range lo hi ts es = raised_alike _ _ ts es (λ x among. ap (has x) (keys-filtered (picks lo hi) es) ∙ has_filtered (picks lo hi) x (keys_of es) ∙ ap (λ b. picks lo hi x && b) among ∙ and-true (picks lo hi x))
-  where
-    and-true : (b : Bool) → (b && true) ≡ b
-    and-true true = refl
-    and-true false = refl
+raised_range lo hi ts es = raised_alike _ _ ts es (λ x among. let e = keys-filtered (picks lo hi) es in let f = has_filtered (picks lo hi) x (keys_of es) in grind (arith, common_steps))

@@ -1,6 +1,6 @@
 -- A rising list of readers, divided at a number.
 use Rattle.read_marks.proofs.Common.{Contains, common_steps, eqb-true, filter, get_or-drop, is_member-Decides, is_member-filter, le-ltb, nat_eq_equiv, unsigned_Decides}
-use Rattle.std.proofs.Common.{ℕ, zero, suc, List, [], ◌∷◌, Bool, true, false, ◌&&◌, cond, nat_lt, refl, lt-ltb, ◌≡◌, ◌<◌, ◌≤◌, ◌+◌, ◌-◌, length, get_or, take, drop, leb-true, leb-false, arith, ap, ◌∙◌, Decides, length-drop}
+use Rattle.std.proofs.Common.{ℕ, zero, suc, List, [], ◌∷◌, ◌&&◌, nat_lt, refl, lt-ltb, ◌≡◌, ◌<◌, ◌≤◌, ◌-◌, length, get_or, take, drop, leb-true, leb-false, arith, ap, ◌∙◌, Decides, length-drop}
 use Rattle.read_marks.specs.Readers.{is_reader, SplitsAt}
 
 pub reader_is : (xs : List ℕ) (j : ℕ) → Decides (is_reader xs j) (Contains xs j)
@@ -19,17 +19,10 @@ pub in_back : (xs : List ℕ) (t at j : ℕ) → SplitsAt xs t at → Contains (
 in_back xs t at j p c = grind (arith, common_steps)
 
 pub to_back : (xs : List ℕ) (t at j : ℕ) → SplitsAt xs t at → Contains xs j → t < j → Contains (drop at xs) j
-to_back xs t at j p c above =
-    let h : at ≤ c.0 = from_place xs t at c.0 j p c.1 c.2 above in
-    let lt : c.0 < length xs = c.1 in
-    let n : at + (c.0 - at) ≡ c.0 = omega arith in
-    (c.0 - at, omega (arith, length-drop at xs), get_or-drop at xs (c.0 - at) j ∙ ap (λ i. get_or xs i j) n ∙ c.2)
+to_back xs t at j p c above = let h = from_place xs t at c.0 j p c.1 c.2 above in let e = get_or-drop at xs (c.0 - at) j in (c.0 - at, omega (arith, length-drop at xs), grind (arith, common_steps))
 
 pub to_front : (xs : List ℕ) (t at j : ℕ) → SplitsAt xs t at → at ≤ length xs → Contains xs j → j ≤ t → Contains (take at xs) j
 to_front xs t at j p bound c low = grind (arith, common_steps)
-
-above-turn : (x : ℕ) (xs : List ℕ) (t : ℕ) (b : Bool) → nat_lt t x ≡ b → b ≡ true → drop 0 xs ≡ filter (nat_lt t) xs → x ∷ xs ≡ cond (nat_lt t x) (x ∷ filter (nat_lt t) xs) (filter (nat_lt t) xs)
-above-turn x xs t b is high more = rw (is, high) (ap (λ ys. x ∷ ys) more)
 
 -- those above t are the rest
 pub filter_above : (xs : List ℕ) (t at : ℕ) → SplitsAt xs t at → drop at xs ≡ filter (nat_lt t) xs
@@ -37,16 +30,10 @@ filter_above [] t zero p = refl
 filter_above [] t (suc at) p = refl
 filter_above (x ∷ xs) t zero p =
     let above : t < x = leb-false _ _ (p.1 0 x (omega arith) (omega arith)) in
-    above-turn x xs t (nat_lt t x) refl (lt-ltb t x above) (filter_above xs t 0 (λ k d low lt. absurd (omega arith), λ k d low lt. p.1 (suc k) d (omega arith) (omega arith)))
+    rw (lt-ltb t x above) (ap (λ ys. x ∷ ys) (filter_above xs t 0 (λ k d low lt. absurd (omega arith), λ k d low lt. p.1 (suc k) d (omega arith) (omega arith))))
 filter_above (x ∷ xs) t (suc at) p =
     let low : x ≤ t = leb-true _ _ (p.0 0 x (omega arith) (omega arith)) in
     rw (le-ltb t x low) (filter_above xs t at (λ k d low lt. p.0 (suc k) d (omega arith) (omega arith), λ k d low lt. p.1 (suc k) d (omega arith) (omega arith)))
 
-and-turn : (a b : Bool) → (b && a) ≡ (a && b)
-and-turn true true = refl
-and-turn true false = refl
-and-turn false true = refl
-and-turn false false = refl
-
 pub filtered_reader : (t : ℕ) (xs : List ℕ) (j : ℕ) → is_reader (filter (nat_lt t) xs) j ≡ (nat_lt t j && is_reader xs j)
-filtered_reader t xs j = is_member-filter nat_eq_equiv (nat_lt t) j (λ x same. ap (nat_lt t) (eqb-true j x same)) xs ∙ and-turn (nat_lt t j) (is_reader xs j)
+filtered_reader t xs j = is_member-filter nat_eq_equiv (nat_lt t) j (λ x same. ap (nat_lt t) (eqb-true j x same)) xs ∙ grind (arith, common_steps)

@@ -1,6 +1,6 @@
 -- Step functions over entries that are sorted by an order.
-use Rattle.std.proofs.Common.{List, [], ◌∷◌, ◌++◌, Bool, true, false, cond, not, ◌≡◌, refl, sym, ap, ◌∙◌, Option, Some, None}
-use Rattle.read_marks.proofs.Common.{AllByRecursion, Equal, Greater, IsStrictlySortedBy, IsTotalOrder, Less, Ordering, filter, insert_entry, is_at, is_eq, is_le, is_lt, keys_of, lookup, match_ordering, remove_entry}
+use Rattle.std.proofs.Common.{List, [], ◌∷◌, ◌++◌, Bool, false, cond, not, ◌≡◌, refl, sym, ap, ◌∙◌, Option, Some, None, arith}
+use Rattle.read_marks.proofs.Common.{AllByRecursion, Equal, Greater, IsStrictlySortedBy, IsTotalOrder, Less, Ordering, filter, insert_entry, is_at, is_eq, is_le, is_lt, keys_of, lookup, match_ordering, remove_entry, common_steps}
 use Rattle.read_marks.specs.Spans.{step_at}
 
 -- the value of the last entry
@@ -21,13 +21,9 @@ none-filter : {K V : Type 0} (p : K → Bool) (es : List (K × V)) → AllByRecu
 none-filter p [] h = refl
 none-filter p (e ∷ es) h = rw (h.0) (none-filter p es h.1)
 
-step-cases : {K V : Type 0} (p : K → Bool) (d : V) (e : K × V) (es : List (K × V)) (b : Bool) → p e.0 ≡ b → (b ≡ false → filter (λ f. p f.0) es ≡ []) → step_at p e.1 es ≡ last_or e.1 (filter (λ f. p f.0) es) → step_at p d (e ∷ es) ≡ last_or d (filter (λ f. p f.0) (e ∷ es))
-step-cases p d e es true is none more = rw is more
-step-cases p d e es false is none more = rw (is, none refl) refl
-
 step_at-filter : {K V : Type 0} (p : K → Bool) (d : V) (es : List (K × V)) → ComeFirst p es → step_at p d es ≡ last_or d (filter (λ f. p f.0) es)
 step_at-filter p d [] h = refl
-step_at-filter p d (e ∷ es) h = step-cases p d e es (p e.0) refl (λ f. none-filter p es (h.0 f)) (step_at-filter p e.1 es h.1)
+step_at-filter p d (e ∷ es) h = let none = none-filter p es in grind (arith, common_steps, step_at-filter p e.1 es)
 
 pub step_at-last : {K V : Type 0} (p : K → Bool) (d : V) (es r t : List (K × V)) (e : K × V) → ComeFirst p es → r ≡ filter (λ f. p f.0) es → r ≡ t ++ e ∷ [] → step_at p d es ≡ e.1
 step_at-last p d es r t e first is last = step_at-filter p d es first ∙ ap (last_or d) (sym is ∙ last) ∙ last_or-end d t e
@@ -36,9 +32,7 @@ pub step_at-none : {K V : Type 0} (p : K → Bool) (d : V) (es r : List (K × V)
 step_at-none p d es r first is last = step_at-filter p d es first ∙ ap (last_or d) (sym is ∙ last)
 
 pub less-from : (r : Ordering) → not (is_lt r) ≡ false → r ≡ Less
-less-from Less h = refl
-less-from Equal h = cc
-less-from Greater h = cc
+less-from r h = grind (arith, common_steps)
 
 module _ {K V : Type 0} {R : K → K → Ordering} (o : IsTotalOrder R) where
   above-all : (x k : K) (es : List (K × V)) → R x k ≡ Less → AllByRecursion (λ y. R k y ≡ Less) (keys_of es) → AllByRecursion (λ f. R x f.0 ≡ Less) es
@@ -61,13 +55,8 @@ module _ {K V : Type 0} {R : K → K → Ordering} (o : IsTotalOrder R) where
 
   -- those below a key come first
   before-turn : (x : K) (e : K × V) (es : List (K × V)) (r : Ordering) → R x e.0 ≡ r → not (is_le r) ≡ false → AllByRecursion (λ y. R e.0 y ≡ Less) (keys_of es) → AllByRecursion (λ f. R x f.0 ≡ Less) es
-  before-turn x e es Less is past later = above-all x e.0 es is later
-  before-turn x e es Equal is past later = alike x e es is later
-    where
-      alike : (x : K) (e : K × V) (es : List (K × V)) → R x e.0 ≡ Equal → AllByRecursion (λ y. R e.0 y ≡ Less) (keys_of es) → AllByRecursion (λ f. R x f.0 ≡ Less) es
-      alike x e [] is later = tt
-      alike x e (f ∷ es) is later = (o.congr x e.0 f.0 is ∙ later.0, alike x e es is later.1)
-  before-turn x e es Greater is past later = cc
+  before-turn x e [] r is past later = tt
+  before-turn x e (f ∷ es) r is past later = (grind (arith, common_steps, o.trans x e.0 f.0, o.congr x e.0 f.0), before-turn x e es r is past later.1)
 
   pub ComeFirst-before : (x : K) (es : List (K × V)) → IsStrictlySortedBy R (keys_of es) → ComeFirst (λ k. not (is_le (R x k))) es
   unfolding IsStrictlySortedBy
@@ -84,8 +73,7 @@ module _ {K V : Type 0} {R : K → K → Ordering} (o : IsTotalOrder R) where
 
   -- a new start that has the value which its place had
   before-first : (b x : K) (v d : V) (e : K × V) (es : List (K × V)) (t : Bool) → not (is_lt (R x b)) ≡ t → R b e.0 ≡ Less → v ≡ d → cond t (step x v (e ∷ es)) d ≡ step x d (e ∷ es)
-  before-first b x v d e es true is lt same = rw same refl
-  before-first b x v d e es false is lt same = rw (o.trans x b e.0 (less-from (R x b) is) lt) refl
+  before-first b x v d e es t is lt same = grind (arith, common_steps, o.trans x b e.0, less-from (R x b))
 
   insert-cases : (b : K) (v d : V) (x : K) (e : K × V) (es more : List (K × V)) (r : Ordering) → R b e.0 ≡ r → is_eq r ≡ false → v ≡ cond (not (is_lt r)) (step b e.1 es) d
       → (v ≡ step b e.1 es → step x e.1 more ≡ step x e.1 es) → step x d (match_ordering r ((b, v) ∷ e ∷ es) ((e.0, v) ∷ es) (e ∷ more)) ≡ step x d (e ∷ es)
@@ -94,11 +82,7 @@ module _ {K V : Type 0} {R : K → K → Ordering} (o : IsTotalOrder R) where
   insert-cases b v d x e es more Greater is apart val ih = ap (λ w. cond (not (is_lt (R x e.0))) w d) (ih val)
 
   pub step-insert : (b : K) (v d : V) (x : K) (es : List (K × V)) → AllByRecursion (λ e. is_eq (R b e.0) ≡ false) es → v ≡ step b d es → step x d (insert_entry R es b v) ≡ step x d es
-  step-insert b v d x [] apart val = start (not (is_lt (R x b))) val
-    where
-      start : (t : Bool) → v ≡ d → cond t v d ≡ d
-      start true same = same
-      start false same = refl
+  step-insert b v d x [] apart val = grind (arith, common_steps)
   step-insert b v d x (e ∷ es) apart val =
       insert-cases b v d x e es (insert_entry R es b v) (R b e.0) refl apart.0 val (λ same. step-insert b v e.1 x es apart.1 same)
 
@@ -108,8 +92,7 @@ module _ {K V : Type 0} {R : K → K → Ordering} (o : IsTotalOrder R) where
   step-unreached x d (e ∷ es) h = rw h.0 refl
 
   same-value : (x : K) (d : V) (e : K × V) (es : List (K × V)) (t : Bool) → not (is_lt (R x e.0)) ≡ t → e.1 ≡ d → AllByRecursion (λ y. R e.0 y ≡ Less) (keys_of es) → step x d es ≡ cond t (step x e.1 es) d
-  same-value x d e es true is same later = rw same refl
-  same-value x d e es false is same later = step-unreached x d es (above-all x e.0 es (less-from (R x e.0) is) later)
+  same-value x d e es t is same later = let none = step-unreached x d es in let above = above-all x e.0 es in grind (arith, common_steps, less-from (R x e.0))
 
   none-some : (o : Option V) (v : V) → o ≡ None → o ≡ Some v → ⊥
   none-some o v h g = cc

@@ -1,7 +1,7 @@
-use Rattle.std.proofs.Common.{ap, arith, is_some, refl, ◌+◌, ◌∙◌}
+use Rattle.std.proofs.Common.{arith, ◌+◌}
 use Rattle.closing.proofs.Common.{contains, get, nat_cmp}
 use Rattle.closing.specs.Ties.{pair_cmp}
-use Rattle.closing.proofs.Numbers.{insert_last, newest_push, none_beyond, number_stands, numbered_push}
+use Rattle.closing.proofs.Numbers.{insert_last, none_beyond, numbered_push}
 use Rattle.closing.proofs.Tying.{alike_again, alike_put}
 use Rattle.closing.proofs.closing.Closing.protect.Goals as goal
 
@@ -20,15 +20,3 @@ invariant_of-self-in-Err c = let made = c.self.inside.made in let tied = c.self.
   each = rw c.in-Err.ensures.err (alike_again (contains pair_cmp c.self.inside.by_timestamp) (contains pair_cmp c.insert.new.self) (contains pair_cmp c.remove.new.self) (get nat_cmp c.self.inside.by_number) c.args.t (made + 1)
       (none_beyond made (made + 1) c.self.inside.by_number.entries tied.numbered (omega arith)) tied.each c.in_ok-insert.ensures.updates.0 c.remove.ensures.updates.0);
 }
-
-pub returns-in-Ok-clause-fresh : goal.returns-in-Ok-clause-fresh
-returns-in-Ok-clause-fresh c =
-    let made = c.self.inside.made in
-    let entries = c.self.inside.by_number.entries in
-    rw (← c.self.view_is) (number_stands (made + 1) entries ∙ ap is_some (none_beyond made (made + 1) entries c.self.invariant.numbered (omega arith)))
-
-pub returns-in-Ok-clause-protected : goal.returns-in-Ok-clause-protected
-returns-in-Ok-clause-protected c =
-    let made = c.self.inside.made in
-    let entries = c.self.inside.by_number.entries in
-    rw (c.in-Ok.ensures.entries, insert_last made c.args.t entries c.self.invariant.numbered, newest_push entries (made + 1, c.args.t), ← c.self.view_is) refl

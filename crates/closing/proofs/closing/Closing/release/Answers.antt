@@ -2,7 +2,7 @@ use Rattle.std.proofs.Common.{sym, ap, ◌∙◌}
 use Rattle.closing.proofs.Common.{contains, get, nat_cmp}
 use Rattle.closing.specs.Ties.{pair_cmp}
 use Rattle.std.specs.Prelude.{is_some}
-use Rattle.closing.proofs.Numbers.{newest_removed, number_stands, numbered_removed}
+use Rattle.closing.proofs.Numbers.{number_stands, numbered_removed}
 use Rattle.closing.proofs.Tying.{alike_taken}
 use Rattle.closing.proofs.closing.Closing.release.Goals as goal
 
@@ -17,11 +17,5 @@ invariant_of-self-in-Some c = record {
 pub returns-in-None-clause-stood : goal.returns-in-None-clause-stood
 returns-in-None-clause-stood c = rw (← c.self.view_is) (ap is_some c.in-None.ensures.value ∙ sym (number_stands c.args.id c.self.inside.by_number.entries))
 
-pub returns-in-None-clause-released : goal.returns-in-None-clause-released
-returns-in-None-clause-released c = rw (c.remove.ensures.entries, ← c.self.view_is) (newest_removed c.args.id c.self.inside.by_number.entries c.self.invariant.rising)
-
 pub returns-in-Some-clause-stood : goal.returns-in-Some-clause-stood
 returns-in-Some-clause-stood c = rw (← c.self.view_is) (ap is_some c.in-Some.ensures.value ∙ sym (number_stands c.args.id c.self.inside.by_number.entries))
-
-pub returns-in-Some-clause-released : goal.returns-in-Some-clause-released
-returns-in-Some-clause-released c = rw (c.remove.ensures.entries, ← c.self.view_is) (newest_removed c.args.id c.self.inside.by_number.entries c.self.invariant.rising)

@@ -1,8 +1,8 @@
+use Rattle.read_marks.proofs.Steps.{step-remove}
 use Rattle.std.proofs.Common.{refl}
 use Rattle.std.specs.Cmp.Lexicographic.{nat_list_cmp_total}
 use Rattle.read_marks.specs.Spans.{latest_below}
 use Rattle.read_marks.proofs.Low.{low_alike}
-use Rattle.read_marks.proofs.Steps.{step-remove}
 use Rattle.read_marks.proofs.span_marks.SpanMarks.join_at.Goals as goal
 
 pub invariant_of-self : goal.invariant_of-self

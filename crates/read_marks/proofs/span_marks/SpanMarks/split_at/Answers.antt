@@ -1,9 +1,9 @@
+use Rattle.read_marks.proofs.Steps.{step-insert}
 use Rattle.std.proofs.Common.{◌≡◌, ℕ, List, ap, sym, ◌∙◌, None}
 use Rattle.read_marks.proofs.Common.{insert_entry, is_at, key_cmp, lookup, nat_list_cmp_total, none_of, on_err_weaker, on_ok_weaker}
 use Rattle.std.proofs.lemmas.Map.{none_passes_from_lookup}
 use Rattle.read_marks.specs.Spans.{reaches, step_at}
 use Rattle.read_marks.proofs.Low.{either_way, low_alike}
-use Rattle.read_marks.proofs.Steps.{step-insert}
 use Rattle.read_marks.proofs.span_marks.SpanMarks.split_at.Goals as goal
 
 pub returns-clause-latest : goal.returns-clause-latest
