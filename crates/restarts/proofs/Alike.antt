@@ -20,13 +20,7 @@ left_is_kept q all x t done = grind (arith, common_steps, not_both)
 
 -- the versions that are left are the same
 pub left_same : (p q : List Effect) (m : ℕ) → AllAllowed q → IsKeptOf (left_kept p m) q → (x : List ℕ) (t : ℕ) → left_version_of q x t ≡ left_version_of p x t
-left_same p q m all fits x t = by_test (is_committed q t)
-    (λ done. left_is_kept q all x t done ∙ sym (fits.versions x t))
-    (λ undone. none_left q x t undone ∙ sym (by_version undone (left_version_of p x t) refl))
-  where
-    by_version : is_committed q t ≡ false → (o : Option After) → left_version_of p x t ≡ o → o ≡ None
-    by_version undone None e = refl
-    by_version undone (Some a) e = (let no' : true ≡ false = fits.committed x t a e ∙ undone in cc)
+left_same p q m all fits x t = grind (arith, common_steps, left_is_kept q all x t, fits.versions x t, fits.committed x t, none_left q x t)
 
 -- so are the maps from the horizon on
 pub map_same : (p q : List Effect) (m : ℕ) → AllAllowed q → IsKeptOf (left_kept p m) q → (t : ℕ) (x : List ℕ) → horizon_of p ≤ t → map_at q t x ≡ map_at p t x

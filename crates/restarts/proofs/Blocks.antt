@@ -76,41 +76,18 @@ written_is k t after (x ∷ xs) = written_is (written k t x (after x)) t after x
 -- each key has what was written
 pub written_version : (k : Kept) (t : ℕ) (after : List ℕ → After) (xs : List (List ℕ)) (y : List ℕ) (i : ℕ) → (all_written k t after xs).version y i ≡ cond ((t == i) && has y xs) (Some (after y)) (k.version y i)
 written_version k t after [] y i = by_test (t == i) (λ is. rw is refl) (λ isnt. rw isnt refl)
-written_version k t after (x ∷ xs) y i = written_version (written k t x (after x)) t after xs y i ∙ by_test (t == i)
-    (λ is. rw is (by_test (has y xs)
-    (λ there. rw there (by_key (bytes_eq x y)))
-    (λ not_there. rw not_there (by_test (bytes_eq x y)
-    (λ same. rw same (ap (λ z. Some (after z)) (same_key x y same)))
-    (λ other. rw other refl)))))
-    (λ isnt. rw isnt refl)
-  where
-    by_key : (b : Bool) → Some (after y) ≡ cond (b || true) (Some (after y)) (k.version y i)
-    by_key true = refl
-    by_key false = refl
+written_version k t after (x ∷ xs) y i = written_version (written k t x (after x)) t after xs y i ∙ grind (arith, common_steps, same_key x y)
 
 -- none of them is committed yet
 pub written_committed : (k : Kept) (t : ℕ) (after : List ℕ → After) (xs : List (List ℕ)) (y : List ℕ) (i : ℕ) → (all_written k t after xs).committed y i ≡ cond ((t == i) && has y xs) false (k.committed y i)
 written_committed k t after [] y i = by_test (t == i) (λ is. rw is refl) (λ isnt. rw isnt refl)
-written_committed k t after (x ∷ xs) y i = written_committed (written k t x (after x)) t after xs y i ∙ by_test (t == i)
-    (λ is. rw is (by_both (has y xs) (bytes_eq x y)))
-    (λ isnt. rw isnt refl)
-  where
-    by_both : (b c : Bool) → cond b false (cond c false (k.committed y i)) ≡ cond (c || b) false (k.committed y i)
-    by_both true true = refl
-    by_both true false = refl
-    by_both false true = refl
-    by_both false false = refl
+written_committed k t after (x ∷ xs) y i = written_committed (written k t x (after x)) t after xs y i ∙ grind (arith, common_steps)
 
 -- where t had no version, those at the keys are all that it has
 pub written_are : (k : Kept) (t : ℕ) (after : List ℕ → After) (xs : List (List ℕ)) → ((y : List ℕ) → k.version y t ≡ None) → RisingKeys xs → AreThose (λ y. is_some ((all_written k t after xs).version y t)) xs
 written_are k t after xs none rising = record {
   distinct = rising_distinct xs rising;
   each = λ y.
-      let same : (t == t) ≡ true = grind (arith, nat_tests) in
-      let e : is_some ((all_written k t after xs).version y t) ≡ has y xs = ap is_some (written_version k t after xs y t) ∙ (rw (same, none y) (by_key (has y xs) (after y))) in
+      let e : is_some ((all_written k t after xs).version y t) ≡ has y xs = grind (arith, common_steps, nat_tests, written_version k t after xs y t, none y) in
       let i = has_in y xs in (λ h. e ∙ i.0 (has_is y xs h), λ is. in_has y xs (i.1 (sym e ∙ is)));
 }
-  where
-    by_key : (b : Bool) (a : After) → is_some (cond b (Some a) None) ≡ b
-    by_key true a = refl
-    by_key false a = refl

@@ -54,15 +54,7 @@ live_keys : (p : List Effect) (t : ℕ) → is_committed p t ≡ true → (xs : 
     → filter (λ x. not (is_dead p (version_name x t))) xs ≡ filter (λ x. is_some (left_version_of p x t)) xs
 live_keys p t done [] wrote = refl
 live_keys p t done (x ∷ xs) wrote =
-    let same : not (is_dead p (version_name x t)) ≡ is_some (left_version_of p x t) = by_parts (is_dead p (version_name x t)) (is_committed p t) (write_of p t x) done (wrote x (inl refl)) in
-    let more = live_keys p t done xs (λ y i. wrote y (inr i)) in
-    ap (λ b. cond b (x ∷ filter (λ x. not (is_dead p (version_name x t))) xs) (filter (λ x. not (is_dead p (version_name x t))) xs)) same
-    ∙ ap (λ l. cond (is_some (left_version_of p x t)) (x ∷ l) l) more
-  where
-    by_parts : (b c : Bool) (o : Option After) → c ≡ true → is_some o ≡ true → not b ≡ is_some (cond b None (cond c o None))
-    by_parts true c o d w = refl
-    by_parts false true o d w = sym w
-    by_parts false false o d w = cc
+    grind (arith, common_steps, done, wrote x (inl refl), live_keys p t done xs (λ y i. wrote y (inr i)))
 
 timestamp_rows : (p : List Effect) (t : ℕ) → filter (is_left p) (cond (nat_lt 0 (suc t) && is_committed p (suc t)) (rows_of p all_keys (suc t)) []) ≡ map (row p (suc t)) (left_keys p (suc t))
 timestamp_rows p t = by_test (is_committed p (suc t))
@@ -71,13 +63,8 @@ timestamp_rows p t = by_test (is_committed p (suc t))
     ∙ ap (λ ks. filter (is_left p) (map (row p (suc t)) ks)) (all_of_keys (write_set p (suc t)))
     ∙ left_of_rows p (suc t) (write_set p (suc t))
     ∙ ap (map (row p (suc t))) (live_keys p (suc t) done (write_set p (suc t)) (λ x i. sym (has_written p (suc t) x) ∙ (has_in x (write_set p (suc t))).0 i)))
-    (λ undone. ap (λ b. filter (is_left p) (cond (nat_lt 0 (suc t) && b) (rows_of p all_keys (suc t)) [])) undone
-    ∙ ap (λ b. filter (is_left p) (cond b (rows_of p all_keys (suc t)) [])) (none (nat_lt 0 (suc t)))
+    (λ undone. rw undone (grind (arith, common_steps))
     ∙ sym (ap (map (row p (suc t))) (none_kept p (suc t) undone (write_set p (suc t)))))
-  where
-    none : (b : Bool) → (b && false) ≡ false
-    none true = refl
-    none false = refl
 
 -- ---- all of them
 

@@ -30,7 +30,7 @@ BegunBelow p m = (t : ℕ) → is_some (owner_of p t) ≡ true → t ≤ m
 
 -- before an event too
 begun_before : (p : List Effect) (k seat m : ℕ) → BegunBelow (Begins k seat ∷ p) m → BegunBelow p m
-begun_before p k seat m begun t is = begun t (by_test (k == t) (λ same. rw same refl) (λ other. rw other is))
+begun_before p k seat m begun t is = begun t (grind (arith, common_steps, is))
 
 -- so no write above m is too late
 none_late : (p : List Effect) (m : ℕ) → AllAllowed p → BegunBelow p m → (x : List ℕ) (i : ℕ) → m < i → too_late p x i ≡ true → ⊥
@@ -42,45 +42,24 @@ none_late (_ ∷ p) m all begun x i above is = none_late p m all.1 begun x i abo
 
 -- of what didn't commit no version stands any more
 cut_version : (p : List Effect) (m : ℕ) → AllAllowed p → BegunBelow p m → (x : List ℕ) (t : ℕ) → is_committed p t ≡ false → version_of (HardCloses m m ∷ p) x t ≡ None
-cut_version p m all begun x t open' = by_parts (is_some (owner_of p t)) refl (write_of p t x) refl
-  where
-    by_parts : (b : Bool) → is_some (owner_of p t) ≡ b → (o : Option After) → write_of p t x ≡ o → version_of (HardCloses m m ∷ p) x t ≡ None
-    by_parts true e o w = let low : nat_le t m ≡ true = (let l : t ≤ m = begun t e in grind (arith, nat_tests)) in rw (low, e, open') refl
-    by_parts false e None w = by_test (is_aborted (HardCloses m m ∷ p) t)
-        (λ is. rw is refl)
-        (λ isnt. rw isnt w)
-    by_parts false e (Some a) w = absurd (both_ways _ e (wrote_begun p all t x a w))
+cut_version p m all begun x t open' = grind (arith, common_steps, nat_tests, begun t, wrote_begun p all t x, open')
 
 cut_is_kept : (p : List Effect) (m : ℕ) → AllAllowed p → BegunBelow p m → IsKeptOf (cut_kept p m) (HardCloses m m ∷ p)
 cut_is_kept p m all begun = record {
   closed_at = refl;
   horizon_at = refl;
   versions = λ x t. by_test (is_committed p t)
-      (λ done. let whole : is_aborted p t ≡ false = not_both p all t done in let still : is_aborted (HardCloses m m ∷ p) t ≡ false = committed_whole (nat_le t m) (is_some (owner_of p t)) (is_committed p t) (is_aborted p t) done whole in rw (still, done) refl)
+      (λ done. grind (arith, common_steps, not_both p all t done, done))
       (λ undone. none_left p x t undone ∙ sym (no_kept (HardCloses m m ∷ p) x t (cut_version p m all begun x t undone)));
-  committed = λ x t a is. by_test (is_committed p t) (λ done. sym done) (λ undone. absurd (let no' : None ≡ Some a = sym (none_left p x t undone) ∙ is in cc));
+  committed = λ x t a is. grind (arith, common_steps, none_left p x t, is);
   marks = λ x i above fresh. (λ late. absurd (none_late p m all begun x i above late), λ (c : IsCrossed (λ n. false) (left_version_of p x) i). let no' : false ≡ true = c.mark in cc);
   forgotten = λ x j (is : false ≡ true). cc;
-  transactions = λ t. by_test (nat_lt m t)
-      (λ above. let none : owner_of p t ≡ None = none_of (owner_of p t) (not_begun t above) in rw (above, none) refl)
-      (λ low. rw low refl);
+  transactions = λ t. grind (arith, common_steps, nat_tests, begun t, none_of);
   protected = refl;
   made = refl;
   feeds = λ f. refl;
   opened = refl;
 }
-  where
-    committed_whole : (b o c a : Bool) → c ≡ true → a ≡ false → ((b && (o && not c)) || a) ≡ false
-    committed_whole true true true false e f = refl
-    committed_whole true false true false e f = refl
-    committed_whole false o true false e f = refl
-    committed_whole b o true true e f = cc
-    committed_whole b o false a e f = cc
-
-    not_begun : (t : ℕ) → nat_lt m t ≡ true → is_some (owner_of p t) ≡ false
-    not_begun t above = by_test (is_some (owner_of p t))
-        (λ is. absurd (let low : t ≤ m = begun t is in grind (arith, nat_tests)))
-        (λ isnt. isnt)
 
 -- the history with the hard closing
 cut_stands : (h : List Event) (m : ℕ) → CanRestart h m → StandsFor (cut_kept (effects_of h) m) (run h (CloseHard m ∷ []))
@@ -144,14 +123,12 @@ released_all k (w ∷ ws) = released_all (released_one k w.id) ws
 -- what isn't there isn't missed
 none_filtered : (id : ℕ) (ns : List Protection) → list_any (λ (n : Protection). n.id == id) ns ≡ false → filter (λ (n : Protection). not (n.id == id)) ns ≡ ns
 none_filtered id [] none = refl
-none_filtered id (n ∷ ns) none = let b = or_parts (n.id == id) (list_any (λ (n : Protection). n.id == id) ns) none in rw b.0 (ap (λ l. n ∷ l) (none_filtered id ns b.1))
+none_filtered id (n ∷ ns) none = grind (arith, common_steps, or_parts, none, none_filtered id ns)
 
 release_stands : (k : Kept) (h : List Event) (n id : ℕ) → StandsFor k h → StandsFor (released_one k id) (event n 0 (Release id) (answer_of (effects_of h) 0 (Release id)) ∷ h)
-release_stands k h n id stands = answered_stands k (released_one k id) h n 0 (Release id) (release_reply k id) stands refl (by_some (list_any (λ (n : Protection). n.id == id) k.protections) refl)
-  where
-    by_some : (b : Bool) → list_any (λ (n : Protection). n.id == id) k.protections ≡ b → IsChangedBy k (released_one k id) (effect 0 (Release id) (cond (not b) (Refused NoProtection) Released))
-    by_some true e = refl
-    by_some false e = protections_alike k (released_one k id).protections (none_filtered id k.protections e)
+release_stands k h n id stands = answered_stands k (released_one k id) h n 0 (Release id) (release_reply k id) stands refl (by_test (list_any (λ (n : Protection). n.id == id) k.protections)
+    (λ is. rw is refl)
+    (λ isnt. rw isnt (protections_alike k (released_one k id).protections (none_filtered id k.protections isnt))))
 
 releases_stand : (k : Kept) (h : List Event) (ws : List Protection) → StandsFor k h → StandsFor (released_all k ws) (run h (map (λ (n : Protection). Release n.id) ws))
 releases_stand k h [] stands = stands
@@ -168,16 +145,11 @@ released_gone k [] all = by_list k.protections all
     by_list : (ns : List Protection) → ((n : Protection) → Has n ns → ⊥) → ns ≡ []
     by_list [] none = refl
     by_list (n ∷ ns) none = absurd (none n (inl refl))
-released_gone k (w ∷ ws) all = released_gone (released_one k w.id) ws (λ n i.
-    let f = (has_filter (λ (n : Protection). not (n.id == w.id)) n k.protections).0 i in
-    elim (all n f.1) [
-      | inl here ↦ absurd (let e : not (n.id == w.id) ≡ true = f.0 in grind (arith, nat_tests, here))
-      | inr there ↦ there
-    ])
+released_gone k (w ∷ ws) all = released_gone (released_one k w.id) ws (λ n i. grind (arith, common_steps, nat_tests, (has_filter (λ (n : Protection). not (n.id == w.id)) n k.protections).0 i, all n))
 
 numbers_of : (n : Protection) (ns : List Protection) → Has n ns → Has n.id (map (λ (w : Protection). w.id) ns)
 numbers_of n [] i = absurd i
-numbers_of n (m ∷ ns) i = elim i [ inl here ↦ inl (ap (λ (w : Protection). w.id) here) | inr there ↦ inr (numbers_of n ns there) ]
+numbers_of n (m ∷ ns) i = grind (arith, common_steps, i, numbers_of n ns)
 
 -- ---- all of it
 

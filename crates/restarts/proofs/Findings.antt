@@ -54,18 +54,11 @@ keys_in k p span = filter (λ x. in_span span x && list_any (names_key x) (versi
 pub keys_are : (k : Kept) (p : List Effect) → AllAllowed p → IsKeptOf k p → (span : Span) → AreKeysOf k span (keys_in k p span)
 unfolding keys_in
 keys_are k p all fits span =
-    let those = kept_versions k p all fits in record {
-      rising = filter_rises (λ x. in_span span x && list_any (names_key x) (versions_in k p)) (written_keys p) (keys_rise p);
-      each = λ x. let f = filter_in (λ x. in_span span x && list_any (names_key x) (versions_in k p)) x (written_keys p) in (
-        λ i. let b = and_parts (in_span span x) (list_any (names_key x) (versions_in k p)) (f.0 i).0 in
-            let m = any_has x (versions_in k p) b.1 in
-            (b.0, m.0.ts, subst (λ z. is_some (k.version z m.0.ts) ≡ true) m.2 ((those.each m.0).0 m.1)),
-        λ i. let a = some_is (k.version x i.1) i.2 in
-            let there : version_of p x i.1 ≡ Some a.0 = kept_is p x i.1 a.0 (sym (fits.versions x i.1) ∙ a.1) in
-            f.1 (
-              and_from (in_span span x) (list_any (names_key x) (versions_in k p)) i.0 (has_any_key x (version_name x i.1) (versions_in k p) ((those.each (version_name x i.1)).1 i.2) refl),
-              written_in p i.1 x a.0 (version_wrote p x i.1 a.0 there).1,
-            ),
+    let those = kept_versions k p all fits in let listed : List ℕ → Bool = λ x. in_span span x && list_any (names_key x) (versions_in k p) in record {
+      rising = filter_rises listed (written_keys p) (keys_rise p);
+      each = λ x. let f = filter_in listed x (written_keys p) in (
+        λ i. let b = and_parts (in_span span x) _ (f.0 i).0 in let m = any_has x (versions_in k p) b.1 in (b.0, m.0.ts, grind (arith, common_steps, m.1, m.2, those.each m.0)),
+        λ i. grind (arith, common_steps, i, f.1, some_is (k.version x i.1) i.2, fits.versions x i.1, kept_is p x i.1, and_from, has_any_key x (version_name x i.1) (versions_in k p), those.each (version_name x i.1), written_in p i.1 x, version_wrote p x i.1),
       );
     }
 
@@ -89,11 +82,7 @@ least_in (n ∷ ns) = Some (or_min (least_in ns) n)
 
 pub least_is : (n : ℕ) (ms : List ℕ) → or_min (least_in ms) n ≡ least_of n ms
 least_is n [] = refl
-least_is n (m ∷ ms) = turn (least_in ms) ∙ ap (min m) (least_is n ms)
-  where
-    turn : (o : Option ℕ) → or_min (Some (or_min o m)) n ≡ min m (or_min o n)
-    turn None = omega arith
-    turn (Some l) = omega arith
+least_is n (m ∷ ms) = grind (arith, common_steps, least_is n ms)
 
 none_least : (ns : List ℕ) → least_in ns ≡ None → (n : ℕ) → Has n ns → ⊥
 none_least [] e n i = i
@@ -101,17 +90,11 @@ none_least (l ∷ ns) e n i = cc
 
 least_among : (m : ℕ) (ns : List ℕ) → least_in ns ≡ Some m → Has m ns × ((n : ℕ) → Has n ns → m ≤ n)
 least_among m [] e = cc
-least_among m (l ∷ ns) e = by_rest (least_in ns) (λ j is. least_among j ns is) (λ is. none_least ns is) e
+least_among m (l ∷ ns) e = by_rest (least_in ns) (λ j is. least_among j ns is) (none_least ns) e
   where
     by_rest : (o : Option ℕ) → ((j : ℕ) → o ≡ Some j → Has j ns × ((n : ℕ) → Has n ns → j ≤ n)) → (o ≡ None → (n : ℕ) → Has n ns → ⊥) → Some (or_min o l) ≡ Some m → Has m (l ∷ ns) × ((n : ℕ) → Has n (l ∷ ns) → m ≤ n)
-    by_rest None some none e = let at : l ≡ m = cc in (inl at, λ n i. elim i [ inl here ↦ omega (arith, at, here) | inr there ↦ absurd (none refl n there) ])
-    by_rest (Some j) some none e =
-        let more = some j refl in
-        let at : min j l ≡ m = cc in
-        by_test (nat_le l j)
-        (λ low. let low' : l ≤ j = leb-true l j low in (inl (omega (arith, at, low')), λ n i. elim i [ inl here ↦ omega (arith, at, here) | inr there ↦ (let b = more.1 n there in omega (arith, at, b)) ]))
-        (λ high. let high' : j ≤ l = grind (arith, nat_tests) in let is : j ≡ m = omega (arith, at, high') in
-        (inr (subst (λ i. Has i ns) is more.0), λ n i. elim i [ inl here ↦ omega (arith, at, here) | inr there ↦ (let b = more.1 n there in omega (arith, at, b)) ]))
+    by_rest None some none e = grind (arith, common_steps, none refl)
+    by_rest (Some j) some none e = grind (arith, common_steps, some j refl)
 
 -- ---- undecided transactions
 
@@ -144,11 +127,11 @@ first_numbers (suc n) = suc n ∷ first_numbers n
 
 first_low : (n f : ℕ) → Has f (first_numbers n) → f ≤ n
 first_low zero f i = absurd i
-first_low (suc n) f i = elim i [ inl here ↦ omega (arith, here) | inr there ↦ (let low = first_low n f there in omega (arith, low)) ]
+first_low (suc n) f i = grind (arith, common_steps, first_low n f)
 
 first_distinct : (n : ℕ) → AreDistinct (first_numbers n)
 first_distinct zero = tt
-first_distinct (suc n) = (λ i. let low = first_low n (suc n) i in omega (arith, low), first_distinct n)
+first_distinct (suc n) = grind (arith, common_steps, first_low n (suc n), first_distinct n)
 
 has_first : (n f : ℕ) → 0 < f → f ≤ n → Has f (first_numbers n)
 has_first zero f some low = absurd (omega (arith, some, low))
@@ -157,10 +140,7 @@ has_first (suc n) f some low = grind (arith, common_steps, has_first n f some)
 -- a feed that is kept was opened
 opened_one : (k : Kept) (p : List Effect) → AllAllowed p → IsKeptOf k p → (f : ℕ) → is_some (k.feed f) ≡ true → Has f (first_numbers (feeds_opened p))
 opened_one k p all fits f is =
-    let place = some_is (k.feed f) is in
-    let l = placed_by k p fits f place.0 place.1 in
-    let known : (nat_lt 0 f && nat_le f (feeds_opened p)) ≡ true = sym (known_is p all f) ∙ ap is_some l.1 in
-    grind (arith, common_steps, and_parts, has_first, ltb-true, leb-true)
+    grind (arith, common_steps, some_is (k.feed f) is, placed_by k p fits f, known_is p all f, and_parts, has_first, ltb-true, leb-true)
 
 -- the feeds that live
 pub living : Kept → List Effect → List ℕ
@@ -188,38 +168,12 @@ least_floor_among feed [] = λ f i. absurd i
 least_floor_among feed (f ∷ fs) = step (feed f) refl (least_floor feed fs) (least_floor_among feed fs)
   where
     step : (o : Option Place) → feed f ≡ o → (l : Option ℕ) → IsLeastAmong feed fs l → IsLeastAmong feed (f ∷ fs) (with_floor o l)
-    step None e None more = λ g i. elim i [ inl here ↦ subst (λ n. feed n ≡ None) here e | inr there ↦ more g there ]
-    step None e (Some m) more = (
-      more.0,
-      λ g place i at. elim i [
-        | inl here ↦ (let no' : None ≡ Some place = sym (subst (λ n. feed n ≡ None) here e) ∙ at in cc)
-        | inr there ↦ more.1 g place there at
-      ],
-    )
-    step (Some place) e None more = (
-      (f, place, e, refl),
-      λ g q i at. elim i [
-        | inl here ↦ (let same : Some place ≡ Some q = sym (subst (λ n. feed n ≡ Some place) here e) ∙ at in let is : place ≡ q = cc in let floor : place_floor place ≡ place_floor q = ap place_floor is in omega (arith, floor))
-        | inr there ↦ (let no' : None ≡ Some q = sym (more g there) ∙ at in cc)
-      ],
-    )
+    step None e None more = grind (arith, common_steps, e, more)
+    step None e (Some m) more = grind (arith, common_steps, e, more)
+    step (Some place) e None more = grind (arith, common_steps, e, more)
     step (Some place) e (Some m) more = by_test (nat_le m (place_floor place))
-        (λ low. let low' : m ≤ place_floor place = leb-true m (place_floor place) low in
-        let top : min m (place_floor place) ≡ m = omega (arith, low') in (
-          (more.0.0, more.0.1, more.0.2, more.0.3 ∙ sym top),
-          λ g q i at. elim i [
-            | inl here ↦ (let same : Some place ≡ Some q = sym (subst (λ n. feed n ≡ Some place) here e) ∙ at in let is : place ≡ q = cc in let floor : place_floor place ≡ place_floor q = ap place_floor is in omega (arith, floor, low'))
-            | inr there ↦ (let b = more.1 g q there at in omega (arith, b))
-          ],
-        ))
-        (λ high. let high' : place_floor place ≤ m = grind (arith, nat_tests) in
-        let top : min m (place_floor place) ≡ place_floor place = omega (arith, high') in (
-          (f, place, e, sym top),
-          λ g q i at. elim i [
-            | inl here ↦ (let same : Some place ≡ Some q = sym (subst (λ n. feed n ≡ Some place) here e) ∙ at in let is : place ≡ q = cc in let floor : place_floor place ≡ place_floor q = ap place_floor is in omega (arith, floor))
-            | inr there ↦ (let b = more.1 g q there at in omega (arith, b))
-          ],
-        ))
+        (λ low. grind (arith, common_steps, nat_tests, low, e, more))
+        (λ high. ((f, place, e, grind (arith, nat_tests, high)), grind (arith, common_steps, nat_tests, high, e, more.1)))
 
 pub floor_found : (k : Kept) (p : List Effect) → AllAllowed p → IsKeptOf k p → IsLeastFloor k.feed (least_floor k.feed (living k p))
 floor_found k p all fits = by_least (least_floor k.feed (living k p)) (least_floor_among k.feed (living k p))
@@ -228,8 +182,8 @@ floor_found k p all fits = by_least (least_floor k.feed (living k p)) (least_flo
     those = living_are k p all fits
 
     by_least : (o : Option ℕ) → IsLeastAmong k.feed (living k p) o → IsLeastFloor k.feed o
-    by_least None among = λ f. by_test (is_some (k.feed f)) (λ is. among f ((those.each f).1 is)) (λ isnt. none_of (k.feed f) isnt)
-    by_least (Some m) among = (among.0, λ f place at. among.1 f place ((those.each f).1 (ap is_some at)) at)
+    by_least None among = grind (arith, common_steps, those.each, among, none_of)
+    by_least (Some m) among = grind (arith, common_steps, those.each, among)
 
 -- ---- the rows that are left for a feed
 

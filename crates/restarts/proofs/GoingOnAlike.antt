@@ -1,7 +1,7 @@
 -- Histories of which the same is kept, but for numbers, go on alike.
 use Rattle.std.proofs.Common.{◌≡◌, ℕ, Bool, true, false, cond, Option, List, [], ◌∷◌, ◌++◌, map, None, refl, sym, ◌∙◌, ap, inl, inr, arith}
 use Rattle.std.specs.Prelude.{nat_le, ◌↔◌}
-use Rattle.restarts.proofs.Common.{Event, IsLegal, IsRightEvent, NoMemory, Place, Refused, StandsFor, alike_stands, answer_of, effect_of, effects_of, feeds_opened, is_accepted, may_lack_memory, protections_made}
+use Rattle.restarts.proofs.Common.{Event, IsLegal, IsRightEvent, NoMemory, Place, Refused, StandsFor, alike_stands, answer_of, common_steps, effect_of, effects_of, feeds_opened, is_accepted, may_lack_memory, protections_made}
 use Rattle.restarts.specs.Crash.{crash}
 use Rattle.restarts.specs.Dump.{rebuilt}
 use Rattle.restarts.specs.Renumbering.{renumbered, renumbered_cmd, renumbered_reply}
@@ -23,16 +23,10 @@ same_answer n m h h' e e' twins is = rw (is.seat, is.cmd) (twin_answer n m twins
 right_alike : (n m : ℕ) (h h' : List Event) (e e' : Event) → AreTwins n m h h' → IsRenumbered n m e e' → IsRightEvent (effects_of h) e ↔ IsRightEvent (effects_of h') e'
 right_alike n m h h' e e' twins is =
     let same = same_answer n m h h' e e' twins is in
-    let accepted : is_accepted (answer_of (effects_of h') e'.seat e'.cmd) ≡ is_accepted (answer_of (effects_of h) e.seat e.cmd) = ap is_accepted same ∙ still_accepted n m (answer_of (effects_of h) e.seat e.cmd) in
-    let may : may_lack_memory e'.cmd ≡ may_lack_memory e.cmd = ap may_lack_memory is.cmd ∙ still_may_lack n m e.cmd in (
-      λ right. elim right [
-        | inl answer ↦ inl (is.reply ∙ ap (renumbered_reply n m) answer ∙ sym same)
-        | inr wanting ↦ inr (is.reply ∙ ap (renumbered_reply n m) wanting.0, accepted ∙ wanting.1, may ∙ wanting.2)
-      ],
-      λ right. elim right [
-        | inl answer ↦ inl (reply_back n m e.reply (answer_of (effects_of h) e.seat e.cmd) (sym is.reply ∙ answer ∙ same))
-        | inr wanting ↦ inr (reply_back n m e.reply (Refused NoMemory) (sym is.reply ∙ wanting.0), sym accepted ∙ wanting.1, sym may ∙ wanting.2)
-      ],
+    let accepted = still_accepted n m (answer_of (effects_of h) e.seat e.cmd) in
+    let may = still_may_lack n m e.cmd in (
+      λ right. grind (arith, common_steps, right, is, same, accepted, may),
+      λ right. grind (arith, common_steps, right, is, same, accepted, may, reply_back n m e.reply (answer_of (effects_of h) e.seat e.cmd), reply_back n m e.reply (Refused NoMemory)),
     )
 
 still_twins : (n m : ℕ) (h h' : List Event) (e e' : Event) → AreTwins n m h h' → IsRenumbered n m e e' → IsRightEvent (effects_of h) e → IsRightEvent (effects_of h') e' → AreTwins n m (e ∷ h) (e' ∷ h')
@@ -71,17 +65,10 @@ restart_twins h m one other =
         transaction = λ i. refl;
         protections = refl;
         protections_made = omega arith;
-        feed = λ f. none_either (nat_le f n);
+        feed = λ f. grind (arith, common_steps);
         feeds_opened = omega arith;
       });
     }
-  where
-    no_place : Option Place
-    no_place = None
-
-    none_either : (b : Bool) → cond b no_place no_place ≡ no_place
-    none_either true = refl
-    none_either false = refl
 
 pub go_on_alike : (h : List Event) (m : ℕ) → StandsFor (left_kept (effects_of h) m) (rebuilt h m) → StandsFor (crashed (effects_of h) m) (crash h m)
     → (es : List Event) → IsLegal (es ++ rebuilt h m) ↔ IsLegal (map (renumbered h m) es ++ crash h m)

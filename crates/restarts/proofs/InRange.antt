@@ -59,7 +59,7 @@ effect_in_range p low e right = grind (arith, common_steps, answer_in_range, wan
 -- the greatest is at or above each
 pub at_most : (n m : ℕ) (ms : List ℕ) → n ≤ m → ((k : ℕ) → Has k ms → k ≤ m) → greatest_of n ms ≤ m
 at_most n m [] low each = low
-at_most n m (k ∷ ms) low each = let here : k ≤ m = each k (inl refl) in let more : greatest_of n ms ≤ m = at_most n m ms low (λ j i. each j (inr i)) in omega (arith, here, more)
+at_most n m (k ∷ ms) low each = omega (arith, each k (inl refl), at_most n m ms low (λ j i. each j (inr i)))
 
 pub first_low : (n : ℕ) (ms : List ℕ) → n ≤ greatest_of n ms
 first_low n [] = omega arith

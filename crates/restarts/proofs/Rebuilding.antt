@@ -61,30 +61,15 @@ none_left p x t open' = rw open' refl
 
 -- what isn't committed isn't left
 pub uncommitted_gone : (p : List Effect) (x : List ℕ) (t : ℕ) → committed_version_of p x t ≡ None → left_version_of p x t ≡ None
-uncommitted_gone p x t none = step (is_dead p (version_name x t)) (committed_version_of p x t) none
-  where
-    step : (b : Bool) (o : Option After) → o ≡ None → cond b None o ≡ None
-    step true o e = refl
-    step false o e = e
+uncommitted_gone p x t none = grind (arith, common_steps, none)
 
 -- what is left was written
 left_wrote : (p : List Effect) (x : List ℕ) (t : ℕ) → is_some (left_version_of p x t) ≡ true → is_some (write_of p t x) ≡ true
-left_wrote p x t is = step (is_dead p (version_name x t)) (is_committed p t) (write_of p t x) is
-  where
-    step : (b c : Bool) (o : Option After) → is_some (cond b None (cond c o None)) ≡ true → is_some o ≡ true
-    step true c o e = cc
-    step false false o e = cc
-    step false true o e = e
+left_wrote p x t is = grind (arith, common_steps, is)
 
 -- and as it is left
 pub left_value : (p : List Effect) (x : List ℕ) (t : ℕ) → is_some (left_version_of p x t) ≡ true → left_version_of p x t ≡ Some (written_value (write_of p t x))
-left_value p x t is = step (is_dead p (version_name x t)) (is_committed p t) (write_of p t x) is
-  where
-    step : (b c : Bool) (o : Option After) → is_some (cond b None (cond c o None)) ≡ true → cond b None (cond c o None) ≡ Some (written_value o)
-    step true c o e = cc
-    step false false o e = cc
-    step false true None e = cc
-    step false true (Some a) e = refl
+left_value p x t is = grind (arith, common_steps, is)
 
 -- a key is one of those that are left exactly where its version is
 pub has_left : (p : List Effect) (x : List ℕ) (t : ℕ) → has x (left_keys p t) ≡ is_some (left_version_of p x t)
@@ -97,7 +82,7 @@ left_of_key p x t = grind (arith, common_steps, by_test, has_left, left_value, n
 -- of one that didn't commit no key is left
 pub none_kept : (p : List Effect) (t : ℕ) → is_committed p t ≡ false → (xs : List (List ℕ)) → filter (λ x. is_some (left_version_of p x t)) xs ≡ []
 none_kept p t open' [] = refl
-none_kept p t open' (x ∷ xs) = let none : is_some (left_version_of p x t) ≡ false = ap is_some (none_left p x t open') in rw none (none_kept p t open' xs)
+none_kept p t open' (x ∷ xs) = grind (arith, common_steps, none_left p x t open', none_kept p t open' xs)
 
 pub none_again : (p : List Effect) (t : ℕ) → is_committed p t ≡ false → again p t ≡ None
 none_again p t open' = ap again_with (none_kept p t open' (write_set p t))
@@ -121,26 +106,18 @@ block_alike p t x xs keys =
       closed = ap (λ (k : Kept). 0) is ∙ sym (ap (λ (k : Kept). k.closed) is);
       horizon = sym (ap (λ (k : Kept). k.horizon) is);
       version = λ y i. sym (written_version k (suc t) after (x ∷ xs) y i ∙ ap (λ ks. cond ((suc t == i) && has y ks) (Some (after y)) (cond (nat_le i t) (left_version_of p y i) None)) (sym keys) ∙ by_test (suc t == i)
-          (λ same. let e : suc t ≡ i = eqb-true (suc t) i same in
-          let upto : nat_le i (suc t) ≡ true = grind (arith, nat_tests) in let above : nat_le i t ≡ false = grind (arith, nat_tests) in
-          rw (same, upto, above) (subst (λ n. cond (has y (left_keys p (suc t))) (Some (after y)) None ≡ left_version_of p y n) e (sym (left_of_key p y (suc t)))))
+          (λ same. grind (arith, nat_tests, common_steps, eqb-true (suc t) i same, left_of_key p y (suc t)))
           (λ other. let alike : nat_le i (suc t) ≡ nat_le i t = grind (arith, nat_tests) in rw (other, alike) refl));
-      committed = λ y i b there. sym (ap (λ c. (suc t == i) || c) (written_committed k (suc t) after (x ∷ xs) y i) ∙ done (suc t == i) (has y (x ∷ xs)));
+      committed = λ y i b there. grind (arith, common_steps, written_committed k (suc t) after (x ∷ xs) y i);
       marked = λ y n. sym (ap (λ (k : Kept). k.marked y n) is);
       transaction = λ i. sym (ap (λ (k : Kept). cond (suc t == i) (option_map ended (k.transaction i)) (k.transaction i)) is ∙ by_test (suc t == i)
-          (λ same. let e : suc t ≡ i = eqb-true (suc t) i same in
-          let upto : nat_le i (suc t) ≡ true = grind (arith, nat_tests) in
-          rw (same, upto) (subst (λ n. Some (ended (new_transaction 0)) ≡ again p n) e (sym (ap again_with keys))))
+          (λ same. grind (arith, nat_tests, common_steps, eqb-true (suc t) i same, ap again_with keys))
           (λ other. let alike : nat_le i (suc t) ≡ nat_le i t = grind (arith, nat_tests) in rw (other, alike) refl));
       protections = sym (ap (λ (k : Kept). k.protections) is);
       protections_made = sym (ap (λ (k : Kept). k.protections_made) is);
       feed = λ f. sym (ap (λ (k : Kept). k.feed f) is);
       feeds_opened = sym (ap (λ (k : Kept). k.feeds_opened) is);
     }
-  where
-    done : (b c : Bool) → (b || cond (b && c) false true) ≡ true
-    done true c = refl
-    done false c = refl
 
 -- the transaction of one more timestamp
 block_stands : (p : List Effect) (t : ℕ) (h : List Event) → suc t ≤ MAX → StandsFor (through p t) h → (keys : List (List ℕ)) → left_keys p (suc t) ≡ keys → StandsFor (through p (suc t)) (with_steps h (transaction_steps p (suc t) keys))
@@ -174,12 +151,7 @@ pub record AllBelow (p : List Effect) (m : ℕ) : Type 0 where
 
 -- nothing of the dump is undecided
 none_open : (p : List Effect) (n t : ℕ) → is_open ((through p n).transaction t) ≡ false
-none_open p n t = by_keys (nat_le t n) (left_keys p t)
-  where
-    by_keys : (b : Bool) (keys : List (List ℕ)) → is_open (cond b (again_with keys) None) ≡ false
-    by_keys false keys = refl
-    by_keys true [] = refl
-    by_keys true (x ∷ keys) = refl
+none_open p n t = grind (arith, common_steps)
 
 -- what is kept once it is closed
 abbrev closed_through : List Effect → ℕ → Kept
@@ -188,12 +160,8 @@ closed_through p m = record (through p m) { closed = m; transaction = λ i. cond
 close_now : (p : List Effect) (m n : ℕ) (h : List Event) → m ≤ MAX → StandsFor (through p m) h → StandsFor (closed_through p m) (event n 0 (Close m) (Closed m 0) ∷ h)
 close_now p m n h low stands = step_stands (through p m) (closed_through p m) h n 0 (Close m) (Closed m 0) stands (inl (record {
   right = (None, λ _ t. none_open p m t, (let in' : nat_lt MAX m ≡ false = grind (arith, nat_tests) in let top : max 0 m ≡ m = omega arith in rw (in', top) refl));
-  change = record { marked = λ y j. sym (none (nat_lt m j)); transaction = λ i. refl; rest = refl };
+  change = record { marked = λ y j. grind (arith, common_steps); transaction = λ i. refl; rest = refl };
 }))
-  where
-    none : (b : Bool) → (b && false) ≡ false
-    none true = refl
-    none false = refl
 
 closed_alike : (p : List Effect) (m : ℕ) → AllBelow p m → IsAlike (closed_through p m) (record (left_kept p m) { horizon = 0 })
 closed_alike p m below = grind (arith, common_steps)
@@ -201,33 +169,8 @@ closed_alike p m below = grind (arith, common_steps)
 -- what is left isn't dead by the same horizon
 left_live : (p : List Effect) (m : ℕ) (x : List ℕ) (t : ℕ) (a : After) → left_version_of p x t ≡ Some a → is_dead_in (record (left_kept p m) { horizon = 0 }) (horizon_of p) x t ≡ false
 left_live p m x t a is =
-    let live : is_dead p (version_name x t) ≡ false = alive (is_dead p (version_name x t)) (committed_version_of p x t) is in
-    let done : is_committed p t ≡ true = by_test (is_committed p t) (λ done. done) (λ undone. absurd (let no' : None ≡ Some a = sym (none_left p x t undone) ∙ is in cc)) in
-    let wrote : write_of p t x ≡ Some a = rw (live, done) at is in
-    by_test (nat_le t (horizon_of p))
-    (λ low. let kept : (is_delete (write_of p t x) || nat_lt t (newest (committed_version_of p x) (horizon_of p)).ts) ≡ false = rw (done, low) at live in
-    let both = or_parts (is_delete (write_of p t x)) (nat_lt t (newest (committed_version_of p x) (horizon_of p)).ts) kept in
-    let fewer : (newest (left_version_of p x) (horizon_of p)).ts ≤ (newest (committed_version_of p x) (horizon_of p)).ts =
-    newest_fewer (committed_version_of p x) (left_version_of p x) (horizon_of p) (λ j _ none. uncommitted_gone p x j none) in
-    let delete : is_delete (left_version_of p x t) ≡ false = ap is_delete (is ∙ sym wrote) ∙ both.0 in
-    let top : nat_lt t (newest (left_version_of p x) (horizon_of p)).ts ≡ false = grind (arith, nat_tests, both.1, fewer) in
-    neither (nat_le t (horizon_of p)) (is_delete (left_version_of p x t)) (nat_lt t (newest (left_version_of p x) (horizon_of p)).ts) delete
-    top)
-    (λ high. not_first (nat_le t (horizon_of p)) _ high)
-  where
-    neither : (b c d : Bool) → c ≡ false → d ≡ false → (b && (c || d)) ≡ false
-    neither true false false e f = refl
-    neither true true d e f = e
-    neither true false true e f = f
-    neither false c d e f = refl
-
-    not_first : (b c : Bool) → b ≡ false → (b && c) ≡ false
-    not_first true c e = cc
-    not_first false c e = refl
-
-    alive : (b : Bool) (o : Option After) → cond b None o ≡ Some a → b ≡ false
-    alive true o e = cc
-    alive false o e = refl
+    let fewer = newest_fewer (committed_version_of p x) (left_version_of p x) (horizon_of p) (λ j _ none. uncommitted_gone p x j none) in
+    grind (arith, common_steps, nat_tests, none_left p x t, is, fewer)
 
 collect_now : (p : List Effect) (m n : ℕ) (h : List Event) → AllAllowed p → AllBelow p m → StandsFor (record (left_kept p m) { horizon = 0 }) h
     → StandsFor (left_kept p m) (event n 0 (Collect (horizon_of p)) (Collected (horizon_of p) 0) ∷ h)
@@ -247,15 +190,15 @@ collect_now p m n h all below stands =
     }))
   where
     each : (y : List ℕ) (i : ℕ) (o : Option After) → left_version_of p y i ≡ o → left_version_of p y i ≡ cond (is_dead_in (record (left_kept p m) { horizon = 0 }) (horizon_of p) y i) None (left_version_of p y i)
-    each y i None e = by_test (is_dead_in (record (left_kept p m) { horizon = 0 }) (horizon_of p) y i) (λ is. rw is e) (λ isnt. rw isnt refl)
+    each y i None e = grind (arith, common_steps, e)
     each y i (Some a) e = rw (left_live p m y i a e) refl
 
     none_dropped : (v : VersionName) → is_dropped (record (left_kept p m) { horizon = 0 }) (horizon_of p) v ≡ true → ⊥
     none_dropped v is = by_version (left_version_of p v.key v.ts) refl
       where
         by_version : (o : Option After) → left_version_of p v.key v.ts ≡ o → ⊥
-        by_version None e = (let no' : false ≡ true = ap (λ o. is_some o && is_dead_in (record (left_kept p m) { horizon = 0 }) (horizon_of p) v.key v.ts) (sym e) ∙ is in cc)
-        by_version (Some a) e = (let b = and_parts _ _ is in both_ways _ (left_live p m v.key v.ts a e) b.1)
+        by_version None e = grind (arith, common_steps, e, is)
+        by_version (Some a) e = both_ways _ (left_live p m v.key v.ts a e) (and_parts _ _ is).1
 
 -- the dump's run is legal, and of it the versions are kept that are left
 pub rebuilt_stands : (p : List Effect) (m : ℕ) → AllAllowed p → AllBelow p m → StandsFor (left_kept p m) (with_steps [] (dump p m))

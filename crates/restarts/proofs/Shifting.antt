@@ -45,7 +45,7 @@ still_may_lack n m cmd = refl
 
 pub renumbered_first : (n m : ℕ) (tests : List (Bool × Refusal)) (r : Reply) → renumbered_reply n m (first_refusal_or tests r) ≡ first_refusal_or tests (renumbered_reply n m r)
 renumbered_first n m [] r = refl
-renumbered_first n m (test ∷ tests) r = by_test test.0 (λ is. rw is refl) (λ isnt. rw isnt (renumbered_first n m tests r))
+renumbered_first n m (test ∷ tests) r = grind (arith, common_steps, renumbered_first n m tests r)
 
 pub renumbered_unless : (n m : ℕ) (o : Option Refusal) (r : Reply) → renumbered_reply n m (unless_refused o r) ≡ unless_refused o (renumbered_reply n m r)
 renumbered_unless n m None r = refl
@@ -85,7 +85,7 @@ refusal_same n m k (suc f) = grind (arith, common_steps)
 
 -- the floors are the same
 pub floor_same : (n m : ℕ) (k : Kept) → k.feed 0 ≡ None → (o : Option ℕ) → IsLeastFloor k.feed o → IsLeastFloor (shifted n m k).feed o
-floor_same n m k zeroth None none = λ f. by_test (nat_le f n) (λ low. rw low refl) (λ high. rw high (none (f - n)))
+floor_same n m k zeroth None none = grind (arith, common_steps, none)
 floor_same n m k zeroth (Some l) least = (
   (number_from n least.0.0, least.0.1, feed_at n m k zeroth least.0.0 ∙ least.0.2, least.0.3),
   λ f place at. least.1 (f - n) place (feed_from n m k f place at).1,
@@ -105,9 +105,16 @@ released_same m id [] = refl
 released_same m id (w ∷ ns) = grind (arith, common_steps, released_same m id ns)
 
 -- the feeds that live, by their numbers
+number_again : (n f : ℕ) → n < f → number_from n (f - n) ≡ f
+number_again n f above = by_number (f - n) refl
+  where
+    by_number : (g : ℕ) → f - n ≡ g → number_from n g ≡ f
+    by_number zero e = absurd (omega (arith, above, e))
+    by_number (suc g) e = omega (arith, above, e)
+
 has_shifted : (n f : ℕ) (fs : List ℕ) → Has f fs → Has (number_from n f) (map (number_from n) fs)
 has_shifted n f [] i = absurd i
-has_shifted n f (g ∷ fs) i = elim i [ inl here ↦ inl (ap (number_from n) here) | inr there ↦ inr (has_shifted n f fs there) ]
+has_shifted n f (g ∷ fs) i = grind (arith, common_steps, i, has_shifted n f fs)
 
 shifted_has : (n f : ℕ) (fs : List ℕ) → Has f (map (number_from n) fs) → (g : ℕ) × Has g fs × (number_from n g ≡ f)
 shifted_has n f [] i = absurd i
@@ -115,31 +122,16 @@ shifted_has n f (g ∷ fs) i = elim i [ inl here ↦ (g, inl refl, here) | inr t
 
 shifted_distinct : (n : ℕ) (fs : List ℕ) → AreDistinct fs → AreDistinct (map (number_from n) fs)
 shifted_distinct n [] d = tt
-shifted_distinct n (f ∷ fs) d = (
-  λ i. let h = shifted_has n (number_from n f) fs i in d.0 (subst (λ g. Has g fs) (sym (number_back n h.0) ∙ ap (λ g. g - n) h.2 ∙ number_back n f) h.1),
-  shifted_distinct n fs d.1,
-)
+shifted_distinct n (f ∷ fs) d = grind (arith, common_steps, shifted_has n (number_from n f) fs, number_back n, d, shifted_distinct n fs)
 
 pub living_shifted : (n m : ℕ) (k : Kept) → k.feed 0 ≡ None → (fs : List ℕ) → AreThose (λ f. is_some (k.feed f)) fs → AreThose (λ f. is_some ((shifted n m k).feed f)) (map (number_from n) fs)
 living_shifted n m k zeroth fs those = record {
   distinct = shifted_distinct n fs those.distinct;
   each = λ f. (
-    λ i. let h = shifted_has n f fs i in subst (λ g. is_some ((shifted n m k).feed g) ≡ true) h.2 (ap is_some (feed_at n m k zeroth h.0) ∙ (those.each h.0).0 h.1),
-    λ is. by_place f ((shifted n m k).feed f) refl is,
+    λ i. let h = shifted_has n f fs i in grind (arith, common_steps, h, feed_at n m k zeroth h.0, those.each h.0),
+    λ is. grind (arith, common_steps, nat_tests, is, those.each (f - n), has_shifted n (f - n) fs, number_again n f),
   );
 }
-  where
-    by_place : (f : ℕ) (o : Option Place) → (shifted n m k).feed f ≡ o → is_some o ≡ true → Has f (map (number_from n) fs)
-    by_place f None e is = cc
-    by_place f (Some place) e is =
-        let from = feed_from n m k f place e in
-        let some : 0 < f - n = omega (arith, from.0) in
-        let back : number_from n (f - n) ≡ f = by_number (f - n) refl in
-        subst (λ g. Has g (map (number_from n) fs)) back (has_shifted n (f - n) fs ((those.each (f - n)).1 (ap is_some from.1)))
-      where
-        by_number : (g : ℕ) → f - n ≡ g → number_from n g ≡ f
-        by_number zero e' = (let from = feed_from n m k f place e in absurd (omega (arith, from.0, e')))
-        by_number (suc g) e' = (let from = feed_from n m k f place e in omega (arith, from.0, e'))
 
 pub same_count : (n : ℕ) (fs : List ℕ) → length (map (number_from n) fs) ≡ length fs
 same_count n [] = refl

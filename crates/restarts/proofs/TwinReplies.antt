@@ -1,6 +1,6 @@
 -- What is kept answers as it does with its numbers shifted: each reply can be found, and is the same but for its numbers.
-use Rattle.std.proofs.Common.{◌≡◌, ℕ, suc, ◌==◌, true, false, not, cond, List, [], ◌∷◌, length, map, take, Option, Some, None, refl, sym, ◌∙◌, ap}
-use Rattle.restarts.proofs.Common.{Abort, Aborted, AllAllowed, AreKeysOf, AreNext, Begin, BelowClosed, BelowHorizon, Blocked, Cancel, Cancelled, Close, CloseHard, Closed, Cmd, Collect, Collected, Commit, Committed, Del, Effect, Event, Found, Get, IsKeptOf, IsReplyOf, Kept, Kind, MAX, Messages, NoProtection, NotClosed, NotOwner, Open, OpenEvery, OpenInitial, OpenInitialEvery, Opened, Place, Poll, Protect, Protected, Protection, Put, ReadAt, Refused, Release, Released, Reply, Row, Rows, Scan, ScanAt, Span, StandsFor, Started, Stats, TooLate, TsRange, TsUsed, Written, abort_reply, answer_of, begin_reply, cancel_reply, close_hard_reply, close_reply, collect_reply, commit_reply, effects_of, feed_refusal, first_refusal_or, get_reply, is_seen_blocked, is_timestamp, kept_opening_tests, kind_of, known_is, legal_allowed, list_any, messages_left, open_reply, pairs_of, placed_by, poll_place, poll_reply, protect_reply, reach, read_at_reply, refusal, release_reply, reply_is_answer, scan_at_reply, scan_reply, seen, stats_reply, too_late, undecided_timestamps, unless_refused, write_reply, write_set}
+use Rattle.std.proofs.Common.{◌≡◌, ℕ, suc, ◌==◌, true, false, not, cond, List, [], ◌∷◌, length, map, take, Option, Some, None, refl, sym, ◌∙◌, ap, arith}
+use Rattle.restarts.proofs.Common.{Abort, Aborted, AllAllowed, AreKeysOf, AreNext, Begin, BelowClosed, BelowHorizon, Blocked, Cancel, Cancelled, Close, CloseHard, Closed, Cmd, Collect, Collected, Commit, Committed, Del, Effect, Event, Found, Get, IsKeptOf, IsReplyOf, Kept, Kind, MAX, Messages, NoProtection, NotClosed, NotOwner, Open, OpenEvery, OpenInitial, OpenInitialEvery, Opened, Place, Poll, Protect, Protected, Protection, Put, ReadAt, Refused, Release, Released, Reply, Row, Rows, Scan, ScanAt, Span, StandsFor, Started, Stats, TooLate, TsRange, TsUsed, Written, abort_reply, answer_of, begin_reply, cancel_reply, close_hard_reply, common_steps, close_reply, collect_reply, commit_reply, effects_of, feed_refusal, first_refusal_or, get_reply, is_seen_blocked, is_timestamp, kept_opening_tests, kind_of, known_is, legal_allowed, list_any, messages_left, open_reply, pairs_of, placed_by, poll_place, poll_reply, protect_reply, reach, read_at_reply, refusal, release_reply, reply_is_answer, scan_at_reply, scan_reply, seen, stats_reply, too_late, undecided_timestamps, unless_refused, write_reply, write_set}
 use Rattle.std.specs.Prelude.{filter, is_some, max, nat_le, nat_lt}
 use Rattle.spans.specs.declared.calls.replies.Reply.TheVariants as replies
 use Rattle.kept.specs.Collecting.{reached}
@@ -16,11 +16,7 @@ pub record IsTwinReply (n m : ℕ) (k : Kept) (seat : ℕ) (cmd : Cmd) : Type 0 
 
 -- feed 0 is never kept
 pub no_zeroth : (k : Kept) (p : List Effect) → AllAllowed p → IsKeptOf k p → k.feed 0 ≡ None
-no_zeroth k p all fits = by_place (k.feed 0) refl
-  where
-    by_place : (o : Option Place) → k.feed 0 ≡ o → o ≡ None
-    by_place None e = refl
-    by_place (Some place) e = (let l = placed_by k p fits 0 place e in let no' : true ≡ false = sym (ap is_some l.1) ∙ known_is p all 0 in cc)
+no_zeroth k p all fits = grind (arith, common_steps, placed_by k p fits 0, known_is p all 0)
 
 -- keys of one are keys of the other
 same_keys : (n m : ℕ) (k : Kept) (span : Span) (keys : List (List ℕ)) → AreKeysOf k span keys → AreKeysOf (shifted n m k) span keys
@@ -146,12 +142,8 @@ twin_reply n m k p all fits seat (Cancel f) =
     let at = feed_at n m k (no_zeroth k p all fits) f in record {
       reply = cancel_reply k f;
       one = refl;
-      other = by_place (k.feed f) ∙ ap (λ o. cond (is_some o) Cancelled (Refused (feed_refusal (shifted n m k) (number_from n f)))) (sym at);
+      other = grind (arith, common_steps, at, refusal_same n m k f);
     }
-  where
-    by_place : (o : Option Place) → renumbered_reply n m (cond (is_some o) Cancelled (Refused (feed_refusal k f))) ≡ cond (is_some o) Cancelled (Refused (feed_refusal (shifted n m k) (number_from n f)))
-    by_place None = ap Refused (sym (refusal_same n m k f))
-    by_place (Some place) = refl
 twin_reply n m k p all fits seat Stats =
     let fs : List ℕ = living k p in
     let versions = kept_versions k p all fits in

@@ -2,6 +2,7 @@
 use Rattle.restarts.proofs.Common.{Abort, Aborted, Aborts, After, AllAllowed, Allowed, Begin, Begins, Cancel, Cancelled, Cancels, Close, CloseHard, Closed, Closes, Cmd, Collect, Collected, Collects, Commit, Commits, Committed, Del, Effect, Event, Found, Get, HardCloses, IsChangedBy, IsKeptOf, IsRightEvent, Kept, Kind, Messages, NoEffect, Open, OpenEvery, OpenInitial, OpenInitialEvery, Opened, Opens, Place, Poll, Polls, Protect, Protected, Protection, Protects, Put, ReadAt, Reads, Refused, Release, Released, Releases, Reply, Rows, Scan, ScanAt, Scans, SnapshotReads, SnapshotScans, Span, StandsFor, Started, Stats, TooLate, Transaction, Writes, Written, by_test, changed_stands, closed_of, common_steps, effect, effect_of, effects_of, eqb-true, in_span, is_dead_in, is_open, key_itself, legal_allowed, moved, nat_tests, new_transaction, or_cases, or_left, or_right, right_allowed, seen, start_at}
 use Rattle.std.proofs.Common.{◌≡◌, ℕ, zero, suc, ◌+◌, ◌-◌, ◌<◌, ◌==◌, Bool, true, false, not, cond, ◌&&◌, ◌||◌, List, ◌∷◌, map, Option, Some, None, refl, sym, ap, subst, inl, inr, arith}
 use Rattle.std.specs.Prelude.{bytes_eq, filter, nat_le, nat_lt, option_map}
+use Rattle.spans.specs.declared.state.State.{State}
 use Rattle.spans.specs.declared.state.State.TheVariants as states
 use Rattle.kept.proofs.AfterReads.{Marked, after_reads, after_scans, other_seen, own_seen}
 use Rattle.kept.proofs.Marking.{added}
@@ -61,51 +62,43 @@ number_match n (suc f) g above = grind (arith, nat_tests)
 -- a change at one number, and at the number after n
 placed_alike : (n m : ℕ) (k : Kept) (change : Option Place → Option Place) → change None ≡ None → (f g : ℕ)
     → cond (nat_le g n) None (cond (f == g - n) (change (k.feed (g - n))) (k.feed (g - n))) ≡ cond (number_from n f == g) (change ((shifted n m k).feed g)) ((shifted n m k).feed g)
-placed_alike n m k change none f g = by_test (nat_le g n)
-    (λ low. rw low (either (number_from n f == g)))
-    (λ high. let above : n < g = grind (arith, nat_tests) in rw (high, number_match n f g above) refl)
-  where
-    either : (b : Bool) → None ≡ cond b (change None) None
-    either true = sym none
-    either false = refl
+placed_alike n m k change none f g = grind (arith, common_steps, nat_tests, number_match n f g, none)
 
 abbrev opened_place : ℕ → Kind → Span → ℕ → Place
 opened_place seat kind span cursor = record { seat = seat; kind = kind; span = span; cursor = cursor; after = start_at kind cursor; row = None }
+
+-- the transaction of t is decided
+abbrev ends : ℕ → State → Kept → ℕ → Option Transaction
+ends t state k i = cond (t == i) (option_map (λ (w : Transaction). record w { state = state }) (k.transaction i)) (k.transaction i)
 
 pub twin_change : (n m : ℕ) (k : Kept) (d : Effect) → ((f seat : ℕ) (kind : Kind) (span : Span) (cursor : ℕ) → d ≡ Opens f seat kind span cursor → 0 < f)
     → ((j : ℕ) (x : List ℕ) (v : After) → d ≡ Reads j x v → ⊥) → ((j : ℕ) (span : Span) (rows : List (List ℕ × List ℕ)) → d ≡ Scans j span rows → ⊥) → IsTwinChange n m k d
 twin_change n m k (Begins t seat) some no_read no_scan = record {
   next = record k { transaction = λ i. cond (t == i) (Some (new_transaction seat)) (k.transaction i) };
-  one = record { transaction = λ i. refl; rest = refl };
-  other = record { transaction = λ i. refl; rest = refl };
+  one = grind (arith, common_steps);
+  other = grind (arith, common_steps);
 }
 twin_change n m k (Reads j x v) some no_read no_scan = absurd (no_read j x v refl)
 twin_change n m k (Scans j span rows) some no_read no_scan = absurd (no_scan j span rows refl)
 twin_change n m k (Writes t x a) some no_read no_scan = record {
   next = record k { version = λ y i. cond ((t == i) && bytes_eq x y) (Some a) (k.version y i); committed = λ y i. cond ((t == i) && bytes_eq x y) false (k.committed y i) };
-  one = record { version = λ y i. refl; committed = λ y i b e. refl; rest = refl };
-  other = record { version = λ y i. refl; committed = λ y i b e. refl; rest = refl };
+  one = grind (arith, common_steps);
+  other = grind (arith, common_steps);
 }
 twin_change n m k (Commits t) some no_read no_scan = record {
-  next = record k {
-    committed = λ y i. (t == i) || k.committed y i;
-    transaction = λ i. cond (t == i) (option_map (λ (w : Transaction). record w { state = states.Committed }) (k.transaction i)) (k.transaction i);
-  };
-  one = record { version = λ y i. refl; committed = λ y i b e. refl; transaction = λ i. refl; rest = refl };
-  other = record { version = λ y i. refl; committed = λ y i b e. refl; transaction = λ i. refl; rest = refl };
+  next = record k { committed = λ y i. (t == i) || k.committed y i; transaction = ends t states.Committed k };
+  one = grind (arith, common_steps);
+  other = grind (arith, common_steps);
 }
 twin_change n m k (Aborts t) some no_read no_scan = record {
-  next = record k {
-    version = λ y i. cond (t == i) None (k.version y i);
-    transaction = λ i. cond (t == i) (option_map (λ (w : Transaction). record w { state = states.Aborted }) (k.transaction i)) (k.transaction i);
-  };
-  one = record { version = λ y i. refl; committed = λ y i b e. refl; transaction = λ i. refl; rest = refl };
-  other = record { version = λ y i. refl; committed = λ y i b e. refl; transaction = λ i. refl; rest = refl };
+  next = record k { version = λ y i. cond (t == i) None (k.version y i); transaction = ends t states.Aborted k };
+  one = grind (arith, common_steps);
+  other = grind (arith, common_steps);
 }
 twin_change n m k (Closes at) some no_read no_scan = record {
   next = record k { closed = at; marked = λ y j. nat_lt at j && k.marked y j; transaction = λ i. cond (nat_lt at i) (k.transaction i) None };
-  one = record { marked = λ y j. refl; transaction = λ i. refl; rest = refl };
-  other = record { marked = λ y j. refl; transaction = λ i. refl; rest = refl };
+  one = grind (arith, common_steps);
+  other = grind (arith, common_steps);
 }
 twin_change n m k (HardCloses to at) some no_read no_scan = record {
   next = record k {
@@ -114,8 +107,8 @@ twin_change n m k (HardCloses to at) some no_read no_scan = record {
     marked = λ y j. nat_lt at j && k.marked y j;
     transaction = λ i. cond (nat_lt at i) (k.transaction i) None;
   };
-  one = record { version = λ y i. refl; committed = λ y i b e. refl; marked = λ y j. refl; transaction = λ i. refl; rest = refl };
-  other = record { version = λ y i. refl; committed = λ y i b e. refl; marked = λ y j. refl; transaction = λ i. refl; rest = refl };
+  one = grind (arith, common_steps);
+  other = grind (arith, common_steps);
 }
 twin_change n m k (Protects id t) some no_read no_scan = record {
   next = record k { protections = record { id = id; at = t } ∷ k.protections; protections_made = suc k.protections_made };
@@ -129,8 +122,8 @@ twin_change n m k (Releases id) some no_read no_scan = record {
 }
 twin_change n m k (Collects to) some no_read no_scan = record {
   next = record k { horizon = to; version = λ y i. cond (is_dead_in k to y i) None (k.version y i) };
-  one = record { version = λ y i. refl; committed = λ y i b e. refl; rest = refl };
-  other = record { version = λ y i. refl; committed = λ y i b e. refl; rest = refl };
+  one = grind (arith, common_steps);
+  other = grind (arith, common_steps);
 }
 twin_change n m k (Opens f seat kind span cursor) some no_read no_scan =
     let place : Place = opened_place seat kind span cursor in
@@ -161,9 +154,7 @@ twin_change n m k (Cancels f) some no_read no_scan = record {
   one = record { feed = λ g. refl; rest = refl };
   other = record { feed = placed_alike n m k (λ o. None) refl f; rest = refl };
 }
-twin_change n m k (SnapshotReads t x v) some no_read no_scan = record { next = k; one = alike_self k; other = alike_self (shifted n m k) }
-twin_change n m k (SnapshotScans t span rows) some no_read no_scan = record { next = k; one = alike_self k; other = alike_self (shifted n m k) }
-twin_change n m k NoEffect some no_read no_scan = record { next = k; one = alike_self k; other = alike_self (shifted n m k) }
+twin_change n m k d some no_read no_scan = record { next = k; one = alike_self k; other = alike_self (shifted n m k) }
 
 -- ---- reads
 
