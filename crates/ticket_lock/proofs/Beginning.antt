@@ -1,6 +1,6 @@
 -- The lock begins, and issues its seats.
 use Rattle.std.proofs.Common.{◌≡◌, ℕ, suc, ◌+◌, ◌-◌, ◌<◌, cond, Bool, false, List, [], ◌∷◌, ◌++◌, map, set, sym, refl, ap, ◌∙◌, subst, arith, le_refl, true≢false, Option, Some, None}
-use Rattle.ticket_lock.proofs.Common.{Me, Splits, State, opening, sum_by, sum_by-append, sum_by-cons}
+use Rattle.ticket_lock.proofs.Common.{Splits, opening, sum_by, sum_by-append, sum_by-cons}
 use mathlib.Core.Option.{some, some-ne-none}
 use lib.ListN.{get_elem?}
 use Rattle.ticket_lock.specs.declared.rule.SeatRecord.{SeatRecord}
@@ -10,7 +10,7 @@ use Rattle.ticket_lock.specs.Lists.{of_seat, span, head_or, tail}
 use Rattle.ticket_lock.specs.Views.{setup, issuer, opener, after_issue, issued, numbers}
 use Rattle.ticket_lock.specs.Rule.{Knows, Ordered}
 use Rattle.ticket_lock.proofs.ListFacts.{each_set, stays_at, longer_at, sum_set}
-use Rattle.ticket_lock.proofs.Keeping.{Holding, KnowsAt, each_more}
+use Rattle.ticket_lock.proofs.Keeping.{Of, Mine, Holding, KnowsAt, each_more}
 
 suc_is : (n : ℕ) → suc n ≡ n + 1
 suc_is n = omega arith
@@ -22,16 +22,7 @@ span_more : (n c : ℕ) → n < c → span n (c - n) ≡ n ∷ span (suc n) (c -
 span_more n c l = ap (span n) (back n c l)
 
 module _ {T E : Type 0} (stands : T → ℕ → List E → Type 0) (seat_of : E → ℕ) (floor_of : T → ℕ) (key : Setup) where
-  abbrev S : Type 0
-  S = Option T
-
-  abbrev St : Type 0
-  St = State S (View E)
-
-  abbrev M : Type 0
-  M = Me S (View E)
-
-  abbrev Rule : St → Type 0
+  abbrev Rule : Of T E → Type 0
   Rule = Ordered stands seat_of floor_of key
 
   abbrev K : (ticket serving floor : ℕ) → List E → Bool → (ℕ → ℕ) → ℕ → View E → Type 0
@@ -44,23 +35,11 @@ module _ {T E : Type 0} (stands : T → ℕ → List E → Type 0) (seat_of : E 
 
   pub issues : (id : ℕ) (v : View E) (n : ℕ) (ns : List ℕ) → v.unissued ≡ n ∷ ns → n < key.count → v.kept.first ≡ key.first → Splits Rule id v (after_issue v) (issued v)
   issues id v n ns is room base s r at = let l : View E = after_issue v in let w : View E = issued v in let k = r.each id v at in let vs : List (View E) = set s.views id l in let new : List (View E) = w ∷ [] in record {
-    ticket = r.ticket;
-    serving = r.serving;
-    floor = r.floor;
-    beds = r.beds;
-    history = r.history;
-    last = r.last;
-    away = r.away;
-    owner = r.owner;
+    turns = r.turns;
     words = r.words;
-    come = r.come;
-    ahead = r.ahead;
     home = r.home;
-    stood = r.stood;
     out = λ t a b. longer_at (λ (u : View E). u.ticket ≡ Some t) vs new (r.owner t) (stays_at (λ (u : View E). u.ticket ≡ Some t) s.views id (r.owner t) v l at (λ p. p) (r.out t a b));
     held = λ a. longer_at (Holding floor_of r.floor r.last) vs new (r.owner r.serving) (stays_at (Holding floor_of r.floor r.last) s.views id (r.owner r.serving) v l at (λ p. p) (r.held a));
-    capped = r.capped;
-    named = r.named;
     each = each_more (KnowsAt r) vs w
         (each_set (KnowsAt r) s.views id l
         record { sees = k.sees; heard = k.heard; fits = k.fits; gathered = k.gathered; unissued = λ i m e. k.unissued (suc i) m (subst (λ (u : List ℕ). get_elem? (tail u) i ≡ some m → get_elem? u (suc i) ≡ some m) (sym is) (λ x. x) e); low = k.low; cap = k.cap; out = k.out; holder = k.holder }
@@ -88,23 +67,25 @@ module _ {T E : Type 0} (stands : T → ℕ → List E → Type 0) (seat_of : E 
 
   pub opens : (beds : List ℕ) (x : T) → stands x key.first [] → Rule record { words = key.first ∷ key.first ∷ 0 ∷ beds; homes = some (Some x) ∷ []; views = opener key ∷ [] }
   opens beds x new = record {
-    ticket = key.first;
-    serving = key.first;
-    floor = 0;
-    beds = beds;
-    history = [];
-    last = x;
-    away = false;
-    owner = λ t. 0;
+    turns = record {
+      ticket = key.first;
+      serving = key.first;
+      floor = 0;
+      beds = beds;
+      history = [];
+      last = x;
+      away = false;
+      owner = λ t. 0;
+      come = omega arith;
+      ahead = le_refl key.first;
+      stood = new;
+      capped = λ _. omega arith;
+      named = λ i e g. absurd (some-ne-none e (sym g));
+    };
     words = refl;
-    come = omega arith;
-    ahead = le_refl key.first;
     home = refl;
-    stood = new;
     out = λ t a b. absurd (omega arith);
     held = λ a. absurd (true≢false (sym a));
-    capped = λ _. omega arith;
-    named = λ i e g. absurd (some-ne-none e (sym g));
     each = each_more (K key.first key.first 0 [] false (λ t. 0)) [] (opener key) (λ j u e. absurd (some-ne-none u (sym e))) (λ j. record {
       sees = ([], refl);
       heard = ([], refl);
@@ -119,15 +100,15 @@ module _ {T E : Type 0} (stands : T → ℕ → List E → Type 0) (seat_of : E 
     counted = λ f. omega (arith, sum_by-cons (λ (u : View E). sum_by f (numbers u)) (opener key) []);
   }
 
-  pub issues_next : (first count id : ℕ) (m : M) (n : ℕ) → key ≡ setup first count → n < count → m ≡ (issuer first (span n (count - n)), []) → Splits Rule id m.0 (after_issue m.0) (issued m.0)
+  pub issues_next : (first count id : ℕ) (m : Mine T E) (n : ℕ) → key ≡ setup first count → n < count → m ≡ (issuer first (span n (count - n)), []) → Splits Rule id m.0 (after_issue m.0) (issued m.0)
   issues_next first count id m n known room is = let v : View E = issuer first (span n (count - n)) in let first_is : first ≡ key.first = sym (ap (λ (k : Setup). k.first) known) in
-      subst (λ (z : M). Splits Rule id z.0 (after_issue z.0) (issued z.0)) (sym is)
+      subst (λ (z : Mine T E). Splits Rule id z.0 (after_issue z.0) (issued z.0)) (sym is)
       (issues id v n (span (suc n) (count - suc n)) (span_more n count room) (subst (λ (c : ℕ). n < c) (sym (ap (λ (k : Setup). k.count) known)) room) first_is)
 
-  pub issued_next : (first count : ℕ) (m m' : M) (n : ℕ) → n < count → m ≡ (issuer first (span n (count - n)), []) → m' ≡ (after_issue m.0, m.1) → m' ≡ (issuer first (span (n + 1) (count - (n + 1))), [])
-  issued_next first count m m' n room is now = now ∙ (ap (λ (z : M). (after_issue z.0, z.1)) is ∙ (ap (λ (l : List ℕ). (issuer first (tail l), [])) (span_more n count room) ∙ ap (λ (k : ℕ). (issuer first (span k (count - k)), [])) (suc_is n)))
+  pub issued_next : (first count : ℕ) (m m' : Mine T E) (n : ℕ) → n < count → m ≡ (issuer first (span n (count - n)), []) → m' ≡ (after_issue m.0, m.1) → m' ≡ (issuer first (span (n + 1) (count - (n + 1))), [])
+  issued_next first count m m' n room is now = now ∙ (ap (λ (z : Mine T E). (after_issue z.0, z.1)) is ∙ (ap (λ (l : List ℕ). (issuer first (tail l), [])) (span_more n count room) ∙ ap (λ (k : ℕ). (issuer first (span k (count - k)), [])) (suc_is n)))
 
-  pub starts : (first count : ℕ) (beds words : List ℕ) (x : T) (items : List S) → key ≡ setup first count → words ≡ first ∷ first ∷ 0 ∷ beds → items ≡ Some x ∷ [] → stands x first [] → Rule (opening words items (opener key))
+  pub starts : (first count : ℕ) (beds words : List ℕ) (x : T) (items : List (Option T)) → key ≡ setup first count → words ≡ first ∷ first ∷ 0 ∷ beds → items ≡ Some x ∷ [] → stands x first [] → Rule (opening words items (opener key))
   starts first count beds words x items known laid is new = let f : key.first ≡ first = ap (λ (k : Setup). k.first) known in
-      subst (λ (z : List ℕ × List S). Rule (opening z.0 z.1 (opener key))) (λ i. (sym laid i, sym is i))
+      subst (λ (z : List ℕ × List (Option T)). Rule (opening z.0 z.1 (opener key))) (λ i. (sym laid i, sym is i))
       (subst (λ (f : ℕ). Rule (opening (f ∷ f ∷ 0 ∷ beds) (Some x ∷ []) (opener key))) f (opens beds x (subst (λ (f : ℕ). stands x f []) (sym f) new)))

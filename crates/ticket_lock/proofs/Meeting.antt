@@ -1,6 +1,6 @@
 -- Two seats tell each other what they have seen.
 use Rattle.std.proofs.Common.{◌≡◌, ℕ, ◌≤◌, true, List, [], ◌∷◌, ◌++◌, max, set, get_or, sym, refl, ap, ◌∙◌, subst, arith, le_refl, true≢false, Option, Some, None}
-use Rattle.ticket_lock.proofs.Common.{Act, Allows, Joins, Me, Splits, State, Valid, carried_after, keeps, step, stepped, sum_by}
+use Rattle.ticket_lock.proofs.Common.{Act, Allows, Joins, Splits, Valid, carried_after, keeps, step, stepped, sum_by}
 use mathlib.Core.Option.{some-ne-none, none}
 use Rattle.ticket_lock.specs.declared.rule.View.{View}
 use Rattle.ticket_lock.specs.declared.rule.Setup.{Setup}
@@ -9,24 +9,15 @@ use Rattle.ticket_lock.specs.Views.{numbers, report, nobody, telling, report_of,
 use Rattle.ticket_lock.specs.Rule.{Ordered}
 use Rattle.ticket_lock.specs.Steps.{compared}
 use Rattle.ticket_lock.proofs.ListFacts.{set_there, longer_starts, of_between}
-use Rattle.ticket_lock.proofs.Keeping.{at_words, unmoved, knows_looking, came_new, joined}
+use Rattle.ticket_lock.proofs.Keeping.{Of, Mine, at_words, unmoved, knows_looking, came_new, joined}
 
 module _ {T E : Type 0} (stands : T → ℕ → List E → Type 0) (seat_of : E → ℕ) (floor_of : T → ℕ) (key : Setup) where
-  abbrev S : Type 0
-  S = Option T
-
-  abbrev St : Type 0
-  St = State S (View E)
-
-  abbrev M : Type 0
-  M = Me S (View E)
-
-  abbrev Rule : St → Type 0
+  abbrev Rule : Of T E → Type 0
   Rule = Ordered stands seat_of floor_of key
 
-  pub compares : (slots id : ℕ) (me : M) → me.0.sits ≡ true → Allows Rule slots id me 1 (λ n. n) (compared seat_of (step slots 1 0 0 none) me)
+  pub compares : (slots id : ℕ) (me : Mine T E) → me.0.sits ≡ true → Allows Rule slots id me 1 (λ n. n) (compared seat_of (step slots 1 0 0 none) me)
   compares slots id me sits s r _ at _ = let v : View E = me.0 in let k = r.each id v at in let f = k.fits sits in let h : List E = r.history in let l = longer_starts h v.kept.seen v.heard k.sees k.heard in
-      at_words s r (λ ws. (w : View E) × (a : Act S) × Valid s.homes me.1 a × Rule (stepped record { words = ws; homes = s.homes; views = s.views } 1 (get_or ws 1 0) id me.1 w a)
+      at_words s r (λ ws. (w : View E) × (a : Act (Option T)) × Valid s.homes me.1 a × Rule (stepped record { words = ws; homes = s.homes; views = s.views } 1 (get_or ws 1 0) id me.1 w a)
       × compared seat_of (step slots 1 0 0 none) me (get_or ws 1 0) (w, carried_after me.1 a)) (
         caught_up v r.serving,
         keeps,
@@ -54,7 +45,7 @@ module _ {T E : Type 0} (stands : T → ℕ → List E → Type 0) (seat_of : E 
 
   pub reports : (id : ℕ) (v : View E) → Splits Rule id v (telling v) (report_of v)
   reports id v s r at = let w : View E = telling v in
-      let told : St = record { words = r.ticket ∷ r.serving ∷ r.floor ∷ r.beds; homes = s.homes; views = set s.views id w } in
+      let told : Of T E = record { words = r.ticket ∷ r.serving ∷ r.floor ∷ r.beds; homes = s.homes; views = set s.views id w } in
       let q : Rule told = unmoved s r id v w at refl refl refl (knows_looking s r id v (r.each id v at) w.looks) (λ f. refl) in
       let k = q.each id w (set_there s.views id v w at) in
       subst (λ (ws : List ℕ). Rule record { words = ws; homes = s.homes; views = set s.views id w ++ report_of v ∷ [] }) (sym r.words)

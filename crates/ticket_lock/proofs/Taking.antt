@@ -1,6 +1,6 @@
 -- A turn comes.
 use Rattle.std.proofs.Common.{◌≡◌, ℕ, ◌≤◌, cond, Bool, true, false, List, [], ◌∷◌, set, get_or, sym, refl, ap, ◌∙◌, subst, arith, le_refl, true≢false, Option, Some}
-use Rattle.ticket_lock.proofs.Common.{Act, Allows, Me, State, Valid, carried_after, keeps, step, stepped, sum_by, takes}
+use Rattle.ticket_lock.proofs.Common.{Act, Allows, Valid, carried_after, keeps, step, stepped, sum_by, takes}
 use mathlib.Core.Option.{some, some-injective, none}
 use mathlib.Core.Logic.{dite}
 use native.Mathlib.Decide.{ℕ_discrete}
@@ -12,48 +12,27 @@ use Rattle.ticket_lock.specs.Views.{numbers, looked, holding}
 use Rattle.ticket_lock.specs.Rule.{Knows, Ordered}
 use Rattle.ticket_lock.specs.Steps.{drew, awaited}
 use Rattle.ticket_lock.proofs.ListFacts.{either_way, each_set, set_there, stays_at, same_sum}
-use Rattle.ticket_lock.proofs.Keeping.{at_words, unmoved, knows_looked, far}
+use Rattle.ticket_lock.proofs.Keeping.{Of, Mine, at_words, unmoved, knows_looked, far}
 
 module _ {T E : Type 0} (stands : T → ℕ → List E → Type 0) (seat_of : E → ℕ) (floor_of : T → ℕ) (key : Setup) where
-  abbrev S : Type 0
-  S = Option T
-
-  abbrev St : Type 0
-  St = State S (View E)
-
-  abbrev M : Type 0
-  M = Me S (View E)
-
-  abbrev Rule : St → Type 0
+  abbrev Rule : Of T E → Type 0
   Rule = Ordered stands seat_of floor_of key
 
   abbrev K : (ticket serving floor : ℕ) → List E → Bool → (ℕ → ℕ) → ℕ → View E → Type 0
   K = Knows seat_of key.first key.count
 
   -- the turn came
-  takes_it : (s : St) (r : Rule s) (id : ℕ) (v : View E) → get_elem? s.views id ≡ some v → v.ticket ≡ Some r.serving → v.holds ≡ false
+  takes_it : (s : Of T E) (r : Rule s) (id : ℕ) (v : View E) → get_elem? s.views id ≡ some v → v.ticket ≡ Some r.serving → v.holds ≡ false
       → (r.away ≡ false) × Rule record { words = r.ticket ∷ r.serving ∷ r.floor ∷ r.beds; homes = none ∷ []; views = set s.views id (holding v r.serving r.history) }
   takes_it s r id v at mine idle = let w : View E = holding v r.serving r.history in let k = r.each id v at in let o = k.out r.serving mine in
       let home : r.away ≡ false = either_way r.away (λ a. let h = r.held a in let same : h.0 ≡ v = some-injective h.0 v (sym h.1 ∙ ap (get_elem? s.views) o.2 ∙ at) in let y = sym (ap (λ (u : View E). u.holds) same) ∙ h.2.0 in let z = sym idle ∙ y in cc) in (
         home,
         record {
-          ticket = r.ticket;
-          serving = r.serving;
-          floor = r.floor;
-          beds = r.beds;
-          history = r.history;
-          last = r.last;
-          away = true;
-          owner = r.owner;
+          turns = record (r.turns) { away = true; capped = λ z. absurd (true≢false z) };
           words = refl;
-          come = r.come;
-          ahead = r.ahead;
           home = refl;
-          stood = r.stood;
           out = λ t a b. stays_at (λ (u : View E). u.ticket ≡ Some t) s.views id (r.owner t) v w at (λ p. p) (r.out t a b);
           held = λ _. (w, ap (get_elem? (set s.views id w)) o.2 ∙ set_there s.views id v w at, (refl, let q = r.capped home in omega arith));
-          capped = λ z. absurd (true≢false z);
-          named = r.named;
           each = each_set (K r.ticket r.serving r.floor r.history true r.owner) s.views id w
               record { sees = k.sees; heard = k.heard; fits = k.fits; gathered = k.gathered; unissued = k.unissued; low = le_refl r.serving; cap = k.cap; out = k.out; holder = λ _. (refl, mine, refl) }
               (λ j d _ e. let kd = r.each j d e in record { sees = kd.sees; heard = kd.heard; fits = kd.fits; gathered = kd.gathered; unissued = kd.unissued; low = kd.low; cap = kd.cap; out = kd.out; holder = λ h. let x = kd.holder h in (refl, x.1, x.2) });
@@ -61,9 +40,9 @@ module _ {T E : Type 0} (stands : T → ℕ → List E → Type 0) (seat_of : E 
         },
       )
 
-  pub awaits : (slots id : ℕ) (me : M) (t : ℕ) → me.0.sits ≡ true → me.0.ticket ≡ Some t → me.0.holds ≡ false → Allows Rule slots id me 1 (λ n. n) (awaited stands floor_of (step slots 1 0 0 none) me)
+  pub awaits : (slots id : ℕ) (me : Mine T E) (t : ℕ) → me.0.sits ≡ true → me.0.ticket ≡ Some t → me.0.holds ≡ false → Allows Rule slots id me 1 (λ n. n) (awaited stands floor_of (step slots 1 0 0 none) me)
   awaits slots id me t sits drew idle s r _ at _ = let v : View E = me.0 in let k = r.each id v at in
-      at_words s r (λ ws. (w : View E) × (a : Act S) × Valid s.homes me.1 a × Rule (stepped record { words = ws; homes = s.homes; views = s.views } 1 (get_or ws 1 0) id me.1 w a)
+      at_words s r (λ ws. (w : View E) × (a : Act (Option T)) × Valid s.homes me.1 a × Rule (stepped record { words = ws; homes = s.homes; views = s.views } 1 (get_or ws 1 0) id me.1 w a)
       × awaited stands floor_of (step slots 1 0 0 none) me (get_or ws 1 0) (w, carried_after me.1 a))
       (let more : (z : ℕ) → v.ticket ≡ Some z → r.serving ≤ z = λ z e. (k.out z e).0 in
       dite (ℕ_discrete r.serving t)
@@ -92,5 +71,5 @@ module _ {T E : Type 0} (stands : T → ℕ → List E → Type 0) (seat_of : E 
       )))
 
   -- the wait goes on from a seat that has only looked
-  pub awaits_from : (slots id : ℕ) (v : View E) (n : ℕ) (cs : List (ℕ × S)) (m : M) (t : ℕ) → m ≡ (looked v n, cs) → v.sits ≡ true → v.ticket ≡ Some t → v.holds ≡ false → Allows Rule slots id m 1 (λ n. n) (awaited stands floor_of (step slots 1 0 0 none) m)
-  awaits_from slots id v n cs m t is sits mine idle = subst (λ (z : M). Allows Rule slots id z 1 (λ n. n) (awaited stands floor_of (step slots 1 0 0 none) z)) (sym is) (awaits slots id (looked v n, cs) t sits mine idle)
+  pub awaits_from : (slots id : ℕ) (v : View E) (n : ℕ) (cs : List (ℕ × Option T)) (m : Mine T E) (t : ℕ) → m ≡ (looked v n, cs) → v.sits ≡ true → v.ticket ≡ Some t → v.holds ≡ false → Allows Rule slots id m 1 (λ n. n) (awaited stands floor_of (step slots 1 0 0 none) m)
+  awaits_from slots id v n cs m t is sits mine idle = subst (λ (z : Mine T E). Allows Rule slots id z 1 (λ n. n) (awaited stands floor_of (step slots 1 0 0 none) z)) (sym is) (awaits slots id (looked v n, cs) t sits mine idle)

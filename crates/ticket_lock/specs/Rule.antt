@@ -32,28 +32,35 @@ module _ {E : Type 0} (seat_of : E → ℕ) (first count ticket serving floor : 
     pub holder : v.holds ≡ true → (away ≡ true) × (v.ticket ≡ Some serving) × (v.found ≡ h)
 
 module _ {T E : Type 0} (stands : T → ℕ → List E → Type 0) (seat_of : E → ℕ) (floor_of : T → ℕ) where
-  -- There is one history. Its length is how far the serving number has come, and the value at home stands for it, or what the holder of the turn found.
-  pub record Ordered (key : Setup) (s : State (Option T) (View E)) : Type 0 where
+  -- There is one history. Its length is how far the serving number has come, and the last value stands for it.
+  pub record Turns (key : Setup) : Type 0 where
     pub ticket : ℕ
     pub serving : ℕ
     pub floor : ℕ
+    -- on the beds seats sleep; what they say is of no account
     pub beds : List ℕ
     pub history : List E
     pub last : T
+    -- some seat has the turn
     pub away : Bool
+    -- whose each ticket is
     pub owner : ℕ → ℕ
-    -- on the beds seats sleep; what they say is of no account
-    pub words : s.words ≡ ticket ∷ serving ∷ floor ∷ beds
     pub come : serving ≡ key.first + length history
     pub ahead : serving ≤ ticket
-    pub home : s.homes ≡ cond away none (some (Some last)) ∷ []
     pub stood : stands last key.first history
+    pub capped : away ≡ false → floor ≤ floor_of last
+    pub named : (k : ℕ) (e : E) → get_elem? history k ≡ some e → seat_of e < key.count
+
+  -- The words, the slots and the views are those of the turns. The value is at home, or what the holder of the turn found.
+  pub record Ordered (key : Setup) (s : State (Option T) (View E)) : Type 0 where
+    pub turns : Turns key
+    pub open turns use *
+    pub words : s.words ≡ ticket ∷ serving ∷ floor ∷ beds
+    pub home : s.homes ≡ cond away none (some (Some last)) ∷ []
     -- each ticket from the serving number on is out, with the seat that owns it
     pub out : (t : ℕ) → serving ≤ t → t < ticket → (v : View E) × (get_elem? s.views (owner t) ≡ some v) × (v.ticket ≡ Some t)
     -- the floor word is no higher than the value, or than what its holder raised the word to
     pub held : away ≡ true → (v : View E) × (get_elem? s.views (owner serving) ≡ some v) × ((v.holds ≡ true) × (floor ≤ max (floor_of last) v.raised))
-    pub capped : away ≡ false → floor ≤ floor_of last
-    pub named : (k : ℕ) (e : E) → get_elem? history k ≡ some e → seat_of e < key.count
     pub each : (j : ℕ) (v : View E) → get_elem? s.views j ≡ some v → Knows seat_of key.first key.count ticket serving floor history away owner j v
     -- however the seats are weighed by their numbers: the views stand for each number below the count, once
     pub counted : (f : ℕ → ℕ) → sum_by (λ v. sum_by f (numbers v)) s.views ≡ sum_by f (span 0 key.count)
