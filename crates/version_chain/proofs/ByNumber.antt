@@ -1,7 +1,7 @@
 -- What is found by key, where records lie by number: after one changed, one came and one went.
 use Rattle.version_chain.proofs.Common.{IsNumberedAt, IsOwn, Numbered, SpanMarks, both_ways, by_test, common_steps, get_or-map, is_kept, key_itself, latest_in, length-map, length-set, map-set, number_in, readers_of, same_key}
 use Rattle.std.proofs.Common.{rules}
-use Rattle.std.proofs.Common.{◌≡◌, ℕ, ◌<◌, ◌==◌, true, false, cond, List, [], ◌∷◌, length, Option, Some, None, refl, sym, ◌∙◌, ap, arith, eq-eqb}
+use Rattle.std.proofs.Common.{◌≡◌, ℕ, ◌<◌, ◌==◌, true, false, cond, List, [], ◌∷◌, length, Some, None, refl, sym, ◌∙◌, ap, arith, eq-eqb}
 use Rattle.std.specs.Prelude.{◌≢◌, bytes_eq, slice_index_or, slice_set}
 use Rattle.version_chain.specs.declared.record.Record.{Record}
 use Rattle.version_chain.specs.Chains.{at_key, chain_of, marked_in}
@@ -33,29 +33,14 @@ other_number : (ns : Numbered) (x y : List ℕ) (n m : ℕ) → IsOwn ns x n →
 other_number ns x y n m own there is e = both_ways _ there (ap (bytes_eq x) (own y (is ∙ ap Some e)) ∙ key_itself x)
 
 module _ {A : Type 0} (ns ms : Numbered) (xs ys : List (List A)) (x : List ℕ) (n : ℕ) (v : List A) where
-  elsewhere : (ks : Numbered) (y : List ℕ) (none : List A) → IsOwn ks x n → IsPutAt xs ys n v → bytes_eq x y ≡ false → (o : Option ℕ) → number_in ks y ≡ o → at_number ys none o ≡ at_number xs none o
-  elsewhere ks y none own put there None is = refl
-  elsewhere ks y none own put there (Some m) is = at_other xs ys n m v put (other_number ks x y n m own there is)
-
   -- what x has changes alone, where it keeps or gets the number n
   pub put_by_key : IsNumberedAt ns ms x (Some n) → IsOwn ms x n → IsPutAt xs ys n v → (y : List ℕ) (none : List A) → at_number ys none (number_in ms y) ≡ cond (bytes_eq x y) v (at_number xs none (number_in ns y))
-  put_by_key numbered own put y none = by_test (bytes_eq x y)
-      (λ here.
-      let is : number_in ms y ≡ Some n = numbered y ∙ rw here refl in
-      rw here (ap (at_number ys none) is ∙ at_it xs ys n v put))
-      (λ there.
-      let is : number_in ms y ≡ number_in ns y = numbered y ∙ rw there refl in
-      rw there (elsewhere ms y none own put there (number_in ms y) refl ∙ ap (at_number xs none) is))
+  put_by_key numbered own put y none =
+      grind (arith, common_steps, numbered y, other_number ms x y n, at_it xs ys n v put, at_other xs ys n, key_itself x)
 
   -- x has nothing any more, where its number went
   pub gone_by_key : IsNumberedAt ns ms x None → IsOwn ns x n → IsPutAt xs ys n v → (y : List ℕ) (none : List A) → at_number ys none (number_in ms y) ≡ cond (bytes_eq x y) none (at_number xs none (number_in ns y))
-  gone_by_key numbered own put y none = by_test (bytes_eq x y)
-      (λ here.
-      let is : number_in ms y ≡ None = numbered y ∙ rw here refl in
-      rw here (ap (at_number ys none) is))
-      (λ there.
-      let is : number_in ms y ≡ number_in ns y = numbered y ∙ rw there refl in
-      rw there (ap (at_number ys none) is ∙ elsewhere ns y none own put there (number_in ns y) refl))
+  gone_by_key numbered own put y none = grind (arith, common_steps, numbered y, other_number ns x y n, at_other xs ys n)
 
 -- ---- of records
 

@@ -1,7 +1,8 @@
 -- What is found in the chains of all keys after one of them changed.
 use Rattle.std.proofs.Common.{arith}
+use Rattle.std.proofs.lemmas.Grind.{common_steps}
 use Rattle.std.proofs.Common.{rules}
-use Rattle.std.proofs.Common.{◌≡◌, ℕ, ◌==◌, Bool, cond, false, List, [], ◌∷◌, Option, Some, None, Result, Ok, Err, true, refl, sym, ◌∙◌, ap, subst}
+use Rattle.std.proofs.Common.{◌≡◌, ℕ, ◌==◌, Bool, cond, false, List, [], ◌∷◌, Option, Some, None, Result, Ok, Err, true, sym, ◌∙◌, ap, subst}
 use Rattle.std.specs.Prelude.{is_none, OnOk, OnErr}
 use Rattle.spans.proofs.Steps.{by_test, same_key}
 use Rattle.version_chain.specs.declared.chain.Version.{Version}
@@ -21,15 +22,7 @@ changed es fs x ws t f put edit y i = search (by_test, same_key, rules, arith)
 
 -- a chain of one version, where there was none
 pub edited_one : (vs ws : List Version) (v : Version) → vs ≡ [] → ws ≡ v ∷ [] → IsEdited vs ws v.ts (λ _. Some v)
-edited_one vs ws v none one i = ap (λ us. version_of us i) one ∙ subst (λ us. version_of (v ∷ []) i ≡ cond (v.ts == i) (Some v) (version_of us i)) (sym none) refl
-
-pub none_first : (ws : List Version) (v : Version) → ws ≡ v ∷ [] → ws ≡ [] → ⊥
-none_first ws v one none = (let no : [] ≡ v ∷ [] = sym none ∙ one in cc)
-
--- ---- no chain becomes empty
-
-none_empty : (vs : List Version) (i : ℕ) (v : Version) → version_of vs i ≡ Some v → vs ≡ [] → ⊥
-none_empty vs i v some none = (let no : None ≡ Some v = sym (ap (λ us. version_of us i) none) ∙ some in cc)
+edited_one vs ws v none one i = grind (arith, common_steps)
 
 -- ---- the same chains
 

@@ -1,7 +1,8 @@
 -- What a chain has after a version was put in, replaced, marked or taken out.
 use Rattle.version_chain.proofs.Common.{by_test, common_steps, eqb-true, insert, remove}
+use Rattle.std.proofs.lemmas.Grind.{elements}
 use Rattle.std.proofs.Common.{rules}
-use Rattle.std.proofs.Common.{◌≡◌, ℕ, zero, suc, ◌<◌, ◌≤◌, ◌-◌, ◌==◌, false, cond, List, [], ◌∷◌, length, get_or, set, Option, Some, None, refl, sym, ◌∙◌, ap, arith, subst}
+use Rattle.std.proofs.Common.{◌≡◌, ℕ, zero, suc, ◌<◌, ◌≤◌, ◌-◌, ◌+◌, ◌==◌, false, cond, List, [], ◌∷◌, length, get_or, set, Some, None, refl, sym, ◌∙◌, ap, arith, subst}
 use Rattle.std.specs.Prelude.{option_map}
 use Rattle.version_chain.specs.declared.chain.Version.{Version}
 use Rattle.version_chain.specs.Versions.{AreAbove, DoRise, version_of, as_committed, IsPlaceAbove, IsPlaceOf, IsFreePlace}
@@ -26,38 +27,33 @@ some_placed vs t k d r p = ap (version_of vs) (sym (p.here d)) ∙ found vs k d 
 
 -- ---- rising
 
-above_insert : (vs : List Version) (t k : ℕ) (v : Version) → k ≤ length vs → AreAbove t vs → t < v.ts → AreAbove t (insert vs k v)
-above_insert vs t zero v le a up = (up, a)
-above_insert [] t (suc k) v le a up = absurd (omega arith)
-above_insert (w ∷ vs) t (suc k) v le a up = (a.0, above_insert vs t k v (omega arith) a.1 up)
-
 from_places : (vs : List Version) (t : ℕ) → ((k : ℕ) (d : Version) → k < length vs → t < (get_or vs k d).ts) → AreAbove t vs
 from_places [] t h = tt
 from_places (v ∷ vs) t h = (h zero v (omega arith), from_places vs t (λ k d lt. h (suc k) d (omega arith)))
 
+above_insert : (vs : List Version) (t k : ℕ) (v : Version) → k ≤ length vs → AreAbove t vs → t < v.ts → AreAbove t (insert vs k v)
+above_insert vs t k v le a up = from_places (insert vs k v) t (λ j d lt. grind (arith, elements, above_at vs t (j - 1) d a, above_at vs t j d a))
+
+free_behind : (w : Version) (vs : List Version) (t k : ℕ) → IsFreePlace (w ∷ vs) t (suc k) → IsFreePlace vs t k
+free_behind w vs t k p = record {
+  within = omega (arith, p.within);
+  below = λ j d lt. p.below (suc j) d (omega arith);
+  above = λ j d at lt. p.above (suc j) d (omega arith) (omega arith);
+}
+
 pub rises_insert : (vs : List Version) (k : ℕ) (v : Version) → DoRise vs → IsFreePlace vs v.ts k → DoRise (insert vs k v)
 rises_insert vs zero v r p = (from_places vs v.ts (λ j d lt. p.above j d (omega arith) lt), r)
 rises_insert [] (suc k) v r p = absurd (omega (arith, p.within))
-rises_insert (w ∷ vs) (suc k) v r p = (
-  above_insert vs w.ts k v (omega (arith, p.within)) r.0 (p.below zero w (omega arith)),
-  rises_insert vs k v r.1 (record {
-    within = omega (arith, p.within);
-    below = λ j d lt. p.below (suc j) d (omega arith);
-    above = λ j d at lt. p.above (suc j) d (omega arith) (omega arith);
-  }),
-)
+rises_insert (w ∷ vs) (suc k) v r p =
+    grind (arith, common_steps, above_insert vs w.ts k v, p.below 0 w, rises_insert vs k v r.1 (free_behind w vs v.ts k p))
 
 above_set : (vs : List Version) (t k : ℕ) (v : Version) → AreAbove t vs → t < v.ts → AreAbove t (set vs k v)
-above_set [] t k v a up = tt
-above_set (w ∷ vs) t zero v a up = (up, a.1)
-above_set (w ∷ vs) t (suc k) v a up = (a.0, above_set vs t k v a.1 up)
+above_set vs t k v a up = from_places (set vs k v) t (λ j d lt. grind (arith, elements, above_at vs t j d a))
 
 pub rises_set : (vs : List Version) (k : ℕ) (v : Version) → DoRise vs → IsPlaceOf vs v.ts k → DoRise (set vs k v)
 rises_set [] k v r p = tt
 rises_set (w ∷ vs) zero v r p = (subst (λ t. AreAbove t vs) (p.here v) r.0, r.1)
-rises_set (w ∷ vs) (suc k) v r p =
-    let lt : k < length vs = omega (arith, p.within) in
-    let up : w.ts < (get_or vs k v).ts = above_at vs w.ts k v r.0 lt in grind (arith, common_steps, above_set, rises_set vs k v r.1)
+rises_set (w ∷ vs) (suc k) v r p = grind (arith, common_steps, above_set, above_at vs w.ts k v r.0, rises_set vs k v r.1)
 
 -- one to read a list by where there is none
 pub some_version : Version
@@ -67,10 +63,7 @@ pub rises_commit : (vs : List Version) (k t : ℕ) (d : Version) → DoRise vs �
 rises_commit vs k t d r p = rises_set vs k (as_committed (get_or vs k d)) r (record { within = p.within; here = λ e. p.here e ∙ sym (p.here d) })
 
 above_remove : (vs : List Version) (t k : ℕ) → AreAbove t vs → AreAbove t (remove vs k)
-above_remove [] t zero a = tt
-above_remove [] t (suc k) a = tt
-above_remove (w ∷ vs) t zero a = a.1
-above_remove (w ∷ vs) t (suc k) a = (a.0, above_remove vs t k a.1)
+above_remove vs t k a = from_places (remove vs k) t (λ j d lt. grind (arith, elements, above_at vs t (j + 1) d a, above_at vs t j d a))
 
 pub rises_remove : (vs : List Version) (k : ℕ) → DoRise vs → DoRise (remove vs k)
 rises_remove [] zero r = tt
@@ -80,30 +73,15 @@ rises_remove (w ∷ vs) (suc k) r = (above_remove vs w.ts k r.0, rises_remove vs
 
 -- ---- what is found
 
--- a version that stands behind one of another timestamp
-behind : (w : Version) (i t : ℕ) (o x y : Option Version) → (w.ts ≡ t → ⊥) → x ≡ cond (t == i) o y → cond (w.ts == i) (Some w) x ≡ cond (t == i) o (cond (w.ts == i) (Some w) y)
-behind w i t o x y apart e = grind (arith, common_steps)
-
 pub insert_finds : (vs : List Version) (k : ℕ) (v : Version) (i : ℕ) → IsFreePlace vs v.ts k → version_of (insert vs k v) i ≡ cond (v.ts == i) (Some v) (version_of vs i)
 insert_finds vs zero v i p = refl
 insert_finds [] (suc k) v i p = absurd (omega (arith, p.within))
-insert_finds (w ∷ vs) (suc k) v i p =
-    let less : w.ts < v.ts = p.below zero w (omega arith) in
-    behind w i v.ts (Some v) (version_of (insert vs k v) i) (version_of vs i) (λ same. omega arith) (insert_finds vs k v i (record {
-      within = omega (arith, p.within);
-      below = λ j d lt. p.below (suc j) d (omega arith);
-      above = λ j d at lt. p.above (suc j) d (omega arith) (omega arith);
-    }))
+insert_finds (w ∷ vs) (suc k) v i p = grind (arith, common_steps, p.below 0 w, insert_finds vs k v i (free_behind w vs v.ts k p))
 
 pub set_finds : (vs : List Version) (k : ℕ) (v : Version) (i : ℕ) → DoRise vs → IsPlaceOf vs v.ts k → version_of (set vs k v) i ≡ cond (v.ts == i) (Some v) (version_of vs i)
 set_finds [] k v i r p = absurd (omega (arith, p.within))
-set_finds (w ∷ vs) zero v i r p =
-    let here : w.ts ≡ v.ts = p.here v in
-    grind (arith, common_steps)
-set_finds (w ∷ vs) (suc k) v i r p =
-    let lt : k < length vs = omega (arith, p.within) in
-    let up : w.ts < (get_or vs k v).ts = above_at vs w.ts k v r.0 lt in
-    grind (arith, common_steps, set_finds vs k v i r.1)
+set_finds (w ∷ vs) zero v i r p = grind (arith, common_steps, p.here v)
+set_finds (w ∷ vs) (suc k) v i r p = grind (arith, common_steps, above_at vs w.ts k v r.0, p.here v, p.within, set_finds vs k v i r.1)
 
 pub commit_finds : (vs : List Version) (k : ℕ) (v : Version) (t i : ℕ) → DoRise vs → IsPlaceOf vs t k → v ≡ get_or vs k v
     → version_of (set vs k (as_committed v)) i ≡ cond (t == i) (option_map as_committed (version_of vs i)) (version_of vs i)
@@ -111,13 +89,8 @@ commit_finds vs k v t i r p is = grind (arith, common_steps, set_finds, by_test,
 
 pub remove_finds : (vs : List Version) (k t i : ℕ) → DoRise vs → IsPlaceOf vs t k → version_of (remove vs k) i ≡ cond (t == i) None (version_of vs i)
 remove_finds [] k t i r p = absurd (omega (arith, p.within))
-remove_finds (w ∷ vs) zero t i r p =
-    let here : w.ts ≡ t = p.here w in
-    grind (arith, common_steps, by_test, none_at, above_at, eqb-true)
-remove_finds (w ∷ vs) (suc k) t i r p =
-    let lt : k < length vs = omega (arith, p.within) in
-    let up : w.ts < (get_or vs k w).ts = above_at vs w.ts k w r.0 lt in
-    grind (arith, common_steps, remove_finds vs k t i r.1)
+remove_finds (w ∷ vs) zero t i r p = grind (arith, common_steps, p.here w, none_at, above_at, eqb-true)
+remove_finds (w ∷ vs) (suc k) t i r p = grind (arith, common_steps, above_at vs w.ts k w r.0, p.here w, p.within, remove_finds vs k t i r.1)
 
 -- no version of t, and so nothing to mark or to take out
 pub unmarked : (vs : List Version) (t i : ℕ) → version_of vs t ≡ None → version_of vs i ≡ cond (t == i) (option_map as_committed (version_of vs i)) (version_of vs i)

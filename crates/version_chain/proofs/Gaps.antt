@@ -1,7 +1,7 @@
 -- Readers of a key and its versions: which reader crosses a write, and the gap of a read.
-use Rattle.version_chain.proofs.Common.{After, AtMost, IsBetween, IsCrossed, IsPiece, and_parts, cases_lt, common_steps, is_kept, is_reader, nat_tests, newest, newest_only, option_copied, until}
-use Rattle.std.proofs.Common.{◌≡◌, ℕ, ◌<◌, ◌≤◌, ◌==◌, Bool, true, false, List, [], ◌∷◌, Option, Some, None, Result, Ok, Err, refl, sym, ◌∙◌, ap, inl, inr, arith, max, lt-ltb, ltb-true, nat_lt, option_map}
-use Rattle.std.specs.Prelude.{◌↔◌, IfSome, IsTrue, MatchOption, OnErr, OnOk, is_some}
+use Rattle.version_chain.proofs.Common.{After, IsBetween, IsCrossed, IsPiece, and_parts, common_steps, is_kept, is_reader, nat_tests, newest, newest_only, option_copied, until}
+use Rattle.std.proofs.Common.{◌≡◌, ℕ, ◌<◌, ◌≤◌, ◌==◌, Bool, false, List, [], ◌∷◌, Option, Some, None, Result, Ok, Err, refl, ap, arith, max, nat_lt, option_map}
+use Rattle.std.specs.Prelude.{◌↔◌, IfSome, IsTrue, MatchOption, OnErr, OnOk}
 use Rattle.std.specs.Borrow.{Bor}
 use Rattle.kept.specs.Finding.{IsNextAbove}
 use Rattle.version_chain.specs.declared.chain.Version.{Version}
@@ -23,27 +23,6 @@ next_of vs t (Some v) least = grind (arith, common_steps)
 pub newest_of : (vs : List Version) (t : ℕ) (o : Option Version) → IfSome o (λ v. 1 ≤ v.ts) → MatchOption o (IsNoneUpTo vs t) (λ v. IsNewestOf vs t v) → (newest (afters_of vs) t).ts ≡ ts_or o 0
 newest_of vs t None some none = ap (λ v. v.ts) (newest_only (afters_of vs) t 0 None (grind (arith, common_steps)))
 newest_of vs t (Some v) some one = ap (λ v. v.ts) (newest_only (afters_of vs) t v.ts v.after (grind (arith, common_steps)))
-
--- ---- readers
-
-module _ (m : ℕ → Bool) (g : ℕ → Option After) (t : ℕ) where
-  below-next : (next : Option ℕ) → IsNextAbove g t next → (r n : ℕ) → AtMost next r → t < n → n < r → g n ≡ None
-  below-next None above r n low over under = above n over
-  below-next (Some s) above r n low over under = (let l : r ≤ s = low in above.2 n over (omega arith))
-
-  up-to-next : (next : Option ℕ) → IsNextAbove g t next → (r : ℕ) → ((n : ℕ) → t < n → n < r → g n ≡ None) → AtMost next r
-  up-to-next None above r none = tt
-  up-to-next (Some s) above r none = elim (cases_lt s r) [
-    | inl over ↦ absurd (let no : false ≡ true = sym (ap is_some (none s above.0 over)) ∙ above.1 in (let f : false ≡ true = no in cc))
-    | inr low ↦ low
-  ]
-
-  -- a reader between t and the next version is one that crosses
-  pub crossed_by : (next : Option ℕ) → IsNextAbove g t next → IsBetween m t next ↔ IsCrossed m g t
-  crossed_by next above = (
-    λ b. record { reader = b.reader; mark = b.mark; above = b.higher; none = λ n over under. below-next next above b.reader n b.low over under },
-    λ c. record { reader = c.reader; mark = c.mark; higher = c.above; low = up-to-next next above c.reader c.none },
-  )
 
 pub both_ways_to : {A B C : Type 0} → A ↔ B → B ↔ C → A ↔ C
 both_ways_to f g = (λ a. g.0 (f.0 a), λ c. f.1 (g.1 c))
@@ -90,20 +69,9 @@ crossed_like s x t f vs xs chain marks = grind (arith, common_steps)
 
 -- where there is no version, a lone reader crosses what is below it, unless it is forgotten
 pub lone_crosses : (latest t f : ℕ) → max t f < latest → IsCrossed (is_kept f (latest ∷ [])) (afters_of []) t
-lone_crosses latest t f over =
-    let late : f < latest = omega arith in
-    record { reader = latest; mark = rw (lt-ltb f latest late) itself; above = omega arith; none = λ n a b. refl }
-  where
-    itself : is_reader (latest ∷ []) latest ≡ true
-    itself = grind (arith, nat_tests)
+lone_crosses latest t f over = record { reader = latest; mark = grind (arith, nat_tests); above = omega arith; none = λ n a b. refl }
 
 pub none_crosses : (latest t f : ℕ) → latest ≤ max t f → IsCrossed (is_kept f (latest ∷ [])) (afters_of []) t → ⊥
 none_crosses latest t f low c =
     let both = and_parts (nat_lt f c.reader) (is_reader (latest ∷ []) c.reader) c.mark in
-    let late : f < c.reader = ltb-true f c.reader both.0 in
-    let above : t < c.reader = c.above in
-    let one : c.reader ≡ latest = lone c.reader both.1 in
-    omega arith
-  where
-    lone : (r : ℕ) → is_reader (latest ∷ []) r ≡ true → r ≡ latest
-    lone r is = grind (arith, nat_tests, is)
+    grind (arith, common_steps, nat_tests, both.0, both.1, c.above)

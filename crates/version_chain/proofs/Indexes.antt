@@ -1,8 +1,9 @@
 -- What is listed after the keys of one timestamp changed, and the tie of an index to the chains.
-use Rattle.version_chain.proofs.Common.{BTreeMap, Excluded, Included, both_ways, by_test, common_steps, eqb-true, filter, has, has_added, insert_key, is_at, key_itself, lookup, nat_cmp, nat_tests, or_cases, range_contains, same_key}
+use Rattle.version_chain.proofs.Common.{BTreeMap, Excluded, Included, common_steps, filter, has, has_added, insert_key, is_at, key_itself, lookup, nat_cmp, nat_tests, or_cases, range_contains, same_key}
 use Rattle.std.proofs.Common.{rules}
-use Rattle.std.proofs.Common.{◌≡◌, ℕ, ◌<◌, ◌≤◌, ◌⊎◌, ◌==◌, true, false, cond, ◌&&◌, ◌||◌, List, [], ◌∷◌, Option, Some, refl, sym, ◌∙◌, ap, subst, arith}
+use Rattle.std.proofs.Common.{◌≡◌, ℕ, ◌<◌, ◌≤◌, ◌⊎◌, ◌==◌, true, false, cond, ◌&&◌, ◌||◌, List, [], ◌∷◌, Option, Some, refl, sym, ◌∙◌, ap, arith}
 use Rattle.std.specs.Prelude.{bytes_eq, ◌↔◌}
+use Rattle.std.proofs.lemmas.Map.Entries.{lookup-filter-keys}
 use Rattle.version_chain.specs.Indexes.{is_among, listed_in}
 
 -- the keys of each timestamp
@@ -20,10 +21,6 @@ is_at_number t i = grind (arith, nat_tests)
 pub put_at_twice : (es fs gs : Keyed) (t : ℕ) (v w : Option (List (List ℕ))) → ArePutAt es fs t v → ArePutAt fs gs t w → ArePutAt es gs t w
 put_at_twice es fs gs t v w first second q = grind (arith, common_steps)
 
-pub listed_more : (es fs : Keyed) (x : List ℕ) (t : ℕ) (w : Option (List (List ℕ))) → ArePutAt es fs t w → ((y : List ℕ) → is_among w y ≡ (bytes_eq x y || listed_in es y t))
-    → (y : List ℕ) (i : ℕ) → listed_in fs y i ≡ (((t == i) && bytes_eq x y) || listed_in es y i)
-listed_more es fs x t w put among y i = grind (arith, common_steps)
-
 -- the same of a map that is the one after a write
 pub listed_put : (m n k : BTreeMap ℕ (List (List ℕ))) (x z : List ℕ) (t : ℕ) (w : Option (List (List ℕ))) → n ≡ k → z ≡ x → ArePutAt m.entries k.entries t w → ((y : List ℕ) → is_among w y ≡ (bytes_eq z y || listed_in m.entries y t))
     → (y : List ℕ) (i : ℕ) → listed_in n.entries y i ≡ (((t == i) && bytes_eq x y) || listed_in m.entries y i)
@@ -38,25 +35,13 @@ pub one_more : (x y : List ℕ) (keys : List (List ℕ)) → has y (insert_key x
 one_more x y keys = has_added y x keys
 
 pub added_some : (x : List ℕ) (keys : List (List ℕ)) → insert_key x keys ≡ [] → ⊥
-added_some x keys none = both_ways _ (ap (has x) none) (one_more x x keys ∙ (rw (key_itself x) refl))
+added_some x keys none = grind (arith, common_steps, one_more x x keys, key_itself x)
 
 -- what lies between two timestamps is listed as in the whole
 pub listed_between : (a b : ℕ) (es : Keyed) (y : List ℕ) (i : ℕ) → a < i → i ≤ b → listed_in (filter (λ (e : ℕ × List (List ℕ)). range_contains nat_cmp (Excluded a) (Included b) e.0) es) y i ≡ listed_in es y i
-listed_between a b es y i above low = ap (λ o. is_among o y) (same es)
-  where
-    within : range_contains nat_cmp (Excluded a) (Included b) i ≡ true
-    within = grind (arith, nat_tests)
-
-    same : (es : Keyed) → lookup (is_at (nat_cmp i)) (filter (λ (e : ℕ × List (List ℕ)). range_contains nat_cmp (Excluded a) (Included b) e.0) es) ≡ lookup (is_at (nat_cmp i)) es
-    same [] = refl
-    same (e ∷ es) = by_test (is_at (nat_cmp i) e.0)
-        (λ here.
-        let at : i ≡ e.0 = eqb-true i e.0 (sym (is_at_number i e.0) ∙ here) in
-        let in' : range_contains nat_cmp (Excluded a) (Included b) e.0 ≡ true = subst (λ n. range_contains nat_cmp (Excluded a) (Included b) n ≡ true) at within in
-        rw (in', here) refl)
-        (λ there. by_test (range_contains nat_cmp (Excluded a) (Included b) e.0)
-        (λ on. rw (on, there) (same es))
-        (λ off. rw (off, there) (same es)))
+listed_between a b es y i above low =
+    ap (λ o. is_among o y)
+    (lookup-filter-keys (is_at (nat_cmp i)) (range_contains nat_cmp (Excluded a) (Included b)) true (λ k at. grind (arith, nat_tests)) es)
 
 -- the first of what is listed, and the rest
 pub listed_first : (t : ℕ) (keys : List (List ℕ)) (es : Keyed) (y : List ℕ) (i : ℕ) → listed_in ((t, keys) ∷ es) y i ≡ true → ((i ≡ t) × (has y keys ≡ true)) ⊎ (listed_in es y i ≡ true)
@@ -76,13 +61,6 @@ listed_where es fs t w put y i = grind (arith, common_steps)
 abbrev pub IsTakenIn : Keyed → ℕ → Type 0
 IsTakenIn es t = lookup (is_at (nat_cmp t)) es ≡ Some []
 
--- what is at t, and elsewhere, after the keys of t became w
-put_here : (es fs : Keyed) (t i : ℕ) (w : Option (List (List ℕ))) → ArePutAt es fs t w → (t == i) ≡ true → lookup (is_at (nat_cmp i)) fs ≡ w
-put_here es fs t i w put here = put i ∙ rw (is_at_number t i, here) refl
-
-put_there : (es fs : Keyed) (t i : ℕ) (w : Option (List (List ℕ))) → ArePutAt es fs t w → (t == i) ≡ false → lookup (is_at (nat_cmp i)) fs ≡ lookup (is_at (nat_cmp i)) es
-put_there es fs t i w put there = put i ∙ rw (is_at_number t i, there) refl
-
 -- the same entries are without keys
 pub taken_alike : (es fs : Keyed) (t : ℕ) (w : Option (List (List ℕ))) → ArePutAt es fs t w → IsTakenIn es t ↔ (w ≡ Some []) → (i : ℕ) → IsTakenIn es i ↔ IsTakenIn fs i
 taken_alike es fs t w put same i = grind (arith, common_steps)
@@ -93,7 +71,7 @@ filled_put es fs t w put some others i is = grind (arith, common_steps)
 
 -- the same of a map that is the one after a write
 pub filled_after : (m n k : BTreeMap ℕ (List (List ℕ))) (t : ℕ) (keys : List (List ℕ)) → n ≡ k → ArePutAt m.entries k.entries t (Some keys) → (keys ≡ [] → ⊥) → ((i : ℕ) → IsTakenIn m.entries i → ⊥) → (i : ℕ) → IsTakenIn n.entries i → ⊥
-filled_after m n k t keys is put some filled i taken = filled_put m.entries k.entries t (Some keys) put (λ none. some (let e : keys ≡ [] = cc in e)) (λ j there. filled j) i (subst (λ (l : BTreeMap ℕ (List (List ℕ))). IsTakenIn l.entries i) is taken)
+filled_after m n k t keys is put some filled i = grind (arith, common_steps, filled i)
 
 -- t's alone is, where it is and no other was
 pub taken_alone : (es fs : Keyed) (t : ℕ) (keys : List (List ℕ)) → ArePutAt es fs t (Some keys) → keys ≡ [] → ((i : ℕ) → IsTakenIn es i → ⊥) → (i : ℕ) → IsTakenIn fs i ↔ (t ≡ i)
@@ -106,6 +84,4 @@ none_taken es t keys found is = let same : Some keys ≡ Some [] = sym found ∙
 -- a set that loses a key that it doesn't have stays without keys, or with some
 pub none_before : (x : List ℕ) (keys keys' : List (List ℕ)) → has x keys ≡ false → ((y : List ℕ) → has y keys' ≡ cond (bytes_eq x y) false (has y keys)) → keys' ≡ [] → keys ≡ []
 none_before x [] keys' none less is = refl
-none_before x (z ∷ keys) keys' none less is = by_test (bytes_eq x z)
-    (λ here. absurd (both_ways _ none (ap (λ y. has y (z ∷ keys)) (same_key x z here) ∙ (rw (key_itself z) refl))))
-    (λ there. absurd (both_ways _ (ap (has z) is) (less z ∙ (rw (there, key_itself z) refl))))
+none_before x (z ∷ keys) keys' none less is = grind (arith, common_steps, less z, key_itself z, same_key x z)

@@ -19,5 +19,6 @@ pub mod Chained
 pub mod Thinning
 pub mod Collecting
 pub mod InBlocks
+pub mod Placing
 pub mod Order
 pub mod Walking

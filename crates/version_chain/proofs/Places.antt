@@ -1,7 +1,7 @@
 -- Versions by their places, and by their timestamps.
 use Rattle.version_chain.proofs.Common.{common_steps, get_or_default, ne_eqb}
 use Rattle.std.proofs.Common.{rules}
-use Rattle.std.proofs.Common.{◌≡◌, ℕ, zero, suc, ◌<◌, ◌≤◌, ◌-◌, ◌==◌, true, false, List, [], ◌∷◌, length, get_or, Some, None, refl, sym, ◌∙◌, ap, arith, eq-eqb}
+use Rattle.std.proofs.Common.{◌≡◌, ℕ, zero, suc, ◌<◌, ◌≤◌, ◌-◌, ◌==◌, true, List, [], ◌∷◌, length, get_or, Some, None, refl, sym, ◌∙◌, ap, arith, eq-eqb}
 use Rattle.version_chain.specs.declared.chain.Version.{Version}
 use Rattle.version_chain.specs.Versions.{AreAbove, DoRise, version_of, IsPlaceAbove, IsNoneUpTo, IsNewestOf, IsNoneAbove, IsLeastAbove}
 
@@ -27,9 +27,7 @@ found (v ∷ vs) (suc k) d r lt = grind (arith, common_steps, above_at, ne_eqb, 
 
 pub none_at : (vs : List Version) (i : ℕ) → ((k : ℕ) (d : Version) → k < length vs → (get_or vs k d).ts ≡ i → ⊥) → version_of vs i ≡ None
 none_at [] i h = refl
-none_at (v ∷ vs) i h =
-    let e : (v.ts == i) ≡ false = ne_eqb v.ts i (λ same. h zero v (omega arith) same) in
-    rw e (none_at vs i (λ k d lt same. h (suc k) d (omega arith) same))
+none_at (v ∷ vs) i h = grind (arith, common_steps, ne_eqb, h zero v, none_at vs i (λ k d lt same. h (suc k) d (omega arith) same))
 
 -- a version at a place, whatever stands for one past the end
 pub same_ts : (vs : List Version) (k : ℕ) (d e : Version) → k < length vs → (get_or vs k d).ts ≡ (get_or vs k e).ts
@@ -37,13 +35,7 @@ same_ts vs k d e lt = ap (λ v. v.ts) (get_or_default vs k d e lt)
 
 -- the last is at or below t, and so all are
 pub all_below : (vs : List Version) (t n : ℕ) (v : Version) → DoRise vs → n ≡ length vs → v ≡ get_or vs (n - 1) v → v.ts ≤ t → IsPlaceAbove vs t n
-all_below vs t n v r end is low = record {
-  within = omega arith;
-  below = λ k d lt.
-      let up : (get_or vs k d).ts ≤ (get_or vs (n - 1) d).ts = up_to vs k (n - 1) d r (omega arith) (omega arith) in
-      grind (arith, common_steps);
-  above = λ k d at lt. absurd (omega arith);
-}
+all_below vs t n v r end is low = record { within = omega arith; below = λ k d lt. grind (arith, common_steps, up_to vs k (n - 1) d r, same_ts); above = λ k d at lt. absurd (omega arith) }
 
 pub none_up_to : (vs : List Version) (t n : ℕ) → IsPlaceAbove vs t n → n ≡ 0 → IsNoneUpTo vs t
 none_up_to vs t n p none i low = none_at vs i (λ k d lt same. let up : t < (get_or vs k d).ts = p.above k d (omega arith) lt in omega arith)

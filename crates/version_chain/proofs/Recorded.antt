@@ -1,7 +1,7 @@
 -- What a store is seen as after one record changed, one came, and one went.
-use Rattle.version_chain.proofs.Common.{IsCrossed, IsNumberedAt, IsOwn, IsPiece, Numbered, SpanMarks, and_parts, both_ways, by_test, common_steps, false_from_ne_true, is_kept, is_reader, key_itself, latest_in, length-set, nat_tests, number_in, readers_of, same_key}
+use Rattle.version_chain.proofs.Common.{IsCrossed, IsNumberedAt, IsOwn, IsPiece, Numbered, SpanMarks, both_ways, by_test, common_steps, is_kept, is_reader, key_itself, latest_in, length-set, nat_tests, number_in, readers_of, same_key}
 use Rattle.std.proofs.Common.{rules}
-use Rattle.std.proofs.Common.{◌≡◌, ℕ, ◌<◌, ◌≤◌, ◌==◌, Bool, true, false, cond, ◌&&◌, List, [], ◌∷◌, length, Option, Some, None, refl, sym, ◌∙◌, ap, subst, arith, nat_lt, lt-ltb, ltb-true, max}
+use Rattle.std.proofs.Common.{◌≡◌, ℕ, ◌<◌, ◌≤◌, ◌==◌, Bool, true, false, cond, ◌&&◌, List, [], ◌∷◌, length, Option, Some, None, refl, sym, ◌∙◌, ap, subst, arith, nat_lt, max}
 use Rattle.std.specs.Prelude.{◌↔◌, IsTrue, bytes_eq, slice_index_or, slice_set}
 use Rattle.version_chain.specs.declared.record.Record.{Record}
 use Rattle.version_chain.specs.declared.chain.Version.{Version}
@@ -9,7 +9,7 @@ use Rattle.version_chain.specs.Versions.{afters_of}
 use Rattle.version_chain.specs.Chains.{Stored, chain_of, marked_in, HaveSameChains, HaveSameMarks, IsChangedAt}
 use Rattle.version_chain.proofs.Changes.{IsEdited, changed}
 use Rattle.version_chain.specs.Marking.{IsCrossedIn, IsMarkedAt}
-use Rattle.version_chain.proofs.Gaps.{both_ways_to, crossed_like, lone_crosses, none_crosses, piece_alike}
+use Rattle.version_chain.proofs.Gaps.{crossed_like, lone_crosses, none_crosses, piece_alike}
 use Rattle.version_chain.specs.ByNumber.{AreLow, IsPlaced, at_number, chains_in, readers_in, stored}
 use Rattle.version_chain.specs.Records.{IsPut}
 use Rattle.version_chain.proofs.ByNumber.{chain_at, chain_is, gone_by_key, marked_is, numbered_still, placed, put_by_key, readers_at}
@@ -41,8 +41,7 @@ module _ (ns : Numbered) (rs : List Record) (spans : SpanMarks) (f : ℕ) (x : L
 
   -- what its record tells of a write of x
   pub crossed_here : (n : ℕ) (r : Record) (t u : ℕ) (told : Bool) → IsHere ns rs x n r → u ≡ t → IsTrue told ↔ IsCrossed (is_kept f (readers_of r.readers)) (afters_of r.chain) u → IsTrue told ↔ IsCrossedIn s x t
-  crossed_here n r t u told h at is =
-      both_ways_to (subst (λ i. IsTrue told ↔ IsCrossed (is_kept f (readers_of r.readers)) (afters_of r.chain) i) at is) (crossed_like s x t f r.chain (readers_of r.readers) (chain_here n r h) (marks_here n r h))
+  crossed_here n r t u told h at is = grind (arith, common_steps, crossed_like, chain_here, marks_here)
 
   pub free_here : (n : ℕ) (r : Record) (t u : ℕ) (told : Bool) → IsHere ns rs x n r → u ≡ t → IsTrue told ↔ IsCrossed (is_kept f (readers_of r.readers)) (afters_of r.chain) u → told ≡ false → IsCrossedIn s x t → ⊥
   free_here n r t u told h at is off crossed = both_ways _ off ((crossed_here n r t u told h at is).1 crossed)
@@ -67,8 +66,7 @@ module _ (ns ms : Numbered) (rs ss : List Record) (spans : SpanMarks) (f : ℕ) 
       chain_is ms ss spans f y ∙ put_by_key ns ms (chains_in rs) (chains_in ss) x n r.chain numbered own put.chains y [] ∙ ap (cond (bytes_eq x y) r.chain) (sym (chain_is ns rs spans f y))
 
   kept-cond : (b : Bool) (us vs : List ℕ) (j : ℕ) → is_kept f (cond b us vs) j ≡ cond b (is_kept f us j) (is_kept f vs j)
-  kept-cond true us vs j = refl
-  kept-cond false us vs j = refl
+  kept-cond b us vs j = grind (arith, common_steps)
 
   pub put_marks : IsNumberedAt ns ms x (Some n) → IsOwn ms x n → IsPlaced rs ss n r → (y : List ℕ) (j : ℕ) → marked_in new y j ≡ cond (bytes_eq x y) (is_kept f (readers_of r.readers) j) (marked_in old y j)
   put_marks numbered own put y j =
@@ -108,13 +106,7 @@ low_set ns rs n q low x m is = (let l : m < length rs = low x m is in omega (ari
 
 -- a lone reader that is forgotten is none
 pub none_kept : (f latest j : ℕ) → latest ≤ f → is_kept f (latest ∷ []) j ≡ false
-none_kept f latest j low = false_from_ne_true _ (λ on.
-    let both = and_parts (nat_lt f j) (is_reader (latest ∷ []) j) on in
-    let over : f < j = ltb-true f j both.0 in
-    absurd (lone both.1 over))
-  where
-    lone : is_reader (latest ∷ []) j ≡ true → f < j → ⊥
-    lone is over = grind (arith, nat_tests, is)
+none_kept f latest j low = grind (arith, nat_tests)
 
 -- ---- a record goes
 
@@ -146,27 +138,11 @@ fewer_readers rs n q low empty m j is = grind (arith, common_steps, by_test, pla
 -- ---- the first reader of a record is the latest of the spans
 
 pub first_reader : (f latest : ℕ) (qs : List ℕ) → ((j : ℕ) → is_reader qs j ≡ (nat_lt 0 j && (j == latest))) → (j : ℕ) → is_kept f qs j ≡ is_kept f (latest ∷ []) j
-first_reader f latest qs is j = by_test (nat_lt f j)
-    (λ late.
-    let over : f < j = ltb-true f j late in
-    let some : nat_lt 0 j ≡ true = lt-ltb 0 j (omega arith) in
-    rw late (is j ∙ ap (λ b. b && (j == latest)) some ∙ lone))
-    (λ early. rw early refl)
-  where
-    lone : (j == latest) ≡ is_reader (latest ∷ []) j
-    lone = grind (arith, nat_tests)
+first_reader f latest qs is j = let at = is j in grind (arith, nat_tests)
 
 -- ---- marks
 
 -- a piece of x's readers is one of x's marks
 pub marked_at : (s : Stored) (ns : Numbered) (rs : List Record) (spans : SpanMarks) (f : ℕ) (x : List ℕ) (n : ℕ) (r q : Record) (t above high : ℕ) → IsHere ns rs x n r → HaveSameMarks s (stored ns rs spans f)
     → IsPiece (is_kept f (readers_of r.readers)) (is_kept f (readers_of q.readers)) t above high → IsMarkedAt s (stored ns (slice_set rs n q) spans f) x t above high
-marked_at s ns rs spans f x n r q t above high h same piece =
-    let after = changed_marks ns rs spans f x n r q h in
-    record {
-      piece = piece_alike (is_kept f (readers_of r.readers)) (marked_in s x) (is_kept f (readers_of q.readers)) (marked_in (stored ns (slice_set rs n q) spans f) x) t above high
-          (λ j. sym (marks_here ns rs spans f x n r h j) ∙ same x j)
-          (λ j. sym (after x j ∙ ap (λ b. cond b (is_kept f (readers_of q.readers) j) (marked_in (stored ns rs spans f) x j)) (key_itself x)))
-          piece;
-      others = λ y off j. after y j ∙ (rw off refl) ∙ same y j;
-    }
+marked_at s ns rs spans f x n r q t above high h same piece = let after = changed_marks ns rs spans f x n r q h in let before = marks_here ns rs spans f x n r h in record { piece = grind (arith, common_steps, piece_alike, key_itself); others = λ y off j. grind (arith, common_steps) }

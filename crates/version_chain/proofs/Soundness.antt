@@ -1,16 +1,16 @@
 -- The count and the index after one place of the chains changed, or all of one timestamp.
-use Rattle.version_chain.proofs.Common.{RisingKeys, and_parts, by_test, common_steps, eqb-true, has, ne_eqb, same_key}
+use Rattle.version_chain.proofs.Common.{RisingKeys, and_parts, common_steps, eqb-true, has, ne_eqb, same_key}
 use Rattle.std.proofs.Common.{rules}
-use Rattle.std.proofs.Common.{◌≡◌, ℕ, ◌<◌, ◌≤◌, ◌-◌, ◌==◌, Bool, true, false, cond, ◌&&◌, ◌||◌, List, length, Option, Some, None, refl, sym, ◌∙◌, ap, subst, arith}
+use Rattle.std.proofs.Common.{◌≡◌, ℕ, ◌<◌, ◌≤◌, ◌-◌, ◌==◌, true, false, cond, ◌&&◌, ◌||◌, List, length, Some, None, refl, sym, ◌∙◌, ap, arith}
 use Rattle.std.specs.Prelude.{bytes_eq, is_some, is_none, max, option_map}
 use Rattle.version_chain.specs.declared.chain.Version.{Version}
 use Rattle.version_chain.specs.declared.index.Index.{Index}
 use Rattle.version_chain.specs.Chains.{found_in, AreChangedAt, IsChangedAt}
 use Rattle.version_chain.specs.Versions.{as_committed}
-use Rattle.version_chain.specs.Stores.{IsCountOf, Stored, after_of, is_committed}
+use Rattle.version_chain.specs.Stores.{Stored, after_of}
 use Rattle.version_chain.specs.Dead.{is_dead_in}
 use Rattle.version_chain.specs.Indexes.{is_listed, IsFilled, IsIndexOf, IsSound}
-use Rattle.version_chain.proofs.Counts.{AreGoneAt, AreWrittenAt, after_there, counted_alike, counted_gone}
+use Rattle.version_chain.proofs.Counts.{AreGoneAt, AreWrittenAt, counted_alike, counted_gone}
 use Rattle.version_chain.proofs.Dead.{live_lower}
 use Rattle.version_chain.proofs.Thinning.{settled_fewer}
 
@@ -23,15 +23,7 @@ indexed_more es fs index index' x t a h more is y i = grind (arith, common_steps
 
 -- a version took the place of one
 pub indexed_replaced : (es fs : Stored) (index : Index) (x : List ℕ) (t : ℕ) (a : Version) → IsChangedAt es fs x t (λ _. Some a) → is_none (found_in es x t) ≡ false → IsIndexOf es index → IsIndexOf fs index
-indexed_replaced es fs index x t a h some is y i = is y i ∙ by_test ((t == i) && bytes_eq x y)
-    (λ here.
-    let found : found_in fs y i ≡ Some a = h y i ∙ (rw here refl) in
-    subst (λ o. is_some o ≡ is_some (found_in fs y i)) (at_place es x t y i here) (there (found_in es x t) some ∙ ap is_some (sym found)))
-    (λ off. let found : found_in fs y i ≡ found_in es y i = h y i ∙ (rw off refl) in ap is_some (sym found))
-  where
-    there : (o : Option Version) → is_none o ≡ false → is_some o ≡ true
-    there None e = (let no : true ≡ false = e in cc)
-    there (Some v) e = refl
+indexed_replaced es fs index x t a h some is y i = grind (arith, common_steps, at_place)
 
 -- ---- nothing is dead by the horizon
 
@@ -61,73 +53,34 @@ sound_index es index index' n horizon same still s = grind (arith, common_steps)
 
 -- a version that came where there was none goes again
 pub went_again : (es fs gs : Stored) (x : List ℕ) (t : ℕ) (a : Version) → is_none (found_in es x t) ≡ true → IsChangedAt es fs x t (λ _. Some a) → IsChangedAt fs gs x t (λ _. None) → (y : List ℕ) (i : ℕ) → found_in gs y i ≡ found_in es y i
-went_again es fs gs x t a none came went y i = went y i ∙ by_test ((t == i) && bytes_eq x y)
-    (λ here. rw here (sym (sym (at_place es x t y i here) ∙ nothing (found_in es x t) none)))
-    (λ off. rw off (came y i ∙ rw off refl))
-  where
-    nothing : (o : Option Version) → is_none o ≡ true → o ≡ None
-    nothing None e = refl
-    nothing (Some v) e = (let no : false ≡ true = e in cc)
+went_again es fs gs x t a none came went y i = grind (arith, common_steps, at_place)
 
 -- ---- the versions of one timestamp
 
 -- they are marked as committed, above the horizon
 pub sound_commit : (es fs : Stored) (index : Index) (keys : List (List ℕ)) (t n m horizon : ℕ) → AreChangedAt es fs keys t (option_map as_committed) → m ≤ horizon → m < t → IsSound es index n horizon → IsSound fs index n m
 sound_commit es fs index keys t n m horizon h low above s = record {
-  counted = counted_alike es fs n (λ v. after_there (found_in fs v.key v.ts) ∙ there v.key v.ts ∙ sym (after_there (found_in es v.key v.ts))) s.counted;
-  indexed = λ y i. s.indexed y i ∙ sym (there y i);
+  counted = counted_alike es fs n (λ v. let at = h v.key v.ts in grind (arith, common_steps)) s.counted;
+  indexed = λ y i. let at = h y i in let was = s.indexed y i in grind (arith, common_steps);
   filled = s.filled;
-  settled = settled_above es fs t m horizon (λ y i off. h y i ∙ (rw off refl)) low above s.settled;
+  settled = settled_above es fs t m horizon (λ y i off. rw (h y i, off) refl) low above s.settled;
 }
-  where
-    marked : (b : Bool) (o : Option Version) → is_some (cond b (option_map as_committed o) o) ≡ is_some o
-    marked true None = refl
-    marked true (Some v) = refl
-    marked false o = refl
-
-    there : (y : List ℕ) (i : ℕ) → is_some (found_in fs y i) ≡ is_some (found_in es y i)
-    there y i = ap is_some (h y i) ∙ marked ((t == i) && has y keys) (found_in es y i)
 
 -- they go at all keys that have one
 gone_at : (es fs : Stored) (keys : List (List ℕ)) (t : ℕ) → AreChangedAt es fs keys t (λ _. None) → AreWrittenAt es t keys → AreGoneAt es fs t
-gone_at es fs keys t h written y i = h y i ∙ by_test (t == i)
-    (λ here. by_test (has y keys)
-    (λ on. rw (here, on) refl)
-    (λ off. rw (here, off) (nothing (found_in es y i) (ap (λ j. is_some (found_in es y j)) (sym (eqb-true t i here)) ∙ sym (written y) ∙ off))))
-    (λ there. rw there refl)
-  where
-    nothing : (o : Option Version) → is_some o ≡ false → o ≡ None
-    nothing None e = refl
-    nothing (Some v) e = (let no' : true ≡ false = e in cc)
+gone_at es fs keys t h written y i = grind (arith, common_steps, eqb-true)
 
 pub sound_drop : (es fs : Stored) (index index' : Index) (keys : List (List ℕ)) (t n horizon : ℕ) → AreChangedAt es fs keys t (λ _. None) → RisingKeys keys → ((y : List ℕ) → has y keys ≡ is_listed index y t)
     → ((y : List ℕ) (i : ℕ) → is_listed index' y i ≡ cond (t == i) false (is_listed index y i)) → (IsFilled index → IsFilled index') → IsSound es index n horizon → (length keys ≤ n) × IsSound fs index' (n - length keys) horizon
-sound_drop es fs index index' keys t n horizon h rising listed less still s = (
+sound_drop es fs index index' keys t n horizon h rising listed less still s = let gone = gone_at es fs keys t h (λ y. listed y ∙ s.indexed y t) in let count = counted_gone es fs t n keys gone rising (λ y. listed y ∙ s.indexed y t) s.counted in (
   count.0,
   record {
     counted = count.1;
-    indexed = λ y i. less y i ∙ ap (cond (t == i) false) (s.indexed y i) ∙ left (t == i) (found_in es y i) ∙ ap is_some (sym (gone y i));
+    indexed = λ y i. let at = gone y i in let was = s.indexed y i in let now = less y i in grind (arith, common_steps);
     filled = still s.filled;
-    settled = settled_fewer es fs horizon (λ y i low done. stood (t == i) (found_in fs y i) (found_in es y i) (gone y i) done) s.settled;
+    settled = settled_fewer es fs horizon (λ y i low done. let at = gone y i in grind (arith, common_steps)) s.settled;
   },
 )
-  where
-    written : AreWrittenAt es t keys
-    written y = listed y ∙ s.indexed y t
-
-    gone : AreGoneAt es fs t
-    gone = gone_at es fs keys t h written
-
-    count : (length keys ≤ n) × IsCountOf fs (n - length keys)
-    count = counted_gone es fs t n keys gone rising written s.counted
-
-    left : (b : Bool) (o : Option Version) → cond b false (is_some o) ≡ is_some (cond b None o)
-    left true o = refl
-    left false o = refl
-
-    stood : (c : Bool) (p o : Option Version) → p ≡ cond c None o → is_committed p ≡ true → p ≡ o
-    stood true p o e done = (let no' : false ≡ true = sym (ap is_committed e) ∙ done in cc)
-    stood false p o e done = e
 
 pub settled_max : (es : Stored) (a b : ℕ) → AreSettled es a → AreSettled es b → AreSettled es (max a b)
 settled_max es a b first second = grind (arith, common_steps)

@@ -1,7 +1,7 @@
 -- A read of a span, at the keys with a record and at those without one.
-use Rattle.std.proofs.Common.{◌≡◌, ℕ, ◌<◌, ◌≤◌, true, false, cond, ◌⊎◌, inl, inr, List, [], ◌∷◌, Option, Some, None, refl, sym, ◌∙◌, ap, subst, arith, max, nat_lt, lt-ltb, ltb-true}
+use Rattle.std.proofs.Common.{◌≡◌, ℕ, ◌<◌, ◌≤◌, true, false, cond, List, [], ◌∷◌, Option, Some, None, refl, sym, ◌∙◌, ap, arith, max}
 use Rattle.std.specs.Prelude.{slice_index_or}
-use Rattle.version_chain.proofs.Common.{IsPiece, Numbered, Span, SpanMarks, and_parts, false_from_ne_true, in_span, is_kept, is_reader, latest_in, nat_tests, newest, number_in}
+use Rattle.version_chain.proofs.Common.{Numbered, Span, SpanMarks, in_span, is_kept, latest_in, nat_tests, newest, number_in}
 use Rattle.version_chain.specs.declared.record.Record.{Record}
 use Rattle.version_chain.specs.Chains.{Stored, chain_of, marked_in, HaveSameChains, HaveSameMarks}
 use Rattle.version_chain.specs.Versions.{afters_of}
@@ -10,10 +10,6 @@ use Rattle.version_chain.specs.Marking.{AreMarkedAt, IsNotedIn, IsNotedOn}
 use Rattle.version_chain.specs.Records.{AreNoted}
 use Rattle.version_chain.proofs.ByNumber.{chain_is, marked_is}
 use Rattle.version_chain.proofs.Gaps.{newest_of, noted_alike}
-use Rattle.version_chain.proofs.Sweeping.{lone-reader}
-
-max-cases : (l t l' : ℕ) → l' ≡ max l t → (l' ≡ t) ⊎ (l' ≡ l)
-max-cases l t l' is = grind arith
 
 -- the latest of the spans rose to t, which is not forgotten
 pub noted_latest : (f t l l' : ℕ) → f < t → t ≤ 18446744073709551615 → l ≤ 18446744073709551615 → l' ≡ max l t → IsNotedOn (afters_of []) (is_kept f (l ∷ [])) (is_kept f (l' ∷ [])) t
@@ -21,45 +17,20 @@ noted_latest f t l l' late low low-latest is = record {
   next = None;
   is_next = λ n over. refl;
   own = λ same. absurd (let z : (newest (afters_of []) t).ts ≡ 0 = none in omega arith);
-  other = λ differs. subst (λ n. IsPiece (is_kept f (l ∷ [])) (is_kept f (l' ∷ [])) t n 18446744073709551615) (sym none) (record {
+  other = λ differs. rw none (record {
     top = l';
-    marked = is-kept l' (omega arith);
-    is = which;
+    marked = grind (arith, nat_tests);
+    is = grind (arith, nat_tests);
     least = omega arith;
     most = omega arith;
-    greatest = λ n m over under. (let same : n ≡ l = lone l n m in omega arith);
-    outside = λ n out. off l' n (omega arith) out ∙ sym (off l n low-latest out);
-    inside = λ n over under m. lone l' n m;
+    greatest = λ n over under m. grind (arith, nat_tests);
+    outside = λ n out. grind (arith, nat_tests);
+    inside = λ n over under m. grind (arith, nat_tests);
   });
 }
   where
     none : (newest (afters_of []) t).ts ≡ 0
     none = newest_of [] t None tt (λ i low. refl)
-
-    lone : (k n : ℕ) → is_kept f (k ∷ []) n ≡ true → n ≡ k
-    lone k n m = lone-reader k n (and_parts (nat_lt f n) (is_reader (k ∷ []) n) m).1
-
-    is-kept : (k : ℕ) → f < k → is_kept f (k ∷ []) k ≡ true
-    is-kept k over = rw (lt-ltb f k over) itself
-      where
-        itself : is_reader (k ∷ []) k ≡ true
-        itself = grind (arith, nat_tests)
-
-    which : (l' ≡ t) ⊎ (is_kept f (l ∷ []) l' ≡ true)
-    which = elim (max-cases l t l' is) [
-      | inl e ↦ inl e
-      | inr e ↦ inr (subst (λ k. is_kept f (l ∷ []) k ≡ true) (sym e) (is-kept l (omega arith)))
-    ]
-
-    off : (k n : ℕ) → k ≤ 18446744073709551615 → (n ≤ 0) ⊎ (18446744073709551615 < n) → is_kept f (k ∷ []) n ≡ false
-    off k n fits out = false_from_ne_true _ (λ on.
-        let both = and_parts (nat_lt f n) (is_reader (k ∷ []) n) on in
-        let over : f < n = ltb-true f n both.0 in
-        let same : n ≡ k = lone-reader k n both.1 in
-        elim out [
-          | inl least ↦ absurd (omega arith)
-          | inr most ↦ absurd (omega arith)
-        ])
 
 -- s, whose chains and marks are those of the records and spans, becomes what is left once the records are noted and the spans raised
 pub all_marked : (s : Stored) (ns : Numbered) (os rs ss : List Record) (spans spans' : SpanMarks) (f t : ℕ) (span : Span) → HaveSameChains s (stored ns os spans f) → HaveSameMarks s (stored ns os spans f) → chains_in rs ≡ chains_in os → readers_in rs ≡ readers_in os

@@ -1,6 +1,6 @@
 -- What a sweep leaves: readers that are forgotten go, and no key's marks change.
-use Rattle.version_chain.proofs.Common.{Numbered, SpanMarks, and_parts, by_test, common_steps, filter, is_kept, is_reader, latest_in, map-set_same, nat_tests, number_in, readers_of}
-use Rattle.std.proofs.Common.{◌≡◌, ℕ, ◌<◌, ◌≤◌, ◌+◌, ◌==◌, Bool, true, false, cond, ◌&&◌, ◌⊎◌, List, [], ◌∷◌, length, Option, Some, None, refl, sym, ◌∙◌, ap, arith, nat_le, nat_lt, ltb-true}
+use Rattle.version_chain.proofs.Common.{Numbered, SpanMarks, by_test, common_steps, filter, is_kept, is_reader, latest_in, map-set_same, nat_tests, number_in, readers_of}
+use Rattle.std.proofs.Common.{◌≡◌, ℕ, ◌<◌, ◌≤◌, ◌+◌, ◌==◌, Bool, true, cond, ◌&&◌, ◌⊎◌, List, [], ◌∷◌, length, Option, refl, sym, ◌∙◌, ap, arith, nat_le, nat_lt}
 use Rattle.std.specs.Prelude.{slice_index_or, slice_set}
 use Rattle.read_marks.proofs.Keeping.{kept_filter}
 use Rattle.read_marks.proofs.Splitting.{filtered_reader}
@@ -17,11 +17,10 @@ module _ (ns : Numbered) (rs ss : List Record) (spans spans' : SpanMarks) (f f' 
   -- readers at each number, and the latest of the spans, that count as before
   pub marks_stay : ((n j : ℕ) → is_kept f' (slice_index_or (readers_in ss) n []) j ≡ is_kept f (slice_index_or (readers_in rs) n []) j) → ((x : List ℕ) (j : ℕ) → is_kept f' (latest_in spans' x ∷ []) j ≡ is_kept f (latest_in spans x ∷ []) j)
       → HaveSameMarks (stored ns rs spans f) (stored ns ss spans' f')
-  marks_stay records latest y j = marked_is ns ss spans' f' y j ∙ by_number (number_in ns y) ∙ sym (marked_is ns rs spans f y j)
+  marks_stay records latest y j = rw (marked_is ns ss spans' f' y j, marked_is ns rs spans f y j) (by_number (number_in ns y))
     where
       by_number : (o : Option ℕ) → is_kept f' (at_number (readers_in ss) (latest_in spans' y ∷ []) o) j ≡ is_kept f (at_number (readers_in rs) (latest_in spans y ∷ []) o) j
-      by_number None = latest y j
-      by_number (Some n) = records n j
+      by_number o = grind (arith, common_steps, records, latest)
 
   pub chains_stay : chains_in ss ≡ chains_in rs → HaveSameChains (stored ns rs spans f) (stored ns ss spans' f')
   chains_stay same y = chain_is ns ss spans' f' y ∙ ap (λ cs. at_number cs [] (number_in ns y)) same ∙ sym (chain_is ns rs spans f y)
@@ -52,13 +51,7 @@ module _ (ns : Numbered) (rs : List Record) (spans : SpanMarks) (f n : ℕ) (r q
 
   -- and so far none has a reader that is forgotten
   pub forgot_one : ((m j : ℕ) → m < n → is_reader (slice_index_or (readers_in rs) m []) j ≡ true → f < j) → (m j : ℕ) → m < n + 1 → is_reader (slice_index_or (readers_in (slice_set rs n q)) m []) j ≡ true → f < j
-  forgot_one before m j under is = by_test (n == m)
-      (λ same.
-      let here : slice_index_or (readers_in (slice_set rs n q)) m [] ≡ filter (nat_lt f) (readers_of r.readers) = (placed rs n q low).readers m ∙ rw same readers in
-      ltb-true f j (and_parts (nat_lt f j) (is_reader (readers_of r.readers) j) (sym (ap (λ qs. is_reader qs j) here ∙ filtered_reader f (readers_of r.readers) j) ∙ is)).0)
-      (λ other.
-      let there : slice_index_or (readers_in (slice_set rs n q)) m [] ≡ slice_index_or (readers_in rs) m [] = (placed rs n q low).readers m ∙ rw other refl in
-      before m j (grind (arith, nat_tests)) (sym (ap (λ qs. is_reader qs j) there) ∙ is))
+  forgot_one before m j under is = let there = (placed rs n q low).readers m in let less = filtered_reader f (readers_of r.readers) j in let was = before m j in grind (arith, common_steps, nat_tests)
 
 -- ---- of all records
 
@@ -67,17 +60,7 @@ all_swept rs n f all swept m j is = grind (arith, common_steps)
 
 -- then more may count
 lowered-test : (f f' j : ℕ) (b : Bool) → f' ≤ f → (b ≡ true → f < j) → (nat_lt f' j && b) ≡ (nat_lt f j && b)
-lowered-test f f' j false low above = and-nothing (nat_lt f' j) ∙ sym (and-nothing (nat_lt f j))
-  where
-    and-nothing : (b : Bool) → (b && false) ≡ false
-    and-nothing true = refl
-    and-nothing false = refl
-lowered-test f f' j true low above = grind (arith, common_steps)
-
-pub lone-reader : (l j : ℕ) → is_reader (l ∷ []) j ≡ true → j ≡ l
-lone-reader l j is = grind (arith, nat_tests, is)
+lowered-test f f' j b low above = grind (arith, common_steps)
 
 pub lowered : (c : Chains) (f' : ℕ) → AreSwept c → f' ≤ c.forgotten → HaveSameMarks (stored_of c) (stored c.keys c.records.items c.spans f')
-lowered c f' swept low = marks_stay c.keys c.records.items c.records.items c.spans c.spans c.forgotten f'
-    (λ n j. lowered-test c.forgotten f' j (is_reader (slice_index_or (readers_in c.records.items) n []) j) low (swept.records n j))
-    (λ x j. grind (arith, common_steps))
+lowered c f' swept low = marks_stay c.keys c.records.items c.records.items c.spans c.spans c.forgotten f' (λ n j. let all = swept.records n j in grind (arith, common_steps, lowered-test)) (λ x j. grind (arith, common_steps))

@@ -1,8 +1,8 @@
 -- What a store has after the dead versions of a key went, and after those of some keys.
-use Rattle.version_chain.proofs.Common.{and-true, both_ways, by_test, common_steps, false_from_ne_true, filter, key_itself, same_key}
+use Rattle.version_chain.proofs.Common.{both_ways, by_test, common_steps, false_from_ne_true, filter, key_itself, same_key}
 use Rattle.std.proofs.Common.{arith}
 use Rattle.std.proofs.Common.{rules}
-use Rattle.std.proofs.Common.{◌≡◌, ℕ, ◌-◌, ◌≤◌, Bool, true, false, cond, ◌&&◌, List, [], length, Option, Some, None, refl, sym, ◌∙◌, ap, subst}
+use Rattle.std.proofs.Common.{◌≡◌, ℕ, ◌-◌, ◌≤◌, Bool, true, false, cond, ◌&&◌, List, [], length, Option, None, refl, sym, ◌∙◌, ap, subst}
 use Rattle.std.specs.Prelude.{bytes_eq, is_some, not}
 use Rattle.version_chain.specs.declared.chain.Version.{Version}
 use Rattle.version_chain.specs.declared.index.Index.{Index}
@@ -42,11 +42,7 @@ unlisted_none es index x n none y i = ap (λ b. cond b false (is_listed index y 
 -- where it is no longer listed
 pub unlisted_in : (es : Stored) (index index' : Index) (x : List ℕ) (vs : List Version) (n : ℕ) → chain_of es x ≡ vs → DoRise vs → IsUnlisted index index' x (is_dead_at n (newest_of vs n) vs)
     → (y : List ℕ) (i : ℕ) → is_listed index' y i ≡ cond (bytes_eq x y && is_dead_in es n y i) false (is_listed index y i)
-unlisted_in es index index' x vs n chain rises less y i = less y i ∙ by_test (bytes_eq x y)
-    (λ here.
-    let same : is_dead_at n (newest_of vs n) vs i ≡ is_dead_in es n y i = at_found n (newest_of vs n) vs i rises ∙ sym (dead_here vs n i) ∙ dead_of_chain es x y vs n i chain here in
-    ap (λ b. cond (bytes_eq x y && b) false (is_listed index y i)) same)
-    (λ there. rw there refl)
+unlisted_in es index index' x vs n chain rises less y i = let now = less y i in let found = at_found n (newest_of vs n) vs i rises in let dead = dead_here vs n i in let one = dead_of_chain es x y vs n i chain in grind (arith, common_steps)
 
 -- how many versions are left
 pub counted_left : (es fs : Stored) (x : List ℕ) (vs : List Version) (r n : ℕ) → chain_of es x ≡ vs → DoRise vs → IsThinnedAt es fs x n → r ≡ length (filter (is_dead_version n (newest_of vs n)) vs) → (m : ℕ) → IsCountOf es m → (r ≤ m) × IsCountOf fs (m - r)
@@ -65,10 +61,6 @@ counted_left es fs x vs r n chain rises thin is m c = counted_thinned es fs x (i
 
 -- ---- some keys
 
-never : (b : Bool) (o : Option Version) → o ≡ cond (b && not b) None o
-never true o = refl
-never false o = refl
-
 -- nothing is dead of a key that lost what was
 pub settled_here : (es fs : Stored) (x : List ℕ) (n : ℕ) → IsThinnedAt es fs x n → (i : ℕ) → is_dead_in fs n x i ≡ false
 settled_here es fs x n thin i = live_left (found_in es x) (found_in fs x) n (λ j. thin x j ∙ ap (λ b. cond (b && is_dead_in es n x j) None (found_in es x j)) (key_itself x)) i
@@ -76,19 +68,15 @@ settled_here es fs x n thin i = live_left (found_in es x) (found_in fs x) n (λ 
 pub partly_one : (es fs : Stored) (x : List ℕ) (n : ℕ) → IsThinnedAt es fs x n → HaveSameMarks es fs → ArePartlyThinned es fs n
 partly_one es fs x n thin marks = record {
   marks = marks;
-  found = λ y i. thin y i ∙ by_test (bytes_eq x y)
-      (λ here. let none : is_dead_in fs n y i ≡ false = settled y i here in rw (here, none) (ap (λ b. cond b None (found_in es y i)) (sym (and-true (is_dead_in es n y i)))))
-      (λ there. let same : is_dead_in fs n y i ≡ is_dead_in es n y i = alike y i there in rw (there, same) (never (is_dead_in es n y i) (found_in es y i)));
-  fewer = λ y i dead. by_test (bytes_eq x y)
-      (λ here. absurd (both_ways _ (settled y i here) dead))
-      (λ there. sym (alike y i there) ∙ dead);
+  found = λ y i. let now = thin y i in let none = settled y i in let same = alike y i in grind (arith, common_steps);
+  fewer = λ y i dead. let none = settled y i in let same = alike y i in grind (arith, common_steps);
 }
   where
     settled : (y : List ℕ) (i : ℕ) → bytes_eq x y ≡ true → is_dead_in fs n y i ≡ false
     settled y i here = ap (λ z. is_dead_in fs n z i) (sym (same_key x y here)) ∙ settled_here es fs x n thin i
 
     alike : (y : List ℕ) (i : ℕ) → bytes_eq x y ≡ false → is_dead_in fs n y i ≡ is_dead_in es n y i
-    alike y i there = same_dead (found_in es y) (found_in fs y) n i (λ j. thin y j ∙ ap (λ b. cond (b && is_dead_in es n y j) None (found_in es y j)) there)
+    alike y i there = same_dead (found_in es y) (found_in fs y) n i (λ j. rw (thin y j, there) refl)
 
 -- then some more
 pub partly_more : (es fs gs : Stored) (n : ℕ) → ArePartlyThinned es fs n → ArePartlyThinned fs gs n → ArePartlyThinned es gs n
@@ -121,8 +109,7 @@ pub settled_fewer : (es fs : Stored) (n : ℕ) → ((y : List ℕ) (i : ℕ) →
 settled_fewer es fs n fewer none y i = live_fewer (found_in es y) (found_in fs y) n (fewer y) (none y) i
 
 pub done_some : (o : Option Version) → is_committed o ≡ true → is_some o ≡ true
-done_some None e = e
-done_some (Some v) e = refl
+done_some o e = grind (arith, common_steps)
 
 pub settled_partly : (es fs : Stored) (m n : ℕ) → ArePartlyThinned es fs n → ((y : List ℕ) (i : ℕ) → is_dead_in es m y i ≡ false) → (y : List ℕ) (i : ℕ) → is_dead_in fs m y i ≡ false
 settled_partly es fs m n thin none = settled_fewer es fs m (λ y i low done. found_before es fs n thin y i (done_some (found_in fs y i) done)) none

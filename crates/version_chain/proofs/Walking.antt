@@ -1,6 +1,6 @@
 -- A walk from one version to the next.
-use Rattle.version_chain.proofs.Common.{AllByRecursion, Excluded, Included, IsIn, IsStrictlySortedBy, Less, RisingKeys, both_ways, by_test, cases_lt, common_steps, eq-eqb, eqb-true, false_from_ne_true, filter_in, has, has_in, key_lt, keys_of, lt-ltb, ltb-true, nat_cmp, nat_tests, not_itself, range_contains, ranked}
-use Rattle.std.proofs.Common.{◌≡◌, ℕ, ◌<◌, ◌≤◌, ◌⊎◌, true, false, List, [], ◌∷◌, Option, Some, None, refl, sym, ◌∙◌, subst, inl, inr, arith}
+use Rattle.version_chain.proofs.Common.{AllByRecursion, Excluded, Included, IsIn, IsStrictlySortedBy, Less, RisingKeys, both_ways, by_test, common_steps, eq-eqb, eqb-true, false_from_ne_true, filter_in, has, has_in, key_lt, keys_of, lt-ltb, ltb-true, nat_cmp, nat_tests, not_itself, range_contains, ranked}
+use Rattle.std.proofs.Common.{◌≡◌, ℕ, ◌<◌, ◌≤◌, ◌⊎◌, true, false, List, [], ◌∷◌, Some, refl, sym, ◌∙◌, subst, inl, inr, arith}
 use Rattle.std.specs.Prelude.{filter}
 use Rattle.version_chain.specs.declared.index.Index.{Index}
 use Rattle.version_chain.specs.Indexes.{is_listed, listed_in, IsFirstBetween, IsIndexOf, AreBetween}
@@ -61,25 +61,10 @@ begins w index keys later indexed beside between listed = record {
   rising = beside.rising;
   between = between;
   all = λ y i. (
-    λ h. elim (cases_lt w.ts i) [
-      | inl over ↦ inr (listed y i over h.low ∙ indexed y i ∙ h.there)
-      | inr low ↦ (let at : i ≡ w.ts = no_lower w.ts w.key y i h.later low in inl (at, (beside.all y).0 (subst (IsToCome w y) at h)))
-    ],
-    λ k. elim k [
-      | inl here ↦ subst (IsToCome w y) (sym here.0) ((beside.all y).1 here.1)
-      | inr there ↦ (let over = listed_above w.ts w.through later between y i there in let low = listed_low w.ts w.through later between y i there in
-          record { there = sym (indexed y i) ∙ sym (listed y i over low) ∙ there; later = over_place w.ts w.key y i over; low = low })
-    ],
+    λ h. let now = indexed y i in let same = listed y i in let here = (beside.all y).0 in grind (arith, common_steps, at_place, ltb-true),
+    λ k. let now = indexed y i in let same = listed y i in let here = (beside.all y).1 in grind (arith, common_steps, listed_above, listed_low, from_less, lt-ltb),
   );
 }
-  where
-    no_lower : (ts : ℕ) (key : Option (List ℕ)) (y : List ℕ) (i : ℕ) → is_after_place ts key y i ≡ true → i ≤ ts → i ≡ ts
-    no_lower ts None y i later low = (let over = ltb-true ts i later in absurd (omega arith))
-    no_lower ts (Some key) y i later low = (at_place ts key y i later low).0
-
-    over_place : (ts : ℕ) (key : Option (List ℕ)) (y : List ℕ) (i : ℕ) → ts < i → is_after_place ts key y i ≡ true
-    over_place ts None y i over = lt-ltb ts i over
-    over_place ts (Some key) y i over = from_less ts i key y over
 
 -- nothing has a version at the place's timestamp
 pub none_beside : (w : Walk) (index : Index) → IsIndexOf w.store index → ((y : List ℕ) → is_listed index y w.ts ≡ false) → IsBeside w []
@@ -140,7 +125,3 @@ goes_on w at t next later ahead rising = record {
     λ k. (ahead.all y i).1 (inr (first_listed at w.through t next later ahead.between y i k)),
   );
 }
-
--- where there is no later timestamp either, nothing is to come
-pub ends : (w : Walk) (at : ℕ) → IsAhead w at [] [] → (y : List ℕ) (i : ℕ) → IsToCome w y i → ⊥
-ends w at ahead y i h = grind (arith, common_steps)

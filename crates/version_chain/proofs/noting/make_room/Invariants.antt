@@ -1,5 +1,8 @@
-use Rattle.version_chain.proofs.Roaming.{IsRooming}
+use Rattle.std.proofs.Common.{◌≡◌}
+use Rattle.version_chain.proofs.Common.{has_room}
+use Rattle.version_chain.specs.ByNumber.{readers_in}
+use Rattle.version_chain.proofs.Roaming.{IsWalked}
 use Rattle.version_chain.proofs.noting.make_room.Given as goal
 
 abbrev pub invariant-loop-number : goal.invariant-loop-number
-invariant-loop-number l = IsRooming l.keys l.fn.records.items l.records.items l.span l.number-iterator
+invariant-loop-number l = record { walk : IsWalked (λ n q. has_room q.readers) l.keys l.fn.records.items l.records.items l.span l.number-iterator; readers : readers_in l.records.items ≡ readers_in l.fn.records.items }

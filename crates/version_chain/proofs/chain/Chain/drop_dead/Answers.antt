@@ -1,4 +1,4 @@
-use Rattle.std.proofs.Common.{◌≡◌, ◌&&◌, ◌+◌, ◌∙◌, All, ap, arith, cond, drop, false, length, not, refl, subst, sym, take}
+use Rattle.std.proofs.Common.{◌≡◌, ◌&&◌, ◌+◌, ◌∙◌, ap, arith, cond, false, length, not, refl, subst, sym, take}
 use Rattle.std.specs.Prelude.{bytes_eq}
 use Rattle.version_chain.proofs.Common.{filter, length-filter_both}
 use Rattle.version_chain.specs.declared.chain.Version.{Version}
@@ -10,9 +10,7 @@ use Rattle.version_chain.proofs.Chained.{dead_before, live_above, rises_kept}
 use Rattle.version_chain.proofs.chain.Chain.drop_dead.Goals as goal
 
 pub drop_dead-requires-clause-live : goal.drop_dead-requires-clause-live
-drop_dead-requires-clause-live c =
-    subst (λ vs. All (λ (v : Version). is_dead_version c.args.horizon c.newest_committed-top.result v ≡ false) (drop c.place_above-place.result vs)) (sym c.self.view_is)
-    (live_above c.args.horizon c.newest_committed-top.result c.place_above-place.result c.args.self.now c.place_above-place.ensures.place)
+drop_dead-requires-clause-live c = rw c.self.view_is (live_above c.args.horizon c.newest_committed-top.result c.place_above-place.result c.args.self.now c.place_above-place.ensures.place)
 
 pub invariant_of-self : goal.invariant_of-self
 invariant_of-self c = subst DoRise (sym c.drop_dead.ensures) (rises_kept _ (versions_in c.self.inside.versions) c.self.invariant)

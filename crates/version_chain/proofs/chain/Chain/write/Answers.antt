@@ -1,33 +1,21 @@
 use Rattle.std.proofs.Common.{ap, sym, ◌∙◌, subst}
 use Rattle.std.specs.Prelude.{is_none}
-use Rattle.version_chain.specs.Versions.{DoRise, IsPlaceOf, IsFreePlace, version_of}
+use Rattle.version_chain.specs.Versions.{DoRise, version_of}
 use Rattle.version_chain.proofs.Edits.{rises_set, set_finds, rises_insert, insert_finds, some_placed, none_free}
 use Rattle.version_chain.specs.Layout.{versions_in}
 use Rattle.version_chain.proofs.chain.Chain.write.Goals as goal
 
 pub invariant_of-self : goal.invariant_of-self
-invariant_of-self c =
-    let place : IsPlaceOf (versions_in c.self.inside.versions) c.get.result c.in-Ok.place = subst (λ vs. IsPlaceOf vs c.get.result c.in-Ok.place) (sym c.self.view_is) c.in-Ok.ensures in
-    subst DoRise (sym c.set.ensures) (rises_set (versions_in c.self.inside.versions) c.in-Ok.place c.args.version c.self.invariant (subst (λ t. IsPlaceOf (versions_in c.self.inside.versions) t c.in-Ok.place) c.get.ensures.number place))
+invariant_of-self c = rw c.set.ensures (rises_set (versions_in c.self.inside.versions) c.in-Ok.place c.args.version c.self.invariant (rw (c.self.view_is, ← c.get.ensures.number) c.in-Ok.ensures))
 
 pub returns-in-Ok-clause-ok : goal.returns-in-Ok-clause-ok
-returns-in-Ok-clause-ok c = λ i.
-    rw (c.set.ensures, ← c.self.view_is) (
-    let place : IsPlaceOf (versions_in c.self.inside.versions) c.get.result c.in-Ok.place = subst (λ vs. IsPlaceOf vs c.get.result c.in-Ok.place) (sym c.self.view_is) c.in-Ok.ensures in
-    set_finds (versions_in c.self.inside.versions) c.in-Ok.place c.args.version i c.self.invariant (subst (λ t. IsPlaceOf (versions_in c.self.inside.versions) t c.in-Ok.place) c.get.ensures.number place)
-    )
+returns-in-Ok-clause-ok c = λ i. rw (c.set.ensures, ← c.self.view_is) (set_finds (versions_in c.self.inside.versions) c.in-Ok.place c.args.version i c.self.invariant (rw (c.self.view_is, ← c.get.ensures.number) c.in-Ok.ensures))
 
 pub invariant_of-self-in-Err : goal.invariant_of-self-in-Err
-invariant_of-self-in-Err c =
-    let place : IsFreePlace (versions_in c.self.inside.versions) c.get.result c.in-Err.place = subst (λ vs. IsFreePlace vs c.get.result c.in-Err.place) (sym c.self.view_is) c.in-Err.ensures in
-    subst DoRise (sym c.in_ok-insert-in-Err.ensures.ok) (rises_insert (versions_in c.self.inside.versions) c.in-Err.place c.args.version c.self.invariant (subst (λ t. IsFreePlace (versions_in c.self.inside.versions) t c.in-Err.place) c.get.ensures.number place))
+invariant_of-self-in-Err c = rw c.in_ok-insert-in-Err.ensures.ok (rises_insert (versions_in c.self.inside.versions) c.in-Err.place c.args.version c.self.invariant (rw (c.self.view_is, ← c.get.ensures.number) c.in-Err.ensures))
 
 pub returns-in_ok-insert-in-Err-clause-ok : goal.returns-in_ok-insert-in-Err-clause-ok
-returns-in_ok-insert-in-Err-clause-ok c = λ i.
-    rw (c.in_ok-insert-in-Err.ensures.ok, ← c.self.view_is) (
-    let place : IsFreePlace (versions_in c.self.inside.versions) c.get.result c.in-Err.place = subst (λ vs. IsFreePlace vs c.get.result c.in-Err.place) (sym c.self.view_is) c.in-Err.ensures in
-    insert_finds (versions_in c.self.inside.versions) c.in-Err.place c.args.version i (subst (λ t. IsFreePlace (versions_in c.self.inside.versions) t c.in-Err.place) c.get.ensures.number place)
-    )
+returns-in_ok-insert-in-Err-clause-ok c = λ i. rw (c.in_ok-insert-in-Err.ensures.ok, ← c.self.view_is) (insert_finds (versions_in c.self.inside.versions) c.in-Err.place c.args.version i (rw (c.self.view_is, ← c.get.ensures.number) c.in-Err.ensures))
 
 pub returns-in-Ok-clause-new : goal.returns-in-Ok-clause-new
 returns-in-Ok-clause-new c =
