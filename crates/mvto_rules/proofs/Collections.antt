@@ -1,19 +1,18 @@
 -- The reply to a collection, and what it changes.
-use Rattle.std.proofs.Common.{List, None, Option, ap, arith, inl, length, refl, subst, sym, true, ℕ, ◌<◌, ◌≤◌, ◌≡◌, ◌∙◌, []}
-use Rattle.std.specs.Prelude.{Some, map, min, nat_lt}
-use Rattle.mvto_rules.proofs.Common.{AreThose, Collect, Collected, IsCollectedTo, IsStep, Kept, MAX, Protection, Refused, TsRange, VersionName, alike_self, is_dropped, nat_tests, reached, within}
+use Rattle.std.proofs.lemmas.Grind.{common_steps}
+use Rattle.std.proofs.Common.{List, None, Option, ap, arith, inl, length, subst, sym, ℕ, ◌<◌, ◌≤◌, ◌≡◌, ◌∙◌}
+use Rattle.std.specs.Prelude.{Some, map, min}
+use Rattle.mvto_rules.proofs.Common.{AreThose, Collect, Collected, IsCollectedTo, IsStep, Kept, MAX, Protection, Refused, TsRange, VersionName, is_dropped, nat_tests, reached, within}
 use Rattle.spans.specs.Transactions.{least_of}
 use Rattle.kept.specs.Places.{IsLeastFloor, or_min}
 
 pub collect_outside : (k : Kept) (seat to : ℕ) → MAX < to → IsStep k k seat (Collect to) (Refused TsRange)
-collect_outside k seat to high = let on : nat_lt MAX to ≡ true = grind (arith, nat_tests) in inl (record { right = (None, None, [], (λ low. absurd (omega arith)), rw on refl); change = alike_self k })
+collect_outside k seat to high = grind (arith, nat_tests, common_steps)
 
 -- to reach to, but no further than the limit, is to be held back by each alone
 pub held_back : (protection floor : Option ℕ) (to closed : ℕ) → min to (or_min protection (or_min floor closed)) ≡ or_min protection (or_min floor (min to closed))
-held_back None None to closed = refl
-held_back None (Some f) to closed = omega arith
-held_back (Some p) None to closed = omega arith
-held_back (Some p) (Some f) to closed = omega arith
+held_back None floor to closed = grind (arith, common_steps)
+held_back (Some p) floor to closed = grind (arith, common_steps)
 
 pub collect_done : (k k' : Kept) (seat to horizon count : ℕ) (protection floor : Option ℕ) (dropped : List VersionName) → to ≤ MAX → horizon ≡ reached k to protection floor
     → ((n : ℕ) → or_min protection n ≡ least_of n (map (λ (n : Protection). n.at) k.protections)) → IsLeastFloor k.feed floor → AreThose (is_dropped k horizon) dropped → length dropped ≡ count → IsCollectedTo k k' horizon → IsStep k k' seat (Collect to) (Collected horizon count)

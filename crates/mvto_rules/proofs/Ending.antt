@@ -1,12 +1,11 @@
 -- The key at which a scan ends, found one entry after another.
-use Rattle.mvto_rules.proofs.Common.{After, AllByRecursion, Entry, RisingKeys, Span, Stored, chain_of, common_steps, in_span, is_committed_in, keys_of, nat_tests, version_in}
-use Rattle.std.proofs.Common.{Bool, List, None, Option, Some, ap, arith, false, refl, true, ℕ, ◌∷◌, ◌≡◌, []}
-use Rattle.std.specs.Prelude.{IfSome, ◌==◌, ◌≤◌}
+use Rattle.mvto_rules.proofs.Common.{AllByRecursion, Entry, RisingKeys, Span, Stored, chain_of, common_steps, in_span, is_committed_in, keys_of, version_in}
+use Rattle.std.proofs.Common.{List, None, Option, Some, ap, arith, false, refl, true, ℕ, ◌∷◌, ◌≡◌, []}
 use Rattle.spans.specs.Newest.{Version}
 use Rattle.version_chain.specs.declared.chain.Version as stored
-use Rattle.mvto_rules.specs.Room.{end_at, end_in, has_room, room_behind, stops_at}
+use Rattle.mvto_rules.specs.Room.{end_in, has_room, room_behind, stops_at}
 use Rattle.mvto_rules.specs.Scans.{entries_of, keys_in}
-use Rattle.mvto_rules.specs.Sights.{ts_of, value_in, would_stop}
+use Rattle.mvto_rules.specs.Sights.{value_in}
 use Rattle.mvto_rules.specs.declared.room.Room.{Room}
 use Rattle.mvto_rules.proofs.Seeing.{IsThere}
 use Rattle.mvto_rules.proofs.Walking.{each_found}
@@ -19,22 +18,10 @@ pub record IsEnding (s : Stored) (t : ℕ) (span : Span) (rows bytes : ℕ) (res
 pub ending_begins : (s : Stored) (t : ℕ) (span : Span) (rows bytes : ℕ) (found : List Entry) → found ≡ entries_of s span → RisingKeys (keys_of s.entries) → IsEnding s t span rows bytes found (record { rows = rows; bytes = bytes })
 ending_begins s t span rows bytes found those rising = record { each = each_found s span found [] found those rising refl; ends = ap (λ es. end_in s t rows bytes (keys_of es)) those }
 
-stops_so : (d : ℕ → Bool) (t : ℕ) (o : Option stored.Version) → IfSome o (λ v. d v.ts ≡ v.committed) → IfSome o (λ v. 1 ≤ v.ts) → would_stop d t (ts_of o) ≡ stops_at t o
-stops_so d t None done named = refl
-stops_so d t (Some v) done named = let some : (v.ts == 0) ≡ false = grind (arith, nat_tests) in rw (done, some) refl
-
 -- it stops the reader
 pub ending_stops : (s : Stored) (t : ℕ) (span : Span) (rows bytes : ℕ) (x : List ℕ) (vs : List stored.Version) (rest : List Entry) (room : Room) (o : Option stored.Version) → IsEnding s t span rows bytes ((x, vs) ∷ rest) room → IsThere (version_in s x) (is_committed_in s x) t o
     → stops_at t o ≡ true → None ≡ end_in s t rows bytes (keys_in s span)
 ending_stops s t span rows bytes x vs rest room o ending there on = grind (arith, common_steps)
-
-at_end : (room : Room) (x : List ℕ) (a : After) (on : ℕ → ℕ → Option (List ℕ)) → has_room room x a ≡ false → end_at room.rows room.bytes x a on ≡ Some x
-at_end room x None on none = cc
-at_end room x (Some v) on none = grind (arith, common_steps)
-
-at_room : (room : Room) (x : List ℕ) (a : After) (on : ℕ → ℕ → Option (List ℕ)) → has_room room x a ≡ true → end_at room.rows room.bytes x a on ≡ on (room_behind room x a).rows (room_behind room x a).bytes
-at_room room x None on some = refl
-at_room room x (Some v) on some = grind (arith, common_steps)
 
 -- its row finds no room
 pub ending_ends : (s : Stored) (t : ℕ) (span : Span) (rows bytes : ℕ) (x : List ℕ) (vs : List stored.Version) (rest : List Entry) (room : Room) (o : Option stored.Version) → IsEnding s t span rows bytes ((x, vs) ∷ rest) room → IsThere (version_in s x) (is_committed_in s x) t o

@@ -1,43 +1,14 @@
 -- A read of one key, noted.
-use Rattle.mvto_rules.proofs.Common.{After, HaveSameMarks, IsAlike, IsAsBefore, IsCrossedIn, IsLate, IsMarkedAt, IsNextAbove, IsNoted, IsPiece, IsReadBy, Kept, MAX, Stored, Version, after_of, by_test, chain_of, common_steps, marked_in, nat_tests, seen, until, version_in, version_of}
+use Rattle.mvto_rules.proofs.Common.{After, HaveSameMarks, IsAlike, IsAsBefore, IsCrossedIn, IsLate, IsMarkedAt, IsNextAbove, IsPiece, IsReadBy, Kept, MAX, Stored, marked_in, seen, until, version_in}
 use std.Path.{fun_ext}
-use Rattle.std.proofs.Common.{List, None, Option, Some, arith, false, refl, subst, sym, true, ℕ, ◌<◌, ◌≤◌, ◌==◌, ◌≡◌, ◌∙◌, [], ◌∷◌, ap}
-use Rattle.std.specs.Prelude.{is_some, nat_lt}
+use Rattle.std.proofs.Common.{List, None, Option, Some, arith, false, refl, subst, sym, true, ℕ, ◌<◌, ◌≤◌, ◌≡◌, ◌∙◌, ap}
 use Rattle.kept.proofs.Noting.{merged_noted, own_noted}
 use Rattle.mvto_rules.specs.Holding.{holding, marked_of}
 use Rattle.mvto_rules.specs.declared.rules.Rules.{Rules}
 
-next_like : (f g : ℕ → Option After) (t : ℕ) (o : Option ℕ) → ((n : ℕ) → t < n → g n ≡ f n) → IsNextAbove f t o → IsNextAbove g t o
-next_like f g t None same none = λ n l. same n l ∙ none n l
-next_like f g t (Some s) same next = (next.0, ap is_some (same s next.0) ∙ next.1, λ n l h. same n l ∙ next.2 n l h)
-
--- the first of a list of versions is the next above t where none of the others is between the two
-first_next : (v : Version) (vs : List Version) (t : ℕ) → t < v.ts → ((n : ℕ) → t < n → n < v.ts → after_of (version_of vs n) ≡ None) → IsNextAbove (λ i. after_of (version_of (v ∷ vs) i)) t (Some v.ts)
-first_next v vs t above none = grind (arith, common_steps)
-
--- of a list of versions there is a next above t, or none
-pub some_next : (vs : List Version) (t : ℕ) → (o : Option ℕ) × IsNextAbove (λ i. after_of (version_of vs i)) t o
-some_next [] t = (None, λ n l. refl)
-some_next (v ∷ vs) t = by_next (some_next vs t).0 (some_next vs t).1
-  where
-    by_next : (o : Option ℕ) → IsNextAbove (λ i. after_of (version_of vs i)) t o → (p : Option ℕ) × IsNextAbove (λ i. after_of (version_of (v ∷ vs) i)) t p
-    by_next None none = by_test (nat_lt t v.ts)
-        (λ above. (Some v.ts, first_next v vs t (grind (arith, nat_tests)) (λ n l h. none n l)))
-        (λ below. (None, λ n l. (let e : (v.ts == n) ≡ false = grind (arith, nat_tests) in rw e (none n l))))
-    by_next (Some s) next = by_test (nat_lt t v.ts)
-        (λ above. by_test (nat_lt s v.ts)
-        (λ higher. (Some s, (next.0, (let e : (v.ts == s) ≡ false = grind (arith, nat_tests) in rw e next.1), λ n l h. (let e : (v.ts == n) ≡ false = grind (arith, nat_tests) in rw e (next.2 n l h)))))
-        (λ lower. (Some v.ts, first_next v vs t (grind (arith, nat_tests)) (λ n l h. next.2 n l (grind (arith, nat_tests))))))
-        (λ below. (Some s, next_like (λ i. after_of (version_of vs i)) (λ i. after_of (version_of (v ∷ vs) i)) t (Some s) (λ n l. (let e : (v.ts == n) ≡ false = grind (arith, nat_tests) in rw e refl)) next))
-
 -- a read that found the reader's own version is noted by no mark
-pub own_read : (k : Kept) (s : Stored) (x : List ℕ) (t : ℕ) → k.version ≡ version_in s → (seen k x t).ts ≡ t → IsNoted k x t (k.marked x)
-own_read k s x t is own =
-    let next = some_next (chain_of s x) t in
-    own_noted k x t next.0 (k.marked x) (subst (λ f. IsNextAbove (f x) t next.0) (sym is) next.1) own (λ n. refl)
-
-pub own_is_read : (k : Kept) (s : Stored) (x : List ℕ) (t : ℕ) → k.version ≡ version_in s → (seen k x t).ts ≡ t → IsReadBy k k t x
-own_is_read k s x t is own = record { noted = own_read k s x t is own; others = λ y off n. refl; rest = refl }
+pub own_is_read : (k : Kept) (x : List ℕ) (t : ℕ) (next : Option ℕ) → IsNextAbove (k.version x) t next → (seen k x t).ts ≡ t → IsReadBy k k t x
+own_is_read k x t next above own = record { noted = own_noted k x t next (k.marked x) above own (λ n. refl); others = λ y off n. refl; rest = refl }
 
 pub past_until : (f : ℕ → Option After) (t : ℕ) (next : Option ℕ) → t ≤ MAX → IsNextAbove f t next → t ≤ until next
 past_until f t None low next = omega arith

@@ -1,6 +1,6 @@
 -- A scan's reply, and what it marks.
-use Rattle.mvto_rules.proofs.Common.{AllByRecursion, AreFilled, AreKeysOf, AreMarkedAt, Blocked, Entry, IsAsBefore, IsIn, IsScanReply, IsScannedBy, Kept, MAX, Refusal, Refused, Reply, RisingKeys, Rows, Span, Stored, Version, after_of, both_ways, by_test, chain_nowhere, chain_of, common_steps, first_refusal_or, in_span, is_accepted, keys_of, marked_in, nat_tests, newest_in, newest_is, refusal, rises_filtered, scan_reply, unless_refused, until, version_in, version_of}
-use Rattle.std.proofs.Common.{List, None, Option, Some, ap, arith, cond, false, inl, inr, refl, subst, sym, true, ℕ, ◌<◌, ◌≤◌, ◌==◌, ◌∷◌, ◌≡◌, ◌∙◌, []}
+use Rattle.mvto_rules.proofs.Common.{AllByRecursion, AreFilled, AreKeysOf, AreMarkedAt, Blocked, Entry, IsAsBefore, IsIn, IsScanReply, IsScannedBy, Kept, MAX, Refused, Reply, RisingKeys, Rows, Span, Stored, Version, after_of, both_ways, by_test, chain_nowhere, chain_of, common_steps, first_refusal_or, in_span, keys_of, marked_in, nat_tests, newest_in, newest_is, refusal, rises_filtered, scan_reply, unless_refused, until, version_in, version_of}
+use Rattle.std.proofs.Common.{List, None, Option, Some, ap, arith, false, inl, inr, refl, subst, sym, true, ℕ, ◌<◌, ◌≤◌, ◌==◌, ◌∷◌, ◌≡◌, ◌∙◌, []}
 use Rattle.std.specs.Prelude.{is_some, map}
 use Rattle.spans.proofs.WriteSets.{has, has_in}
 use Rattle.kept.proofs.Marking.{merged}
@@ -12,38 +12,13 @@ use Rattle.mvto_rules.proofs.Walking.{each_found, in_each}
 
 -- ---- its reply
 
-abbrev by_blocker : Option ℕ → Reply → Reply
+abbrev pub by_blocker : Option ℕ → Reply → Reply
 by_blocker None reply = reply
 by_blocker (Some n) reply = Refused (Blocked n)
 
 first_stop : (s : Stored) (t : ℕ) (keys : List (List ℕ)) (reply : Reply) → first_refusal_or (map (λ x. (stops_in s t x, Blocked (newest_in s t x).ts)) keys) reply ≡ by_blocker (first_blocker s t keys) reply
 first_stop s t [] reply = refl
-first_stop s t (x ∷ xs) reply = by_test (stops_in s t x)
-    (λ on. ap (λ b. cond b (Refused (Blocked (newest_in s t x).ts)) (rest xs)) on ∙ sym (ap (λ b. by_blocker (cond b (Some (newest_in s t x).ts) (first_blocker s t xs)) reply) on))
-    (λ off. ap (λ b. cond b (Refused (Blocked (newest_in s t x).ts)) (rest xs)) off ∙ first_stop s t xs reply ∙ sym (ap (λ b. by_blocker (cond b (Some (newest_in s t x).ts) (first_blocker s t xs)) reply) off))
-  where
-    rest : List (List ℕ) → Reply
-    rest ys = first_refusal_or (map (λ x. (stops_in s t x, Blocked (newest_in s t x).ts)) ys) reply
-
--- what stops the reader is answered
-pub stopped_reply : (k : Kept) (r : Rules) (seat t n : ℕ) (keys : List (List ℕ)) → refusal (holding k r) seat t ≡ None → first_blocker r.store t keys ≡ Some n → Refused (Blocked n) ≡ scan_reply (holding k r) seat t keys
-stopped_reply k r seat t n keys free stop =
-    let all = Rows (rows_in r.store t keys) in
-    sym (ap (λ o. by_blocker o all) stop) ∙ sym (first_stop r.store t keys all) ∙ sym (ap (λ o. unless_refused o (first_refusal_or (map (λ x. (stops_in r.store t x, Blocked (newest_in r.store t x).ts)) keys) all)) free)
-
--- or the rows
-pub through_reply : (k : Kept) (r : Rules) (seat t : ℕ) (keys : List (List ℕ)) (rows : List (List ℕ × List ℕ)) → refusal (holding k r) seat t ≡ None → first_blocker r.store t keys ≡ None → rows ≡ rows_in r.store t keys → Rows rows ≡ scan_reply (holding k r) seat t keys
-through_reply k r seat t keys rows free none is =
-    let all = Rows (rows_in r.store t keys) in
-    ap Rows is ∙ sym (ap (λ o. by_blocker o all) none) ∙ sym (first_stop r.store t keys all) ∙ sym (ap (λ o. unless_refused o (first_refusal_or (map (λ x. (stops_in r.store t x, Blocked (newest_in r.store t x).ts)) keys) all)) free)
-
--- where nothing stops the reader the scan is no refusal
-pub scan_accepted : (k : Kept) (r : Rules) (seat t : ℕ) (keys : List (List ℕ)) → refusal (holding k r) seat t ≡ None → first_blocker r.store t keys ≡ None → is_accepted (scan_reply (holding k r) seat t keys) ≡ true
-scan_accepted k r seat t keys free none = ap is_accepted (sym (through_reply k r seat t keys (rows_in r.store t keys) free none refl))
-
--- a refusal by the transaction's tests asks for no keys
-pub refused_reply : (k : Kept) (r : Rules) (seat t : ℕ) (span : Span) (refused : Refusal) → refusal (holding k r) seat t ≡ Some refused → IsScanReply (holding k r) seat t span (Refused refused)
-refused_reply k r seat t span refused is = grind (arith, common_steps)
+first_stop s t (x ∷ xs) reply = grind (arith, common_steps, first_stop s t xs reply)
 
 -- ---- the keys of the span
 
@@ -75,6 +50,15 @@ keys_are k r span rising filled =
             let no : false ≡ true = sym (ap (λ vs. is_some (after_of (version_of vs is.1))) none) ∙ is.2 in cc),
       );
     }
+
+-- what stops the reader is answered, or the rows
+pub scan_found : (k : Kept) (r : Rules) (seat t u : ℕ) (span : Span) (o : Option ℕ) → u ≡ t → refusal (holding k r) seat t ≡ None → RisingKeys (keys_of r.store.entries) → AreFilled (entries_of r.store span) → first_blocker r.store u (keys_in r.store span) ≡ o
+    → IsScanReply (holding k r) seat t span (by_blocker o (Rows (rows_in r.store u (keys_in r.store span))))
+scan_found k r seat t u span o same free rising filled stop =
+    let keys = keys_in r.store span in let all = Rows (rows_in r.store t keys) in
+    let stop' : first_blocker r.store t keys ≡ o = subst (λ n. first_blocker r.store n keys ≡ o) same stop in
+    let right : by_blocker o all ≡ scan_reply (holding k r) seat t keys = sym (ap (λ p. by_blocker p all) stop') ∙ sym (first_stop r.store t keys all) ∙ sym (ap (λ p. unless_refused p (first_refusal_or (map (λ x. (stops_in r.store t x, Blocked (newest_in r.store t x).ts)) keys) all)) free) in
+    (keys, (λ _. keys_are k r span rising filled), subst (λ n. by_blocker o (Rows (rows_in r.store n keys)) ≡ scan_reply (holding k r) seat t keys) (sym same) right)
 
 -- ---- what it marks
 

@@ -1,9 +1,11 @@
 -- What a read finds, by the newest version at or below its timestamp.
-use Rattle.mvto_rules.proofs.Common.{After, Blocked, Found, IsNewestIn, IsNewestOf, IsNoneUpTo, Kept, Refused, Reply, Stored, Version, after_of, chain_of, common_steps, get_reply, is_committed_in, nat_tests, newest, newest_only, option_copied, refusal, version_at, version_in, version_of}
-use Rattle.std.proofs.Common.{Bool, Bor, List, None, Option, Some, ap, arith, cond, false, inl, inr, refl, subst, sym, true, ℕ, ◌<◌, ◌≤◌, ◌==◌, ◌≡◌, ◌∙◌}
+use Rattle.mvto_rules.proofs.Common.{After, Blocked, Found, IsNewestIn, IsNewestOf, IsNoneUpTo, Kept, Refused, Reply, Stored, Version, after_of, chain_of, common_steps, get_reply, is_committed_in, newest, newest_only, option_copied, refusal, seen, version_at, version_in, version_of}
+use Rattle.std.proofs.Common.{Bool, Bor, List, None, Option, Some, ap, arith, false, inl, inr, refl, true, ℕ, ◌<◌, ◌≤◌, ◌≡◌, ◌∙◌}
 use Rattle.std.specs.Prelude.{IfSome, MatchOption}
 use Rattle.mvto_rules.specs.Sights.{sight_of, ts_of, value_in, would_stop}
 use Rattle.mvto_rules.specs.declared.sight.Sight.{Sight}
+use Rattle.mvto_rules.specs.Holding.{holding}
+use Rattle.mvto_rules.specs.declared.rules.Rules.{Rules}
 use Rattle.mvto_rules.specs.declared.sight.Sight.TheVariants as sights
 
 -- what stands at a key for a read at t: the version, or none
@@ -52,40 +54,22 @@ unstopped sights.Own free = refl
 unstopped (sights.Other n) free = refl
 unstopped (sights.Blocked n) free = absurd (free n refl)
 
--- where another's version was found, or none
-abbrev pub IsOf : ℕ → Option Version → Sight → Type 0
-IsOf t o sights.Own = ts_of o ≡ t
-IsOf t o (sights.Other n) = (n ≡ ts_of o) × ((n == t) ≡ false)
-IsOf t o (sights.Blocked n) = (n ≡ ts_of o) × ((n == t) ≡ false)
-
 stops : (d : ℕ → Bool) (t : ℕ) (o : Option Version) → IfSome o (λ v. d v.ts ≡ v.committed) → IfSome o (λ v. 1 ≤ v.ts) → would_stop d t (ts_of o) ≡ is_stopped (sight_of t o)
 stops d t None done named = refl
 stops d t (Some v) done named = grind (arith, common_steps)
 
-of_whom : (t : ℕ) (o : Option Version) → 0 < t → IsOf t o (sight_of t o)
-of_whom t None low = (refl, grind (arith, nat_tests))
-of_whom t (Some v) low = grind (arith, common_steps)
-
-told_is : (t : ℕ) (o : Option Version) (s : Sight) → IsOf t o s → told s (value_in o) ≡ cond (is_stopped s) (Refused (Blocked (ts_of o))) (Found (value_in o))
-told_is t o sights.Own of = refl
-told_is t o (sights.Other n) of = refl
-told_is t o (sights.Blocked n) of = ap (λ m. Refused (Blocked m)) of.0
-
 pub blocked_is : (f : ℕ → Option After) (d : ℕ → Bool) (t : ℕ) (o : Option Version) → IsThere f d t o → would_stop d t (newest f t).ts ≡ is_stopped (sight_of t o)
 blocked_is f d t o there = ap (λ v. would_stop d t v.ts) there.is ∙ stops d t o there.done there.named
 
--- the reply to a read that isn't refused by its transaction
-pub reply_is : (k : Kept) (seat t : ℕ) (x : List ℕ) (o : Option Version) (s : Sight) → 0 < t → refusal k seat t ≡ None → IsThere (k.version x) (k.committed x) t o → s ≡ sight_of t o → told s (value_in o) ≡ get_reply k seat t x
-reply_is k seat t x o s low free there is = grind (arith, common_steps)
+-- what the sight of a read says: the reply, unless its transaction refuses it, and whose version was found
+pub record IsGot (k : Kept) (seat t : ℕ) (x : List ℕ) (s : Sight) (found : After) : Type 0 where
+  pub reply : told s found ≡ get_reply k seat t x
+  pub own : s ≡ sights.Own → (seen k x t).ts ≡ t
+  pub other : (n : ℕ) → s ≡ sights.Other n → (seen k x t).ts ≡ n
 
--- the version that was read is another's, or none
-pub other_is : (f : ℕ → Option After) (d : ℕ → Bool) (t : ℕ) (o : Option Version) (n : ℕ) → 0 < t → IsThere f d t o → sights.Other n ≡ sight_of t o → ((newest f t).ts ≡ n) × (n < t)
-other_is f d t o n low there is = grind (arith, common_steps)
+got_there : (k : Kept) (seat t : ℕ) (x : List ℕ) (o : Option Version) (s : Sight) → 0 < t → refusal k seat t ≡ None → IsThere (k.version x) (k.committed x) t o → s ≡ sight_of t o → IsGot k seat t x s (value_in o)
+got_there k seat t x o s low free there is = record { reply = grind (arith, common_steps); own = λ e. grind (arith, common_steps); other = λ n e. grind (arith, common_steps) }
 
--- the version that was read is the reader's own
-pub own_is : (f : ℕ → Option After) (d : ℕ → Bool) (t : ℕ) (o : Option Version) → 0 < t → IsThere f d t o → sights.Own ≡ sight_of t o → (newest f t).ts ≡ t
-own_is f d t o low there is = ap (λ v. v.ts) there.is ∙ subst (IsOf t o) (sym is) (of_whom t o low)
-
--- the version that stops the reader
-pub blocker_is : (f : ℕ → Option After) (d : ℕ → Bool) (t : ℕ) (o : Option Version) (n : ℕ) → 0 < t → IsThere f d t o → sights.Blocked n ≡ sight_of t o → ((newest f t).ts ≡ n) × (would_stop d t (newest f t).ts ≡ true)
-blocker_is f d t o n low there is = grind (arith, common_steps)
+pub got_so : (k : Kept) (r : Rules) (seat t u m : ℕ) (x : List ℕ) (o : Option (Bor Version)) (s : Sight) → refusal (holding k r) seat t ≡ None → u ≡ t → m ≡ u → 1 ≤ m → MatchOption o ((i : ℕ) → i ≤ m → version_in r.store x i ≡ None) (λ v. IsNewestIn r.store x m v.now)
+    → IfSome (option_copied o) (λ v. 1 ≤ v.ts) → s ≡ sight_of u (option_copied o) → IsGot (holding k r) seat t x s (value_in (option_copied o))
+got_so k r seat t u m x o s free same at low newest named is = got_there (holding k r) seat t x (option_copied o) s (omega arith) free (found_there r.store x t m o (at ∙ same) newest named) (is ∙ ap (λ n. sight_of n (option_copied o)) same)

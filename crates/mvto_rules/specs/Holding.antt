@@ -1,6 +1,7 @@
 -- What the rules hold, as a part of what an engine keeps: all of it but the feeds.
-use Rattle.std.specs.Prelude.{Bool, List, None, Option, Some, ℕ, ◌≡◌}
-use Rattle.mvto_rules.specs.Prelude.{After, Del, IsAlike, IsStep, Kept, Put, Refusal, Refused, Standing, Stored, Transaction, closed_in, is_committed_in, made_in, marked_in, protections_in, transaction_in, version_in}
+use Rattle.std.specs.Prelude.{Bool, List, None, Option, Some, ℕ}
+use Rattle.mvto_rules.specs.Prelude.{After, Del, IsAlike, IsStep, Kept, Put, Standing, Stored, Transaction, closed_in, is_committed_in, made_in, marked_in, protections_in, transaction_in, version_in}
+use Rattle.kept.specs.StandsFor.{nothing_kept}
 use Rattle.spans.specs.declared.calls.commands.Cmd.{Cmd}
 use Rattle.spans.specs.declared.calls.replies.Reply.{Reply}
 use Rattle.mvto_rules.specs.declared.rules.Rules.{Rules}
@@ -34,6 +35,10 @@ holding k r = record k {
   protections_made = made_in (closing_of r);
 }
 
+-- what the rules hold, and no feed beside it
+abbrev pub held : Rules → Kept
+held r = holding nothing_kept r
+
 -- what the rules hold has it so, whatever else is kept beside it
 abbrev pub Holds : Rules → (Kept → Type 0) → Type 0
 Holds r P = (k : Kept) → P (holding k r)
@@ -45,10 +50,6 @@ Changes r r' R = (k : Kept) → R (holding k r) (holding k r')
 -- what is kept is as it was
 abbrev pub Stays : Rules → Rules → Type 0
 Stays r r' = Changes r r' IsAlike
-
--- what is kept is as it was, where the reply is a refusal
-abbrev pub StaysIfRefused : Rules → Rules → Reply → Type 0
-StaysIfRefused r r' reply = (k : Kept) (why : Refusal) → reply ≡ Refused why → IsAlike (holding k r) (holding k r')
 
 -- r became r' by a seat's command, which is answered by this reply
 abbrev pub Steps : Rules → Rules → ℕ → Cmd → Reply → Type 0

@@ -4,7 +4,6 @@ pub mod Sights
 pub mod Scans
 pub mod Readings
 pub mod Holding
-pub mod Accepting
 pub mod Snapshots
 pub mod Closings
 pub mod Reaching

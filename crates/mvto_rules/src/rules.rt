@@ -2,11 +2,8 @@
 //! `Sight::of` is the read rule, which gets and scans apply. The store judges a write by the write rule.
 ghost use Rattle.std.specs.Prelude.{◌≡◌, ◌<◌, ◌≤◌, is_some, true, Some, None, IfOk, IfErr, OnOk, OnErr};
 ghost use Rattle.std.specs.Option.{option_copied};
-ghost use Rattle.mvto_rules.specs.Prelude.{After, Found, IsAbortedBy, IsAlike, IsBegun, IsCommittedBy, IsNextAbove, IsNumberOf, IsReadBy, IsScanReply, IsScannedBy, IsWriteReply, IsWritten, MAX, Refusal, Refused, Started, TooLate, Written, begin_reply, closed_in, get_reply, is_accepted, refusal, seen, version_in};
-ghost use Rattle.spans.specs.declared.calls.replies.Reply.TheVariants as replies;
-ghost use Rattle.kept.specs.Leading.{Pairs};
+ghost use Rattle.mvto_rules.specs.Prelude.{Begin, Get, IsAbortedBy, IsAlike, IsAnswered, IsCommittedBy, IsNextAbove, IsNumberOf, IsReadBy, IsScannedBy, IsWanting, MAX, Scan, TooLate, closed_in, refusal, seen, version_in};
 ghost use Rattle.kept.specs.StandsFor.{nothing_kept};
-ghost use Rattle.mvto_rules.specs.Accepting.{IsScanAccepted, IsWriteAccepted};
 ghost use Rattle.mvto_rules.specs.Tables.{AreInRange};
 
 use crate::reading::{Reading, read_span};
@@ -40,7 +37,7 @@ pub struct Rules {
 }
 
 impl Rules {
-    ghost use Rattle.mvto_rules.specs.Holding.{Changes, Holds, Stays, StaysIfRefused, holding, versions_of};
+    ghost use Rattle.mvto_rules.specs.Holding.{Changes, Holds, Stays, held, holding, versions_of, write_of};
 
     /// Nothing has happened.
     pub fn new(alloc: Global) -> Rules
@@ -57,11 +54,8 @@ impl Rules {
 
     /// Begins a transaction of a seat above what is closed, unless one of its timestamp began before.
     pub(crate) fn try_begin(&mut self, seat: u8, ts: u64) -> Result<Reply, AllocError>
-        ensures reply { IfOk result (λ reply. Holds self.old (λ k. reply ≡ begin_reply k ts)) }
-        ensures begun { IfOk result (λ reply. Changes self.old self.new (λ k k'. reply ≡ Started → IsBegun k k' ts seat)) }
-        ensures refused { IfOk result (StaysIfRefused self.old self.new) }
-        ensures err { OnErr result (Stays self.old self.new) }
-        ensures accepted { OnErr result (Holds self.old (λ k. is_accepted (begin_reply k ts) ≡ true)) }
+        ensures answered { IfOk result (λ reply. Changes self.old self.new (λ k k'. IsAnswered k k' seat (Begin ts) reply)) }
+        ensures wanting { OnErr result (Changes self.old self.new (λ k k'. IsWanting k k' seat (Begin ts))) }
     {
         let Some(timestamp) = Ts::new(ts) else {
             return Ok(Reply::Refused(Refusal::TsRange));
@@ -79,11 +73,8 @@ impl Rules {
 
     /// Reads a key, and marks the reader, unless the version is its own.
     pub(crate) fn try_get(&mut self, seat: u8, ts: u64, key: &Key) -> Result<Reply, AllocError>
-        ensures reply { IfOk result (λ reply. Holds self.old (λ k. reply ≡ get_reply k seat ts key.now)) }
-        ensures read { IfOk result (λ reply. Changes self.old self.new (λ k k'. (v : After) → reply ≡ Found v → IsReadBy k k' ts key.now)) }
-        ensures refused { IfOk result (StaysIfRefused self.old self.new) }
-        ensures err { OnErr result (Stays self.old self.new) }
-        ensures accepted { OnErr result (Holds self.old (λ k. is_accepted (get_reply k seat ts key.now) ≡ true)) }
+        ensures answered { IfOk result (λ reply. Changes self.old self.new (λ k k'. IsAnswered k k' seat (Get ts key.now) reply)) }
+        ensures wanting { OnErr result (Changes self.old self.new (λ k k'. IsWanting k k' seat (Get ts key.now))) }
     {
         let ts = match self.undecided(seat, ts) {
             Err(refusal) => return Ok(Reply::Refused(refusal)),
@@ -132,12 +123,8 @@ impl Rules {
         key: &Key,
         after: Option<&Value>,
     ) -> Result<Reply, AllocError>
-        ensures reply { IfOk result (λ reply. Holds self.old (λ k. IsWriteReply k seat ts key.now reply)) }
-        ensures written { IfOk result (λ reply. Changes self.old self.new (λ k k'. reply ≡ Written → IsWritten k k' ts key.now (option_copied after.entry))) }
-        ensures too_late { IfOk result (λ reply. Changes self.old self.new (λ k k'. reply ≡ Refused TooLate → IsAbortedBy k k' ts)) }
-        ensures refused { IfOk result (λ reply. Changes self.old self.new (λ k k'. (r : Refusal) → reply ≡ Refused r → (r ≡ TooLate → ⊥) → IsAlike k k')) }
-        ensures err { OnErr result (Stays self.old self.new) }
-        ensures accepted { OnErr result (Holds self.old (λ k. IsWriteAccepted k seat ts key.now)) }
+        ensures answered { IfOk result (λ reply. Changes self.old self.new (λ k k'. IsAnswered k k' seat (write_of ts key.now (option_copied after.entry)) reply)) }
+        ensures wanting { OnErr result (Changes self.old self.new (λ k k'. IsWanting k k' seat (write_of ts key.now (option_copied after.entry)))) }
     {
         let ts = match self.undecided(seat, ts) {
             Err(refusal) => return Ok(Reply::Refused(refusal)),
@@ -155,11 +142,8 @@ impl Rules {
     /// Reads the keys of a span, and marks the reader at all of them, those without a version too, but
     /// for keys where the version is its own. That something stops the reader is answered without memory.
     pub(crate) fn try_scan(&mut self, seat: u8, ts: u64, span: &Span) -> Result<Reply, AllocError>
-        ensures reply { IfOk result (λ reply. Holds self.old (λ k. IsScanReply k seat ts span.now reply)) }
-        ensures read { IfOk result (λ reply. Changes self.old self.new (λ k k'. (rows : Pairs) → reply ≡ replies.Rows rows → IsScannedBy k k' ts span.now)) }
-        ensures refused { IfOk result (StaysIfRefused self.old self.new) }
-        ensures err { OnErr result (Stays self.old self.new) }
-        ensures accepted { OnErr result (Holds self.old (λ k. IsScanAccepted k seat ts span.now)) }
+        ensures answered { IfOk result (λ reply. Changes self.old self.new (λ k k'. IsAnswered k k' seat (Scan ts span.now) reply)) }
+        ensures wanting { OnErr result (Changes self.old self.new (λ k k'. IsWanting k k' seat (Scan ts span.now))) }
     {
         let ts = match self.undecided(seat, ts) {
             Err(refusal) => return Ok(Reply::Refused(refusal)),
@@ -204,8 +188,8 @@ impl Rules {
     /// The timestamp of a transaction that the seat may still use, or why it may not.
     pub(crate) fn undecided(&self, seat: u8, ts: u64) -> Result<Ts, Refusal>
         ensures ok { IfOk result (λ t. t ≡ ts) }
-        ensures none { OnOk result (Holds self.now (λ k. refusal k seat ts ≡ None)) }
-        ensures err { IfErr result (λ r. Holds self.now (λ k. refusal k seat ts ≡ Some r)) }
+        ensures none { OnOk result (refusal (held self.now) seat ts ≡ None) }
+        ensures err { IfErr result (λ r. refusal (held self.now) seat ts ≡ Some r) }
         ensures other { IfErr result (λ r. r ≡ TooLate → ⊥) }
         ensures in_range { OnOk result ((1 ≤ ts) × (ts ≤ MAX)) }
     {

@@ -19,7 +19,7 @@ use version_chain::chain::Version;
 use version_chain::{Steps, Store};
 
 impl Rules {
-    ghost use Rattle.mvto_rules.specs.Holding.{Changes, Holds, closing_of};
+    ghost use Rattle.mvto_rules.specs.Holding.{Changes, Holds, closing_of, held};
 
     /// A refusal where `t` is below the horizon: what was there may be gone.
     pub fn horizon_refusal(&self, t: u64) -> Option<Refusal>
@@ -35,7 +35,7 @@ impl Rules {
 
     /// Why nothing is read at `t`.
     pub(crate) fn snapshot_refusal(&self, t: u64) -> Option<Refusal>
-        ensures { Holds self.now (λ k. result ≡ snapshot_refusal k t) }
+        ensures { result ≡ snapshot_refusal (held self.now) t }
     {
         let closed = self.closing.closed();
         if t > closed {
@@ -46,8 +46,8 @@ impl Rules {
 
     /// The value that the newest version of a key at or below `t` left.
     pub(crate) fn try_read_at(&self, t: u64, key: &Key) -> Result<Reply, AllocError>
-        ensures answered { IfOk result (λ reply. (seat : ℕ) → Holds self.now (λ k. IsAnswered k k seat (ReadAt t key.now) reply)) }
-        ensures wanting { OnErr result ((seat : ℕ) → Holds self.now (λ k. IsWanting k k seat (ReadAt t key.now))) }
+        ensures answered { (seat : ℕ) → IfOk result (λ reply. Holds self.now (λ k. IsAnswered k k seat (ReadAt t key.now) reply)) }
+        ensures wanting { (seat : ℕ) → OnErr result (Holds self.now (λ k. IsWanting k k seat (ReadAt t key.now))) }
     {
         if let Some(refusal) = self.snapshot_refusal(t) {
             return Ok(Reply::Refused(refusal));
@@ -60,8 +60,8 @@ impl Rules {
 
     /// The keys of a span whose newest version at or below `t` has a value, with it.
     pub(crate) fn try_scan_at(&self, t: u64, span: &Span) -> Result<Reply, AllocError>
-        ensures answered { IfOk result (λ reply. (seat : ℕ) → Holds self.now (λ k. IsAnswered k k seat (ScanAt t span.now) reply)) }
-        ensures wanting { OnErr result ((seat : ℕ) → Holds self.now (λ k. IsWanting k k seat (ScanAt t span.now))) }
+        ensures answered { (seat : ℕ) → IfOk result (λ reply. Holds self.now (λ k. IsAnswered k k seat (ScanAt t span.now) reply)) }
+        ensures wanting { (seat : ℕ) → OnErr result (Holds self.now (λ k. IsWanting k k seat (ScanAt t span.now))) }
     {
         if let Some(refusal) = self.snapshot_refusal(t) {
             return Ok(Reply::Refused(refusal));
@@ -73,8 +73,8 @@ impl Rules {
     /// Protects `t`, and answers the protection's number.
     pub(crate) fn try_protect(&mut self, t: u64) -> Result<Reply, AllocError>
         requires room { made_in (closing_of self.old) < 18446744073709551615 }
-        ensures answered { IfOk result (λ reply. (seat : ℕ) → Changes self.old self.new (λ k k'. IsAnswered k k' seat (Protect t) reply)) }
-        ensures wanting { OnErr result ((seat : ℕ) → Changes self.old self.new (λ k k'. IsWanting k k' seat (Protect t))) }
+        ensures answered { (seat : ℕ) → IfOk result (λ reply. Changes self.old self.new (λ k k'. IsAnswered k k' seat (Protect t) reply)) }
+        ensures wanting { (seat : ℕ) → OnErr result (Changes self.old self.new (λ k k'. IsWanting k k' seat (Protect t))) }
     {
         if t > MAX {
             return Ok(Reply::Refused(Refusal::TsRange));

@@ -5,8 +5,7 @@ use Rattle.mvto_rules.proofs.Walking.{IsSeeking, seek_begins, seek_goes_on, stop
 use Rattle.mvto_rules.proofs.reading.first_blocker.Goals as goal
 
 pub loop-chain-init : goal.loop-chain-init
-loop-chain-init c = let found = c.in_span-chain-items.ensures in
-    subst (IsSeeking c.args.store.now c.args.ts c.args.span.now) (sym c.into_iter-chain-iterator.ensures.into_iter_gives) (seek_begins c.args.store.now c.args.ts c.args.span.now c.in_span-chain-items.result found.found found.ordered)
+loop-chain-init c = seek_begins c.args.store.now c.args.ts c.args.span.now c.into_iter-chain-iterator.result (c.into_iter-chain-iterator.ensures.into_iter_gives ∙ c.in_span-chain-items.ensures.found) c.in_span-chain-items.ensures.ordered
 
 pub returns-in-Blocked : goal.returns-in-Blocked
 returns-in-Blocked c =

@@ -7,9 +7,9 @@ use Rattle.mvto_rules.proofs.Walking.{IsSeeking, seek_begins, seek_goes_on, stop
 use Rattle.mvto_rules.proofs.reading.read_rows.Goals as goal
 
 pub loop-key-init : goal.loop-key-init
-loop-key-init c = let found = c.in_span-found.ensures in record {
-  list = subst (λ es. IsListing c.args.store.now c.args.ts c.args.span.now es c.new-rows.result.items) (sym c.into_iter-key-iterator.ensures.into_iter_gives) (list_begins c.args.store.now c.args.ts c.args.span.now c.in_span-found.result c.new-rows.result.items found.found found.ordered (search rules));
-  seek = subst (IsSeeking c.args.store.now c.args.ts c.args.span.now) (sym c.into_iter-key-iterator.ensures.into_iter_gives) (seek_begins c.args.store.now c.args.ts c.args.span.now c.in_span-found.result found.found found.ordered);
+loop-key-init c = let those = c.into_iter-key-iterator.ensures.into_iter_gives ∙ c.in_span-found.ensures.found in record {
+  list = list_begins c.args.store.now c.args.ts c.args.span.now c.into_iter-key-iterator.result c.new-rows.result.items those c.in_span-found.ensures.ordered (search rules);
+  seek = seek_begins c.args.store.now c.args.ts c.args.span.now c.into_iter-key-iterator.result those c.in_span-found.ensures.ordered;
 }
 
 pub returns-in-Blocked-clause-reading : goal.returns-in-Blocked-clause-reading

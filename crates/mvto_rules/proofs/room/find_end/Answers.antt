@@ -5,9 +5,7 @@ use Rattle.mvto_rules.proofs.Walking.{there_at}
 use Rattle.mvto_rules.proofs.room.find_end.Goals as goal
 
 pub loop-key-init : goal.loop-key-init
-loop-key-init c = let found = c.in_span-key-items.ensures in
-    subst (λ es. IsEnding c.args.store.now c.args.ts c.args.span.now c.args.room.rows c.args.room.bytes es c.args.room) (sym c.into_iter-key-iterator.ensures.into_iter_gives)
-    (ending_begins c.args.store.now c.args.ts c.args.span.now c.args.room.rows c.args.room.bytes c.in_span-key-items.result found.found found.ordered)
+loop-key-init c = ending_begins c.args.store.now c.args.ts c.args.span.now c.args.room.rows c.args.room.bytes c.into_iter-key-iterator.result (c.into_iter-key-iterator.ensures.into_iter_gives ∙ c.in_span-key-items.ensures.found) c.in_span-key-items.ensures.ordered
 
 pub returns-then-stops : goal.returns-then-stops
 returns-then-stops c =

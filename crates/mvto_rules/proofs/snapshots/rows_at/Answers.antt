@@ -1,13 +1,11 @@
-use Rattle.std.proofs.Common.{refl, rules, subst, sym, ◌≡◌, []}
+use Rattle.std.proofs.Common.{◌∙◌, refl, rules, subst, ◌≡◌, []}
 use Rattle.mvto_rules.proofs.Common.{deref_pair, option_copied, rest_all}
 use Rattle.mvto_rules.proofs.Listing.{IsListing, list_begins, list_ends, list_goes_on}
 use Rattle.mvto_rules.proofs.Walking.{there_at}
 use Rattle.mvto_rules.proofs.snapshots.rows_at.Goals as goal
 
 pub loop-key-init : goal.loop-key-init
-loop-key-init c = let found = c.in_span-found.ensures in
-    subst (λ es. IsListing c.args.store.now c.args.t c.args.span.now es c.new-rows.result.items) (sym c.into_iter-key-iterator.ensures.into_iter_gives)
-    (list_begins c.args.store.now c.args.t c.args.span.now c.in_span-found.result c.new-rows.result.items found.found found.ordered (search rules))
+loop-key-init c = list_begins c.args.store.now c.args.t c.args.span.now c.into_iter-key-iterator.result c.new-rows.result.items (c.into_iter-key-iterator.ensures.into_iter_gives ∙ c.in_span-found.ensures.found) c.in_span-found.ensures.ordered (search rules)
 
 pub loop-key-preserved : goal.loop-key-preserved
 loop-key-preserved c =

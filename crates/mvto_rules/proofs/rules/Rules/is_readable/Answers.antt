@@ -7,4 +7,4 @@ not_not true = refl
 not_not false = refl
 
 pub returns : goal.returns
-returns c = λ k. sym (not_not c.is_none.result) ∙ ap not (sym c.is_none.ensures) ∙ ap (λ o. not (is_some o)) (c.snapshot_refusal.ensures k)
+returns c = λ k. sym (not_not c.is_none.result) ∙ ap not (sym c.is_none.ensures) ∙ ap (λ o. not (is_some o)) c.snapshot_refusal.ensures

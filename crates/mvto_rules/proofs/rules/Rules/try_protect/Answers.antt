@@ -11,7 +11,7 @@ pub returns-in-Some-clause-answered : goal.returns-in-Some-clause-answered
 returns-in-Some-clause-answered c = λ seat k. protect_refused (holding k c.args.self.now) seat c.args.t c.in-Some.refusal (omega arith) (c.in-Some.ensures k)
 
 pub returns-in_err-id-clause-wanting : goal.returns-in_err-id-clause-wanting
-returns-in_err-id-clause-wanting c = any_err c.from_residual.result (λ seat k.
+returns-in_err-id-clause-wanting c = λ seat. any_err c.from_residual.result (λ k.
     let same = c.in_err-id.ensures.err in
     protect_wanting (holding k c.args.self.now) seat c.args.t c.protect.new.self (omega arith) (sym (c.horizon_refusal.ensures k) ∙ none_unless c.horizon_refusal.result c.in_default.not-Some) (ap closed_in same) (ap protections_in same) (ap made_in same))
 
