@@ -1,9 +1,9 @@
 -- The values of a span at a timestamp, gathered key by key.
-use Rattle.catch_up.proofs.Common.{After, Entry, IsIn, IsNewestOf, IsNoneUpTo, IsRowIn, RisingKeys, RisingRows, Row, Span, Stored, Version, both_ways, by_test, chain_among, chain_nowhere, chain_of, common_steps, has, has_in, has_versions, in_span, keys_of, length-append, newest_only, option_copied, rises_append, rises_filtered, version_in}
+use Rattle.catch_up.proofs.Common.{After, Entry, IsIn, IsNewestOf, IsNoneUpTo, IsRowIn, RisingKeys, RisingRows, Row, Span, Stored, Version, both_ways, by_test, chain_among, chain_in, chain_nowhere, chain_of, common_steps, has, has_in, has_versions, in_span, keys_of, length-append, newest_only, option_copied, rises_append, rises_filtered, version_in}
 use Rattle.std.proofs.Common.{append_assoc, Bool, Bor, List, None, Option, Some, [], ap, arith, false, length, refl, subst, sym, true, ◌&&◌, ℕ, ◌<◌, ◌≤◌, ◌≡◌, ◌++◌, ◌∷◌, ◌∙◌}
 use Rattle.std.specs.Prelude.{MatchOption, IfSome, filter, is_some}
 use Rattle.spans.specs.Newest.{newest}
-use Rattle.catch_up.specs.Firsts.{AreFirstsIn, IsFirstIn, is_past, one_at, one_in, value_in}
+use Rattle.catch_up.specs.Firsts.{AreFirstsIn, IsFirstIn, is_past, one_in, value_in}
 
 -- what the store has of a key
 abbrev pub found_at : Stored → ℕ → List ℕ → After
@@ -42,11 +42,8 @@ firsts_has s span t [] x v i inside found = absurd i
 firsts_has s span t (y ∷ ys) x v i inside found = grind (arith, common_steps, firsts_has s span t ys x v)
 
 one_rises : (span : Span) (t : ℕ) (x : List ℕ) (a : After) → RisingRows (one_in span t x a)
-one_rises span t x a = by_test (in_span span x) (λ inside. rw inside (at_rises a)) (λ outside. rw outside tt)
-  where
-    at_rises : (b : After) → RisingRows (one_at t x b)
-    at_rises None = tt
-    at_rises (Some v) = (λ q i. absurd i, tt)
+one_rises span t x None = grind (arith, common_steps)
+one_rises span t x (Some v) = grind (arith, common_steps)
 
 firsts_rise : (s : Stored) (span : Span) (t : ℕ) (xs : List (List ℕ)) → RisingKeys xs → RisingRows (firsts_at s span t xs)
 firsts_rise s span t [] rising = tt
@@ -64,6 +61,12 @@ passed_in p x (e ∷ es) i = grind (arith, common_steps, passed_in p x es)
 -- a key without versions has no value
 nothing_at : (s : Stored) (t : ℕ) (x : List ℕ) → chain_of s x ≡ [] → found_at s t x ≡ None
 nothing_at s t x none = ap (λ v. v.after) (newest_only (version_in s x) t 0 None (grind (arith, common_steps)))
+
+-- a key of the span that has a version is among the entries
+pub key_found : (span : Span) (es found : List Entry) (x : List ℕ) → found ≡ filter (λ (e : Entry). in_span span e.0 && has_versions e.1) es → in_span span x ≡ true → (chain_in es x ≡ [] → ⊥) → IsIn x (keys_of found)
+key_found span es found x those inside some = by_test (has x (keys_of found))
+    (λ on. (has_in x (keys_of found)).1 on)
+    (λ off. absurd (some (chain_nowhere span es found x those inside (λ j. both_ways _ off ((has_in x (keys_of found)).0 j)))))
 
 -- what the entries of the narrowed span give is what is asked for
 pub are_firsts : (s : Stored) (span rest : Span) (key : Option (List ℕ)) (t : ℕ) (found : List Entry) → ((x : List ℕ) → in_span span x ≡ true → in_span rest x ≡ is_past key x) → found ≡ filter (λ (e : Entry). in_span rest e.0 && has_versions e.1) s.entries → RisingKeys (keys_of s.entries)
@@ -87,12 +90,7 @@ are_firsts s span rest key t found narrow those rising = record {
     has_it r (Some v) is h =
         let at_it : found_at s t r.key ≡ Some v = h.found ∙ is in
         let same : row_at t r.key v ≡ r = ap (λ n. record { ts = n; key = r.key; after = Some v }) (sym h.at) ∙ ap (λ a. record { ts = r.ts; key = r.key; after = a }) (sym is) in
-        let i : IsIn r.key (keys_of found) = by_test (has r.key (keys_of found))
-        (λ on. (has_in r.key (keys_of found)).1 on)
-        (λ off.
-        let none : chain_of s r.key ≡ [] = chain_nowhere rest s.entries found r.key those (narrow r.key h.inside ∙ h.later) (λ j. both_ways _ off ((has_in r.key (keys_of found)).0 j)) in
-        let no' : None ≡ Some v = sym (nothing_at s t r.key none) ∙ at_it in
-        cc) in
+        let i = key_found rest s.entries found r.key those (narrow r.key h.inside ∙ h.later) (λ none. let no' : None ≡ Some v = sym (nothing_at s t r.key none) ∙ at_it in cc) in
         subst (λ q. IsRowIn q (firsts_at s span t (keys_of found))) same (firsts_has s span t (keys_of found) r.key v i h.inside at_it)
 
 -- ---- the walk
@@ -130,11 +128,8 @@ chain_has s t m x vs None is same none named = sym (ap (λ v. v.after) (newest_o
 chain_has s t m x vs (Some b) is same new named = sym (ap (λ v. v.after) (newest_only (version_in s x) t b.now.ts b.now.after (grind (arith, common_steps))))
 
 one_length : (span : Span) (t : ℕ) (x : List ℕ) (a : After) → length (one_in span t x a) ≤ 1
-one_length span t x a = by_test (in_span span x) (λ inside. rw inside (at_length a)) (λ outside. rw outside (omega arith))
-  where
-    at_length : (b : After) → length (one_at t x b) ≤ 1
-    at_length None = omega arith
-    at_length (Some v) = omega arith
+one_length span t x None = grind (arith, common_steps)
+one_length span t x (Some v) = grind (arith, common_steps)
 
 pub snap_goes_on : (s : Stored) (span : Span) (key : Option (List ℕ)) (t m n : ℕ) (x : List ℕ) (vs : List Version) (rest : List Entry) (rows rows' : List Row) (o : Option (Bor Version)) → IsSnapping s span key t n ((x, vs) ∷ rest) rows → length rows < n → m ≡ t
     → MatchOption o (IsNoneUpTo vs m) (λ v. IsNewestOf vs m v.now) → IfSome (option_copied o) (λ v. 1 ≤ v.ts) → rows' ≡ rows ++ one_in span t x (value_in (option_copied o)) → IsSnapping s span key t n rest rows'

@@ -2,56 +2,37 @@
 use Rattle.catch_up.proofs.Common.{After, Entry, IsRowIn, RisingRows, Row, Span, Stored, Version, after_of, and_from, and_parts, by_test, chain_in, common_steps, found_in, in_span, is_after_place, is_committed, is_committed_in, is_eq-slice_cmp, le-leb, leb-true, same_key, version_in, version_of}
 use Rattle.std.proofs.Common.{arith}
 use Rattle.std.proofs.Common.{rules}
-use Rattle.std.proofs.Common.{Bool, List, None, Option, Some, [], ap, false, inl, inr, refl, subst, sym, true, ℕ, ◌&&◌, ◌⊎◌, ◌≡◌, ◌++◌, ◌∷◌, ◌∙◌}
+use Rattle.std.proofs.Common.{Bool, List, None, Option, Some, [], ap, inl, inr, refl, subst, sym, true, ℕ, ◌&&◌, ◌≡◌, ◌∷◌, ◌∙◌}
 use Rattle.std.specs.Prelude.{if◌then◌else◌, nat_le}
+use Rattle.spans.proofs.Members.{Has}
 use Rattle.catch_up.specs.Left.{AreLeftIn}
 use Rattle.catch_up.proofs.Order.{put_in, put_only, put_rises, put_row, put_stays}
 
 -- a key and a timestamp
-abbrev pub Name : Type 0
+abbrev Name : Type 0
 Name = List ℕ × ℕ
 
-abbrev pub IsNamed : Name → List Name → Type 0
-IsNamed n [] = ⊥
-IsNamed n (m ∷ ns) = (m ≡ n) ⊎ IsNamed n ns
-
-abbrev pub names_in : List ℕ → List Version → List Name
-names_in x [] = []
-names_in x (v ∷ vs) = (x, v.ts) ∷ names_in x vs
+-- those of the versions of x, before others
+abbrev names_in : List ℕ → List Version → List Name → List Name
+names_in x [] ns = ns
+names_in x (v ∷ vs) ns = (x, v.ts) ∷ names_in x vs ns
 
 -- the versions of a store
-abbrev pub names_among : List Entry → List Name
+abbrev names_among : List Entry → List Name
 names_among [] = []
-names_among (e ∷ es) = names_in e.0 e.1 ++ names_among es
+names_among (e ∷ es) = names_in e.0 e.1 (names_among es)
 
-abbrev pub names_of : Stored → List Name
-names_of s = names_among s.entries
+named_behind : (n : Name) (x : List ℕ) (vs : List Version) (ns : List Name) → Has n ns → Has n (names_in x vs ns)
+named_behind n x [] ns i = i
+named_behind n x (v ∷ vs) ns i = inr (named_behind n x vs ns i)
 
-named_left : (n : Name) (ms ns : List Name) → IsNamed n ms → IsNamed n (ms ++ ns)
-named_left n [] ns i = absurd i
-named_left n (m ∷ ms) ns i = elim i [ inl here ↦ inl here | inr there ↦ inr (named_left n ms ns there) ]
+in_chain : (x : List ℕ) (t : ℕ) (vs : List Version) (ns : List Name) → is_committed (version_of vs t) ≡ true → Has (x, t) (names_in x vs ns)
+in_chain x t [] ns is = cc
+in_chain x t (v ∷ vs) ns is = grind (arith, common_steps, in_chain x t vs ns)
 
-named_right : (n : Name) (ms ns : List Name) → IsNamed n ns → IsNamed n (ms ++ ns)
-named_right n [] ns i = i
-named_right n (m ∷ ms) ns i = inr (named_right n ms ns i)
-
-in_chain : (x : List ℕ) (t : ℕ) (v : Version) (vs : List Version) → version_of vs t ≡ Some v → IsNamed (x, t) (names_in x vs)
-in_chain x t v [] is = cc
-in_chain x t v (w ∷ vs) is = grind (arith, common_steps, in_chain x t v vs)
-
-found_among : (es : List Entry) (x : List ℕ) (t : ℕ) (v : Version) → version_of (chain_in es x) t ≡ Some v → IsNamed (x, t) (names_among es)
-found_among [] x t v is = cc
-found_among (e ∷ es) x t v is = search (by_test, same_key, is_eq-slice_cmp, named_left, in_chain, named_right, found_among es x t v, rules, arith)
-
-pub found_named : (s : Stored) (x : List ℕ) (t : ℕ) (v : Version) → found_in s x t ≡ Some v → IsNamed (x, t) (names_of s)
-found_named s x t v is = found_among s.entries x t v is
-
-pub committed_named : (s : Stored) (x : List ℕ) (t : ℕ) → is_committed_in s x t ≡ true → IsNamed (x, t) (names_of s)
-committed_named s x t done = by (found_in s x t) refl
-  where
-    by : (o : Option Version) → found_in s x t ≡ o → IsNamed (x, t) (names_of s)
-    by None is = let no' : false ≡ true = sym (ap is_committed is) ∙ done in cc
-    by (Some v) is = found_named s x t v is
+committed_named : (es : List Entry) (x : List ℕ) (t : ℕ) → is_committed (version_of (chain_in es x) t) ≡ true → Has (x, t) (names_among es)
+committed_named [] x t is = cc
+committed_named (e ∷ es) x t is = search (by_test, same_key, is_eq-slice_cmp, in_chain, named_behind, committed_named es x t, rules, arith)
 
 -- ---- gathering
 
@@ -85,7 +66,7 @@ module _ (s : Stored) (span : Span) (ts : ℕ) (key : Option (List ℕ)) (throug
       ])
       (λ isnt. let j : IsRowIn r (gather ns) = rw isnt at i in gather_only ns r j)
 
-  gather_has : (ns : List Name) (n : Name) → IsNamed n ns → passes n ≡ true → IsRowIn (row_at n) (gather ns)
+  gather_has : (ns : List Name) (n : Name) → Has n ns → passes n ≡ true → IsRowIn (row_at n) (gather ns)
   gather_has [] n i is = absurd i
   gather_has (m ∷ ns) n i is = elim i [
     | inl here ↦ (let is' : passes m ≡ true = ap passes here ∙ is in
@@ -102,11 +83,11 @@ module _ (s : Stored) (span : Span) (ts : ℕ) (key : Option (List ℕ)) (throug
   -- the rows that are left
   pub are_left : (rows : List Row) × AreLeftIn s span ts key through rows
   are_left = (
-    gather (names_of s),
+    gather (names_among s.entries),
     record {
-      rising = gather_rises (names_of s);
+      rising = gather_rises (names_among s.entries);
       each = λ r. (
-        λ i. let g = gather_only (names_of s) r i in
+        λ i. let g = gather_only (names_among s.entries) r i in
             let a = and_parts _ _ g.1 in let b = and_parts _ _ a.1 in let d = and_parts _ _ b.1 in record {
               there = value_is (found_in s r.key r.ts) a.0 ∙ ap (λ (q : Row). Some q.after) (sym g.0);
               done = a.0;
@@ -117,7 +98,7 @@ module _ (s : Stored) (span : Span) (ts : ℕ) (key : Option (List ℕ)) (throug
         λ h. let n : Name = (r.key, r.ts) in
             let is : passes n ≡ true = and_from _ _ h.done (and_from _ _ h.inside (and_from _ _ h.later (le-leb r.ts through h.low))) in
             let same : row_at n ≡ r = ap (λ a. record { ts = r.ts; key = r.key; after = value_or a }) h.there in
-            subst (λ q. IsRowIn q (gather (names_of s))) same (gather_has (names_of s) n (committed_named s r.key r.ts h.done) is),
+            subst (λ q. IsRowIn q (gather (names_among s.entries))) same (gather_has (names_among s.entries) n (committed_named s.entries r.key r.ts h.done) is),
       );
     },
   )

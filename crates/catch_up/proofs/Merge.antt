@@ -1,11 +1,11 @@
 -- The heads of a span's keys: one is added, and the first is taken.
-use Rattle.catch_up.proofs.Common.{Entry, IsIn, IsLeft, RisingKeys, Row, Span, Stored, Version, before_itself, before_trans, both_ways, by_test, chain_nowhere, chain_of, common_steps, false_from_ne_true, has, has_in, has_versions, in_span, is_before, is_committed, is_eq-slice_cmp, keys_of, lt-ltb, ltb-true, same_key, version_of}
-use Rattle.std.proofs.Common.{Bool, List, None, Option, Some, [], add-one, ap, arith, false, inl, inr, length, length-append, refl, subst, suc, sym, true, zero, ◌&&◌, ℕ, ◌+◌, ◌-◌, ◌<◌, ◌≤◌, ◌⊎◌, ◌≡◌, ◌++◌, ◌∷◌, ◌∙◌}
-use Rattle.std.specs.Prelude.{IfSome, is_some, nat_lt, ◌&&◌, ◌==◌, ◌||◌}
+use Rattle.catch_up.proofs.Common.{Entry, IsIn, IsLeft, RisingKeys, Row, Span, Stored, Version, before_itself, before_trans, chain_of, common_steps, false_from_ne_true, has_versions, in_span, is_before, is_committed, is_eq-slice_cmp, keys_of, lt-ltb, ltb-true, same_key, version_of}
+use Rattle.std.proofs.Common.{List, None, Option, Some, [], add-one, ap, arith, false, inl, inr, length, length-append, refl, subst, suc, sym, true, zero, ◌&&◌, ℕ, ◌+◌, ◌-◌, ◌<◌, ◌≤◌, ◌⊎◌, ◌≡◌, ◌++◌, ◌∷◌, ◌∙◌}
+use Rattle.std.specs.Prelude.{IfSome, is_some, nat_lt, ◌&&◌}
 use Rattle.std.specs.BTreeMap.{BTreeMap, IsOrdered, insert_entry}
 use Rattle.std.specs.List.{AllByRecursion, filter}
 use Rattle.std.specs.List.Sorted.{IsStrictlySortedBy}
-use Rattle.std.specs.Ordering.{is_eq, nat_cmp, ordering_then}
+use Rattle.std.specs.Ordering.{is_eq, match_ordering, nat_cmp, ordering_then}
 use Rattle.std.specs.declared.cmp.Ordering.{Ordering}
 use Rattle.std.specs.declared.cmp.Ordering.TheVariants.{Less, Equal, Greater}
 use Rattle.std.proofs.lemmas.Bool.Decides.{nat_tests}
@@ -14,54 +14,41 @@ use Rattle.timestamps.specs.Bytes.{key_cmp}
 use Rattle.spans.specs.KeyOrder.{key_lt}
 use Rattle.catch_up.specs.Heads.{AllHeads, AreBefore, AreHeads, Found, HasHead, IsDue, IsFirstDue, IsHead, IsNoneDue, Spot, spot_cmp}
 use Rattle.catch_up.specs.Left.{AreNextIn, IsLeftIn}
-use Rattle.catch_up.proofs.Firsts.{AreChained, chained, passed_in}
+use Rattle.catch_up.proofs.Firsts.{key_found, AreChained, chained, passed_in}
 use Rattle.catch_up.proofs.Walk.{IsNext, IsWalked, row_of, walk_begins, walk_ends, walk_full, walk_takes}
 
 -- ---- which timestamps of a key come after a place
 
-below_above : (ts n i : ℕ) (lower : Bool) → lower ≡ true → 1 ≤ n → n ≡ ts → nat_lt (n - 1) i ≡ (nat_lt ts i || ((ts == i) && lower))
-below_above ts n i lower is some same = grind (arith, nat_tests)
-
 pub passed_beside : (ts n : ℕ) (place key : List ℕ) → key_lt place key ≡ true → 1 ≤ n → n ≡ ts → (i : ℕ) → nat_lt (n - 1) i ≡ is_before ts place i key
-passed_beside ts n place key lower some same i = below_above ts n i (key_lt place key) lower some same
-
-same_above : (ts n i : ℕ) (lower : Bool) → lower ≡ false → n ≡ ts → nat_lt n i ≡ (nat_lt ts i || ((ts == i) && lower))
-same_above ts n i lower is same = grind (arith, nat_tests)
+passed_beside ts n place key lower some same i = grind (arith, nat_tests)
 
 pub passed_at : (ts n : ℕ) (place key : List ℕ) → key_lt place key ≡ false → n ≡ ts → (i : ℕ) → nat_lt n i ≡ is_before ts place i key
-passed_at ts n place key lower same i = same_above ts n i (key_lt place key) lower same
+passed_at ts n place key lower same i = grind (arith, nat_tests)
 
 -- ---- a head is added
 
 equal_parts : (a b : ℕ) (o : Ordering) → ordering_then (nat_cmp a b) o ≡ Equal → (a ≡ b) × (o ≡ Equal)
 equal_parts a b o e = grind (arith, nat_tests)
 
-lower_first : (a b : ℕ) (x y : List ℕ) (o : Ordering) → key_cmp x y ≡ o → ordering_then (nat_cmp a b) o ≡ Less → is_before a x b y ≡ true
-lower_first a b x y o is e = grind (arith, nat_tests)
-
 spot_before : (p q : Spot) → spot_cmp p q ≡ Less → is_before p.0 p.1.now q.0 q.1.now ≡ true
-spot_before p q less = lower_first p.0 q.0 p.1.now q.1.now (key_cmp p.1.now q.1.now) refl less
+spot_before p q less = grind (arith, nat_tests)
 
 spot_key : (p q : Spot) → spot_cmp p q ≡ Equal → p.1.now ≡ q.1.now
 spot_key p q e = same_key p.1.now q.1.now (sym (is_eq-slice_cmp p.1.now q.1.now) ∙ ap is_eq (equal_parts p.0 q.0 (key_cmp p.1.now q.1.now) e).1)
 
+by_order : {A : Type 0} (P : A → Type 0) (o : Ordering) (a b c : A) → (o ≡ Less → P a) → (o ≡ Equal → P b) → (o ≡ Greater → P c) → P (match_ordering o a b c)
+by_order P Less a b c less equal greater = less refl
+by_order P Equal a b c less equal greater = equal refl
+by_order P Greater a b c less equal greater = greater refl
+
 put_here : (k : Spot) (w : Found) (es : List (Spot × Found)) → HasHead k.1.now (insert_entry spot_cmp es k w)
 put_here k w [] = inl refl
-put_here k w (e ∷ es) = by (put_here k w es) (spot_cmp k e.0) refl
-  where
-    by : HasHead k.1.now (insert_entry spot_cmp es k w) → (o : Ordering) → spot_cmp k e.0 ≡ o → HasHead k.1.now (insert_entry spot_cmp (e ∷ es) k w)
-    by more Less is = rw is (inl refl)
-    by more Equal is = rw is (inl (sym (spot_key k e.0 is)))
-    by more Greater is = rw is (inr more)
+put_here k w (e ∷ es) = by_order (HasHead k.1.now) (spot_cmp k e.0) ((k, w) ∷ e ∷ es) ((e.0, w) ∷ es) (e ∷ insert_entry spot_cmp es k w) (λ is. inl refl) (λ is. inl (sym (spot_key k e.0 is))) (λ is. inr (put_here k w es))
 
 put_stays : (k : Spot) (w : Found) (es : List (Spot × Found)) (y : List ℕ) → HasHead y es → HasHead y (insert_entry spot_cmp es k w)
 put_stays k w [] y i = absurd i
-put_stays k w (e ∷ es) y i = by i (put_stays k w es y) (spot_cmp k e.0) refl
-  where
-    by : HasHead y (e ∷ es) → (HasHead y es → HasHead y (insert_entry spot_cmp es k w)) → (o : Ordering) → spot_cmp k e.0 ≡ o → HasHead y (insert_entry spot_cmp (e ∷ es) k w)
-    by i more Less is = rw is (inr i)
-    by i more Equal is = rw is i
-    by i more Greater is = rw is (elim i [ inl here ↦ inl here | inr there ↦ inr (more there) ])
+put_stays k w (e ∷ es) y i = by_order (HasHead y) (spot_cmp k e.0) ((k, w) ∷ e ∷ es) ((e.0, w) ∷ es) (e ∷ insert_entry spot_cmp es k w) (λ is. inr i) (λ is. i)
+    (λ is. elim i [ inl here ↦ inl here | inr there ↦ inr (put_stays k w es y there) ])
 
 before_fewer : (n : ℕ) (es : List (Spot × Found)) (i : ℕ) (y : List ℕ) → AreBefore (suc n) es i y → AreBefore n es i y
 before_fewer zero es i y before = tt
@@ -72,12 +59,8 @@ before_fewer (suc n) (e ∷ es) i y before = (before.0, before_fewer n es i y be
 put_before : (n : ℕ) (k : Spot) (w : Found) (es : List (Spot × Found)) (i : ℕ) (y : List ℕ) → AreBefore n es i y → AreBefore n (insert_entry spot_cmp es k w) i y
 put_before zero k w es i y before = tt
 put_before (suc n) k w [] i y before = absurd before
-put_before (suc n) k w (e ∷ es) i y before = by (put_before n k w es i y before.1) (spot_cmp k e.0) refl
-  where
-    by : AreBefore n (insert_entry spot_cmp es k w) i y → (o : Ordering) → spot_cmp k e.0 ≡ o → AreBefore (suc n) (insert_entry spot_cmp (e ∷ es) k w) i y
-    by more Less is = rw is (before_trans k.0 e.0.0 i k.1.now e.0.1.now y (spot_before k e.0 is) before.0, before_fewer n (e ∷ es) i y before)
-    by more Equal is = rw is before
-    by more Greater is = rw is (before.0, more)
+put_before (suc n) k w (e ∷ es) i y before = by_order (λ ds. AreBefore (suc n) ds i y) (spot_cmp k e.0) ((k, w) ∷ e ∷ es) ((e.0, w) ∷ es) (e ∷ insert_entry spot_cmp es k w)
+    (λ is. (before_trans k.0 e.0.0 i k.1.now e.0.1.now y (spot_before k e.0 is) before.0, before_fewer n (e ∷ es) i y before)) (λ is. before) (λ is. (before.0, put_before n k w es i y before.1))
 
 module _ (s : Stored) (span : Span) (t : ℕ) (x : List ℕ) (through : ℕ) where
   abbrev IsHeadOf : Spot → Found → Type 0
@@ -89,12 +72,7 @@ module _ (s : Stored) (span : Span) (t : ℕ) (x : List ℕ) (through : ℕ) whe
 
   put_each : (k : Spot) (w : Found) (es : List (Spot × Found)) → IsHeadOf k w → AllHeads s span t x through es → AllHeads s span t x through (insert_entry spot_cmp es k w)
   put_each k w [] h all = (h, tt)
-  put_each k w (e ∷ es) h all = by (put_each k w es h all.1) (spot_cmp k e.0) refl
-    where
-      by : AllHeads s span t x through (insert_entry spot_cmp es k w) → (o : Ordering) → spot_cmp k e.0 ≡ o → AllHeads s span t x through (insert_entry spot_cmp (e ∷ es) k w)
-      by more Less is = rw is (h, all)
-      by more Equal is = rw is (same_head k e.0 w is h, all.1)
-      by more Greater is = rw is (all.0, more)
+  put_each k w (e ∷ es) h all = by_order (AllHeads s span t x through) (spot_cmp k e.0) ((k, w) ∷ e ∷ es) ((e.0, w) ∷ es) (e ∷ insert_entry spot_cmp es k w) (λ is. (h, all)) (λ is. (same_head k e.0 w is h, all.1)) (λ is. (all.0, put_each k w es h all.1))
 
   -- what of y comes after the place is above that
   abbrev pub IsStart : List ℕ → ℕ → Type 0
@@ -171,12 +149,7 @@ module _ (s : Stored) (span : Span) (t : ℕ) (x : List ℕ) (through : ℕ) whe
     are = record {
       rising = ordered;
       each = subst (AllHeads s span t x through) (sym empty) tt;
-      all = λ y i inside left. inl (by_test (has y (keys_of found))
-          (λ on. (has_in y (keys_of found)).1 on)
-          (λ off.
-          let none : chain_of s y ≡ [] = chain_nowhere span s.entries found y those inside (λ j. both_ways _ off ((has_in y (keys_of found)).0 j)) in
-          let no' : false ≡ true = sym (ap (λ vs. is_committed (version_of vs i)) none) ∙ left.committed in
-          cc));
+      all = λ y i inside left. inl (key_found span s.entries found y those inside (λ none. let no' : false ≡ true = sym (ap (λ vs. is_committed (version_of vs i)) none) ∙ left.committed in cc));
     };
   }
 
@@ -200,10 +173,7 @@ left_back : (s : Stored) (t n i : ℕ) (x y z : List ℕ) (through : ℕ) → is
 left_back s t n i x y z through later left = record { committed = left.committed; later = before_trans t n i x y z later left.later; low = left.low }
 
 before_later : (t i j : ℕ) (x y : List ℕ) → is_before t x i y ≡ true → i ≤ j → is_before t x j y ≡ true
-before_later t i j x y before low = later_at t i j (key_lt x y) before low
-  where
-    later_at : (t i j : ℕ) (lower : Bool) → (nat_lt t i || ((t == i) && lower)) ≡ true → i ≤ j → (nat_lt t j || ((t == j) && lower)) ≡ true
-    later_at t i j lower before low = grind (arith, nat_tests)
+before_later t i j x y before low = grind (arith, nat_tests)
 
 -- of heads that are all behind a spot, none is of a row before it
 none_before : (s : Stored) (span : Span) (t : ℕ) (x : List ℕ) (through : ℕ) (k : Spot) (es : List (Spot × Found)) → AllByRecursion (λ q. spot_cmp k q ≡ Less) (keys_of es) → AllHeads s span t x through es → (q : Row) → HasHead q.key es → IsLeft s t (Some x) through q.key q.ts

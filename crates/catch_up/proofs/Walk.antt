@@ -4,7 +4,6 @@ use Rattle.std.proofs.Common.{append_assoc, Bor, List, None, Option, Some, [], a
 use Rattle.std.specs.Prelude.{is_some}
 use Rattle.std.specs.Map.Iter.{TakesFirst, deref_pair}
 use Rattle.std.proofs.Math.Seq.{take-append-add}
-use Rattle.std.proofs.lemmas.List.{take_all as first_all}
 use Rattle.catch_up.specs.Left.{AreLeftIn, AreNextIn, IsAdded, IsLeftIn, IsPast, IsRowAt, IsTold, IsToldOf}
 use Rattle.catch_up.proofs.Gathered.{are_left}
 
@@ -112,9 +111,6 @@ walk_full s span ts key through n t x missing rows walked none = grind (arith, c
 pub no_rows : (rows : List Row) → ((r : Row) → IsRowIn r rows → ⊥) → rows ≡ []
 no_rows [] none = refl
 no_rows (r ∷ rows) none = absurd (none r (inl refl))
-
-take_all : (n : ℕ) (xs : List Row) → length xs ≤ n → xs ≡ take n xs
-take_all n xs low = sym (first_all n xs low)
 
 -- no row is left
 pub walk_ends : (s : Stored) (span : Span) (ts : ℕ) (key : Option (List ℕ)) (through n t : ℕ) (x : Option (List ℕ)) (missing : ℕ) (rows : List Row) → IsWalked s span ts key through n t x missing rows → ((r : Row) → IsLeftIn s span t x through r → ⊥) → AreNextIn s span ts key through n rows

@@ -1,11 +1,13 @@
 -- Where a scan of the kept keys ends, one of all written keys ends.
-use Rattle.std.proofs.Common.{Bool, List, None, Option, Some, [], ap, arith, cond, false, inl, inr, refl, sym, true, zero, suc, ℕ, ◌&&◌, ◌-◌, ◌<◌, ◌==◌, ◌∙◌, ◌∷◌, ◌≡◌, ◌≤◌, ◌⊎◌}
-use Rattle.std.specs.Prelude.{filter, is_some, nat_lt, not, ◌||◌}
-use Rattle.engine.proofs.Common.{After, AllAllowed, AreKeysOf, Effect, Event, IsKeptOf, Kept, Span, StandsFor, blocked_in, by_test, effects_of, horizon_of, is_blocked, is_seen_blocked, keys_rise, legal_allowed, ltb-false, newest_is, seen, visible, visible_in, written_keys}
+use Rattle.std.proofs.Common.{Bool, List, None, Option, Some, [], ap, arith, cond, false, inl, inr, refl, sym, true, ℕ, ◌-◌, ◌<◌, ◌∙◌, ◌∷◌, ◌≡◌, ◌≤◌, ◌⊎◌}
+use Rattle.std.specs.Prelude.{filter, is_some, nat_lt, ◌||◌}
+use Rattle.std.proofs.lemmas.Grind.{common_steps}
+use Rattle.std.proofs.lemmas.Bool.{or_cases}
+use Rattle.engine.proofs.Common.{nat_tests, After, AllAllowed, AreKeysOf, Effect, Event, IsKeptOf, Kept, Span, StandsFor, blocked_in, by_test, effects_of, horizon_of, is_blocked, is_seen_blocked, keys_rise, legal_allowed, ltb-false, newest_is, seen, visible, visible_in, written_keys}
 use Rattle.spans.specs.Keys.{in_span}
 use Rattle.spans.proofs.Keyed.{IsIn, filter_in, filter_rises, filtered_same}
 use Rattle.kept.proofs.Reading.{blocked_is, seen_value}
-use Rattle.mvto_rules.specs.Room.{IsEnd, end_seen, end_within, is_over, row_weight}
+use Rattle.mvto_rules.specs.Room.{IsEnd, end_seen, end_within}
 use Rattle.engine.specs.Room.{scan_end}
 
 -- a read stops at the key, or finds a value there
@@ -15,12 +17,7 @@ matters stops value x = stops x || is_some (value x)
 -- keys at which a read goes on and finds no value don't matter
 matter : (stops : List ℕ → Bool) (value : List ℕ → After) (rows bytes : ℕ) (xs : List (List ℕ)) → end_within stops value rows bytes xs ≡ end_within stops value rows bytes (filter (matters stops value) xs)
 matter stops value rows bytes [] = refl
-matter stops value rows bytes (x ∷ xs) = step (stops x) (value x) refl refl (λ r b. matter stops value r b xs)
-  where
-    step : (b : Bool) (a : After) → stops x ≡ b → value x ≡ a → ((r b : ℕ) → end_within stops value r b xs ≡ end_within stops value r b (filter (matters stops value) xs)) → end_within stops value rows bytes (x ∷ xs) ≡ end_within stops value rows bytes (filter (matters stops value) (x ∷ xs))
-    step true a on is rest = rw on (rw on refl)
-    step false None off is rest = rw (off, is) (rest rows bytes)
-    step false (Some v) off is rest = rw (off, is) (rw (off, is) (ap (cond (is_over rows bytes x v) (Some x)) (rest (rows - 1) (bytes - row_weight x v))))
+matter stops value rows bytes (x ∷ xs) = let more : (r b : ℕ) → end_within stops value r b xs ≡ end_within stops value r b (filter (matters stops value) xs) = (λ r b. matter stops value r b xs) in grind (arith, common_steps)
 
 -- reads that find the same end alike
 alike : (stops stops' : List ℕ → Bool) (value value' : List ℕ → After) (rows bytes : ℕ) (xs : List (List ℕ)) → ((x : List ℕ) → stops x ≡ stops' x) → ((x : List ℕ) → value x ≡ value' x) → end_within stops value rows bytes xs ≡ end_within stops' value' rows bytes xs
@@ -32,14 +29,6 @@ seen_key k span keys are x t inside found = elim (newest_is (k.version x) t).has
   | inl zeroth ↦ absurd (elim found [ inl some ↦ omega (arith, zeroth.0, some) | inr value ↦ (let no' : false ≡ true = sym (ap is_some zeroth.1) ∙ value in cc) ])
   | inr some ↦ (are.each x).1 (inside, (seen k x t).ts, ap is_some some.1)
 ]
-
-positive : (n : ℕ) (b : Bool) → (not (n == 0) && b) ≡ true → 0 < n
-positive zero b is = cc
-positive (suc n) b is = omega arith
-
-either : (b c : Bool) → (b || c) ≡ true → (b ≡ true) ⊎ (c ≡ true)
-either true c is = inl refl
-either false c is = inr is
 
 some_of : (o : After) → is_some o ≡ true → (v : List ℕ) × (o ≡ Some v)
 some_of None is = cc
@@ -53,8 +42,8 @@ seen_end k p all fits t rows bytes high span keys are =
     ∙ matter blocked value rows bytes keys
     ∙ ap (end_within blocked value rows bytes)
     (filtered_same (matters blocked value) keys (filter (in_span span) (written_keys p)) are.rising (filter_rises (in_span span) (written_keys p) (keys_rise p)) (λ x is. let f = filter_in (in_span span) x (written_keys p) in (
-      λ i. f.1 (((are.each x).0 i).0, written x (either (blocked x) (is_some (value x)) is)),
-      λ i. seen_key k span keys are x t (f.0 i).0 (found x (either (blocked x) (is_some (value x)) is)),
+      λ i. f.1 (((are.each x).0 i).0, written x (or_cases (blocked x) (is_some (value x)) is)),
+      λ i. seen_key k span keys are x t (f.0 i).0 (found x (or_cases (blocked x) (is_some (value x)) is)),
     )))
     ∙ sym (matter blocked value rows bytes (filter (in_span span) (written_keys p)))
   where
@@ -69,7 +58,7 @@ seen_end k p all fits t rows bytes high span keys are =
     written x (inr some) = let v = some_of (value x) some in visible_in p x t v.0 v.1
 
     found : (x : List ℕ) → (blocked x ≡ true) ⊎ (is_some (value x) ≡ true) → (0 < (seen k x t).ts) ⊎ (is_some (seen k x t).after ≡ true)
-    found x (inl on) = inl (positive (seen k x t).ts (not ((seen k x t).ts == t) && not (k.committed x (seen k x t).ts)) (blocked_is k p fits all x t high ∙ on))
+    found x (inl on) = inl (let is : is_seen_blocked k x t ≡ true = blocked_is k p fits all x t high ∙ on in grind (arith, nat_tests, is))
     found x (inr some) = inr (ap is_some (seen_value k p fits all x t high) ∙ some)
 
 -- the end that is found in what is kept is the history's

@@ -1,7 +1,8 @@
 -- How far the layers have come is how far the history has.
-use Rattle.std.proofs.Common.{Bool, List, None, Option, Some, ap, arith, cond, false, inl, inr, map, refl, reverse, sym, true, ℕ, ◌<◌, ◌++◌, ◌∙◌, ◌∷◌, ◌≡◌, ◌≤◌, []}
-use Rattle.std.specs.Prelude.{is_some, min, nat_le, nat_lt, option_map}
-use Rattle.engine.proofs.Common.{AllAllowed, Effect, Event, Feed, IsKeptOf, IsLeastFloor, IsReachedIn, Kept, Protection, by_test, closed_of, closing_of, effects_of, feed_limit, feed_of, first_least, floor_of, is_cancelled, least_floor_is, least_of, legal_allowed, limit, limit_of, live_feeds, ltb-false, ltb-true, map-append, nat_tests, or_min, owner_of, place_floor, place_floor_is, place_of, place_with, protection_limit, protections_of, reverse-append, transaction_with, used_is}
+use Rattle.std.proofs.Common.{List, None, Option, Some, ap, arith, false, inl, inr, map, refl, reverse, sym, true, ℕ, ◌++◌, ◌∙◌, ◌∷◌, ◌≡◌, ◌≤◌, []}
+use Rattle.std.specs.Prelude.{is_some, min, nat_le, option_map}
+use Rattle.std.proofs.lemmas.Grind.{common_steps}
+use Rattle.engine.proofs.Common.{AllAllowed, Effect, Event, IsKeptOf, IsLeastFloor, IsReachedIn, Kept, Protection, by_test, closed_of, closing_of, effects_of, feed_limit, first_least, floor_of, least_floor_is, least_of, legal_allowed, limit, limit_of, live_feeds, map-append, nat_tests, or_min, place_floor, place_floor_is, place_of, protection_limit, protections_of, reverse-append, used_is}
 use Rattle.spans.specs.declared.report.Holder.TheVariants as holders
 use Rattle.spans.specs.declared.report.Limit.{Limit}
 use Rattle.spans.proofs.Horizon.{least_join}
@@ -23,10 +24,7 @@ oldest_is k p all fits (Some o) is = (sym (open_is k p all fits o) ∙ is.0, λ 
 
 -- only above closed a transaction is kept
 kept_above : (k : Kept) (p : List Effect) → IsKeptOf k p → (t : ℕ) → is_some (k.transaction t) ≡ true → nat_le t (closed_of p) ≡ false
-kept_above k p fits t is = by_test (nat_lt (closed_of p) t)
-    (λ above. grind (arith, nat_tests))
-    (λ isnt. absurd (let no : is_some (cond (nat_lt (closed_of p) t) (option_map (transaction_with p t) (owner_of p t)) None) ≡ true = sym (ap is_some (fits.transactions t)) ∙ is in
-    let none : false ≡ true = sym (rw isnt refl) ∙ no in cc))
+kept_above k p fits t is = grind (arith, nat_tests, common_steps, fits.transactions t)
 
 reached_is : (k : Kept) (p : List Effect) → IsKeptOf k p → (n : ℕ) → IsReachedIn k n → IsReached p n
 reached_is k p fits n is = record {
@@ -50,19 +48,12 @@ least_more a n (m ∷ ns) = let e = least_more a n ns in omega (arith, e)
 -- the first of the least stands at the least
 first_at : (l : Limit) (ms : List Limit) → (first_least l ms).at ≡ least_of l.at (map (λ (m : Limit). m.at) ms)
 first_at l [] = refl
-first_at l (m ∷ ms) = first_at (cond (nat_lt m.at l.at) m l) ms ∙ ap (λ n. least_of n (map (λ (k : Limit). k.at) ms)) lower ∙ least_more m.at l.at (map (λ (k : Limit). k.at) ms)
-  where
-    lower : (cond (nat_lt m.at l.at) m l).at ≡ min m.at l.at
-    lower = by_test (nat_lt m.at l.at)
-        (λ is. let low : m.at < l.at = ltb-true m.at l.at is in rw is (omega arith))
-        (λ isnt. let high : l.at ≤ m.at = ltb-false m.at l.at isnt in rw isnt (omega arith))
+first_at l (m ∷ ms) = grind (arith, nat_tests, common_steps, first_at l ms, first_at m ms, least_more m.at l.at (map (λ (k : Limit). k.at) ms))
 
 -- in the other order
 least_turned : {A : Type 0} (n : ℕ) (f : A → ℕ) (xs : List A) → least_of n (map f (reverse xs)) ≡ least_of n (map f xs)
 least_turned n f [] = refl
-least_turned n f (x ∷ xs) =
-    ap (λ l. least_of n (map f l)) (reverse-append (x ∷ []) xs) ∙ ap (least_of n) (map-append f (reverse xs) (x ∷ [])) ∙ least_join n (map f (reverse xs)) (f x ∷ [])
-    ∙ least_more (f x) n (map f (reverse xs)) ∙ ap (min (f x)) (least_turned n f xs)
+least_turned n f (x ∷ xs) = grind (arith, common_steps, least_turned n f xs, least_join n (map f (reverse xs)) (f x ∷ []), reverse-append (x ∷ []) xs, map-append f (reverse xs) (x ∷ []), least_more (f x) n (map f (reverse xs)))
 
 -- the timestamps of limits
 at_each : {A : Type 0} (f : A → Limit) (xs : List A) → map (λ (m : Limit). m.at) (map f xs) ≡ map (λ x. (f x).at) xs
@@ -107,10 +98,4 @@ places_are e h places stands is =
 
 -- the floor of the place of a feed that lives
 pub feed_floor_is : (p : List Effect) → AllAllowed p → (f : ℕ) → option_map place_floor (place_of p f) ≡ feed_floor p f
-feed_floor_is p all f = by_parts (is_cancelled p f) (feed_of p f) refl
-  where
-    by_parts : (b : Bool) (o : Option Feed) → feed_of p f ≡ o
-        → option_map place_floor (cond b None (option_map (place_with p f) o)) ≡ cond b None (option_map (λ (feed : Feed). floor_of p (record { number = f; cursor = feed.cursor })) o)
-    by_parts true o e = refl
-    by_parts false None e = refl
-    by_parts false (Some feed) e = ap Some (place_floor_is p all f feed e)
+feed_floor_is p all f = grind (arith, common_steps, place_floor_is p all f)

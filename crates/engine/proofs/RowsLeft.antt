@@ -1,6 +1,7 @@
 -- The first row that a dump has still to write is that of the store's next committed version.
-use Rattle.std.proofs.Common.{Bool, List, None, Option, Some, [], ap, cond, false, inl, inr, length, not, refl, subst, sym, true, ℕ, ◌&&◌, ◌++◌, ◌<◌, ◌==◌, ◌∙◌, ◌∷◌, ◌≡◌, ◌≤◌}
-use Rattle.engine.proofs.Common.{After, AllAllowed, Begins, Effect, Event, Row, Stored, and_from, and_parts, both_ways, by_test, committed_is, committed_version_of, effects_of, eqb-true, false_from_ne_true, is_committed, is_committed_in, is_dead, kept_committed, left_version_of, legal_allowed, option_to_list, owner_of, version_in, version_name, versions_of, write_of}
+use Rattle.std.proofs.lemmas.Grind.{common_steps}
+use Rattle.std.proofs.Common.{arith, Bool, List, None, Option, Some, [], ap, false, inl, inr, length, refl, subst, sym, true, ℕ, ◌&&◌, ◌++◌, ◌<◌, ◌∙◌, ◌∷◌, ◌≡◌, ◌≤◌}
+use Rattle.engine.proofs.Common.{AllAllowed, Begins, Effect, Event, Row, Stored, and_from, and_parts, committed_is, committed_version_of, effects_of, false_from_ne_true, is_committed_in, kept_committed, left_version_of, legal_allowed, option_to_list, owner_of, version_in, nat_tests, versions_of}
 use Rattle.std.specs.Prelude.{filter, is_some, take, ◌↔◌}
 use Rattle.spans.specs.Streams.{row_lt, stream_of}
 use Rattle.spans.proofs.StreamOrder.{IsRowIn, RisingRows, rows_clash, in_stream, stream_rises}
@@ -18,9 +19,7 @@ use Rattle.engine.proofs.Versions.{left_is}
 
 filter_twice : (q q' : Row → Bool) (rows : List Row) → filter q' (filter q rows) ≡ filter (λ r. q r && q' r) rows
 filter_twice q q' [] = refl
-filter_twice q q' (r ∷ rows) = let more = filter_twice q q' rows in by_test (q r)
-    (λ on. rw on (by_test (q' r) (λ on'. rw on' (ap (λ l. r ∷ l) more)) (λ off'. rw off' more)))
-    (λ off. rw off more)
+filter_twice q q' (r ∷ rows) = grind (arith, common_steps, filter_twice q q' rows)
 
 filter_none : (q : Row → Bool) (rows : List Row) → ((r : Row) → IsRowIn r rows → q r ≡ false) → filter q rows ≡ []
 filter_none q [] none = refl
@@ -30,41 +29,15 @@ filter_none q (r ∷ rows) none = rw (none r (inl refl)) (filter_none q rows (λ
 filter_first : (q : Row → Bool) (rows : List Row) (r : Row) → RisingRows rows → IsRowIn r rows → q r ≡ true
     → ((s : Row) → IsRowIn s rows → q s ≡ true → row_lt s r ≡ false) → first_row (filter q rows) ≡ Some r
 filter_first q [] r rising i on least = absurd i
-filter_first q (s ∷ rows) r rising i on least = by_test (q s)
-    (λ is. rw is (elim i [
-      | inl here ↦ ap Some here
-      | inr there ↦ absurd (both_ways _ (least s (inl refl) is) (rising.0 r there))
-    ]))
-    (λ isnt. rw isnt (elim i [
-      | inl here ↦ absurd (both_ways _ isnt (subst (λ v. q v ≡ true) (sym here) on))
-      | inr there ↦ filter_first q rows r rising.1 there on (λ v j. least v (inr j))
-    ]))
+filter_first q (s ∷ rows) r rising i on least = grind (arith, common_steps, filter_first q rows r rising.1, least s, rising.0 r)
 
 -- ---- one row
 
 -- what began is above 0
 begun_above : (p : List Effect) → AllAllowed p → (t : ℕ) → is_some (owner_of p t) ≡ true → 0 < t
 begun_above [] all t is = cc
-begun_above (Begins k seat ∷ p) all t is = by_test (k == t)
-    (λ same. subst (λ n. 0 < n) (eqb-true k t same) all.0.2)
-    (λ other. begun_above p all.1 t (rw other at is))
+begun_above (Begins k seat ∷ p) all t is = grind (arith, nat_tests, common_steps, begun_above p all.1 t)
 begun_above (_ ∷ p) all t is = begun_above p all.1 t is
-
-joined : {a : After} (b : Bool) (o : Option After) → b ≡ true → o ≡ Some a → cond b o None ≡ Some a
-joined true o on is = is
-joined false o on is = cc
-
-parted : {a : After} (b : Bool) (o : Option After) → cond b o None ≡ Some a → (b ≡ true) × (o ≡ Some a)
-parted true o is = (refl, is)
-parted false o is = cc
-
-joined_live : {a : After} (b : Bool) (o : Option After) → not b ≡ true → o ≡ Some a → cond b None o ≡ Some a
-joined_live true o live is = cc
-joined_live false o live is = is
-
-parted_live : {a : After} (b : Bool) (o : Option After) → cond b None o ≡ Some a → (not b ≡ true) × (o ≡ Some a)
-parted_live true o is = cc
-parted_live false o is = (refl, is)
 
 -- a row is left where it is a version that is committed and not dead
 abbrev IsLeftRow : List Effect → ℕ → Row → Type 0
@@ -72,12 +45,10 @@ IsLeftRow p through r = (left_version_of p r.key r.ts ≡ Some r.after) × (r.ts
 
 row_left : (p : List Effect) → AllAllowed p → (through : ℕ) (r : Row) → (IsRowIn r (stream_of p all_keys 0 through) × (is_left p r ≡ true)) ↔ IsLeftRow p through r
 row_left p all through r = (
-  λ i. let s = (in_stream p all_keys 0 through r).0 i.0 in
-      (joined_live (is_dead p (version_name r.key r.ts)) (committed_version_of p r.key r.ts) i.1 (joined (is_committed p r.ts) (write_of p r.ts r.key) s.done s.wrote), s.low),
-  λ i. let live = parted_live (is_dead p (version_name r.key r.ts)) (committed_version_of p r.key r.ts) i.0 in
+  λ i. let s = (in_stream p all_keys 0 through r).0 i.0 in (grind (arith, common_steps, s.done, s.wrote), s.low),
+  λ i. let live : (is_left p r ≡ true) × (committed_version_of p r.key r.ts ≡ Some r.after) = grind (arith, common_steps) in
       let is = committed_is p r.key r.ts r.after live.1 in
-      let above : 0 < r.ts = begun_above p all r.ts (committed_begun p all r.ts is.0) in
-      ((in_stream p all_keys 0 through r).1 (record { above = above; low = i.1; done = is.0; inside = refl; wrote = is.1 }), live.0),
+      ((in_stream p all_keys 0 through r).1 (record { above = begun_above p all r.ts (committed_begun p all r.ts is.0); low = i.1; done = is.0; inside = refl; wrote = is.1 }), live.0),
 )
 
 -- ---- all of them
@@ -104,9 +75,9 @@ module _ (e : Layers) (h : List Event) (stands : keeping.StandsFor (kept_of e) h
     λ i. let both = and_parts (is_left p r) _ i.1 in
         let left = (row_left p all through r).0 (i.0, both.0) in
         let here : kept_committed (kept_of e) r.key r.ts ≡ Some r.after = left_is (kept_of e) p all stands.fits r.key r.ts ∙ left.0 in
-        let kept = parted (is_committed_in s r.key r.ts) (version_in s r.key r.ts) here in
+        let kept : (is_committed_in s r.key r.ts ≡ true) × (version_in s r.key r.ts ≡ Some r.after) = grind (arith, common_steps) in
         record { there = kept.1; done = kept.0; inside = refl; later = both.1; low = left.1 },
-    λ h. let here : kept_committed (kept_of e) r.key r.ts ≡ Some r.after = joined (is_committed_in s r.key r.ts) (version_in s r.key r.ts) h.done h.there in
+    λ h. let here : kept_committed (kept_of e) r.key r.ts ≡ Some r.after = grind (arith, common_steps) in
         let left : left_version_of p r.key r.ts ≡ Some r.after = sym (left_is (kept_of e) p all stands.fits r.key r.ts) ∙ here in
         let row = (row_left p all through r).1 (left, h.low) in
         (row.0, and_from _ _ row.1 h.later),

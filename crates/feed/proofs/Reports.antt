@@ -1,4 +1,5 @@
 -- What is told of the feeds that live.
+use Rattle.std.proofs.lemmas.Grind.{common_steps}
 use Rattle.std.proofs.Common.{List, None, Option, Some, [], ap, arith, inl, inr, length, map, refl, subst, sym, take, true, get_or, ℕ, ◌+◌, ◌++◌, ◌<◌, ◌∙◌, ◌∷◌, ◌≡◌}
 use Rattle.std.specs.Prelude.{Contains, filter_map, is_some, nat_eq, option_map, ◌↔◌}
 use Rattle.feed.proofs.Common.{AllByRecursion, AreLive, Has, IsDistinct, IsPermutation, IsSorted, IsStrictlyIncreasing, Place, append-nil, cons_option, feed_report, keys_of, nat_cmp, nat_tests, take_more}
@@ -50,21 +51,13 @@ told_one h fs i ns ns' n low so_far is put = put ∙ ap (λ l. l ++ n ∷ []) so
 pub told_none : (h : ℕ → Option FeedReport) (fs : List ℕ) (i : ℕ) (ns ns' : List FeedReport) → i < length fs → ns ≡ filter_map h (take i fs) → h (get_or fs i 0) ≡ None → ns' ≡ ns → ns' ≡ filter_map h (take (i + 1) fs)
 told_none h fs i ns ns' low so_far is same = same ∙ so_far ∙ sym (told_more h fs i low ∙ ap (λ o. filter_map h (take i fs) ++ cons_option o []) is ∙ append-nil (filter_map h (take i fs)))
 
-lives : (o : Option Place) → is_some o ≡ true → (place : Place) × (o ≡ Some place)
-lives None e = cc
-lives (Some place) e = (place, refl)
-
 numbers_are : (feed : ℕ → Option Place) (fs : List ℕ) → ((f : ℕ) → Has f fs → is_some (feed f) ≡ true) → map (λ (n : FeedReport). n.number) (told feed fs) ≡ fs
 numbers_are feed [] all = refl
-numbers_are feed (f ∷ fs) all = let l = lives (feed f) (all f (inl refl)) in rw l.1 (ap (λ ks. f ∷ ks) (numbers_are feed fs (λ g i. all g (inr i))))
+numbers_are feed (f ∷ fs) all = let more = numbers_are feed fs (λ g i. all g (inr i)) in let here = all f (inl refl) in grind (arith, common_steps)
 
 each_right : (feed : ℕ → Option Place) (fs : List ℕ) → AllByRecursion (IsRight feed) (told feed fs)
 each_right feed [] = tt
-each_right feed (f ∷ fs) = by_place (feed f) refl (each_right feed fs)
-  where
-    by_place : (o : Option Place) → feed f ≡ o → AllByRecursion (IsRight feed) (told feed fs) → AllByRecursion (IsRight feed) (cons_option (option_map (feed_report f) o) (told feed fs))
-    by_place None e more = more
-    by_place (Some place) e more = (ap (option_map (feed_report f)) e, more)
+each_right feed (f ∷ fs) = grind (arith, common_steps, each_right feed fs)
 
 -- what is told of the numbers of the feeds that live is the report of them
 pub live_reports : (feed : ℕ → Option Place) (fs : List ℕ) (ns : List FeedReport) → IsStrictlyIncreasing fs → AreThose (λ f. is_some (feed f)) fs → ns ≡ told feed fs → AreLive feed ns

@@ -9,16 +9,10 @@ use Rattle.feed.specs.Telling.{IsTold}
 use Rattle.feed.specs.declared.live.telling.Told.{Told}
 
 -- the last row of some messages, or else that of before
-pub last_name_is : (o : Option VersionName) (ms : List Message) → row_or (last_name None ms) o ≡ last_name o ms
-last_name_is o [] = refl
-last_name_is o (messages.Row r ∷ ms) = some_row (name_of r) o ms
-  where
-    -- after a row there is a last one
-    some_row : (n : VersionName) (o : Option VersionName) (ms : List Message) → row_or (last_name (Some n) ms) o ≡ last_name (Some n) ms
-    some_row n o [] = refl
-    some_row n o (messages.Row s ∷ ms) = some_row (name_of s) o ms
-    some_row n o (messages.Resolved t ∷ ms) = some_row n o ms
-last_name_is o (messages.Resolved t ∷ ms) = last_name_is o ms
+last_name_is : (p o : Option VersionName) (ms : List Message) → row_or (last_name p ms) o ≡ last_name (row_or p o) ms
+last_name_is p o [] = refl
+last_name_is p o (messages.Row r ∷ ms) = last_name_is (Some (name_of r)) o ms
+last_name_is p o (messages.Resolved t ∷ ms) = last_name_is p o ms
 
 pub next_resolved : (n i : ℕ) (ms : List Message) (m : Message) → i < length ms → m ≡ get_or ms i m → last_resolved n (take (i + 1) ms) ≡ last_resolved (last_resolved n (take i ms)) (m ∷ [])
 next_resolved n i ms m low is = ap (last_resolved n) (take_more ms i m low ∙ ap (λ d. take i ms ++ d ∷ []) (sym is)) ∙ resolved_join n (take i ms) (m ∷ [])
@@ -62,4 +56,4 @@ polled_by store s s' seat f closed most place told lives owner is put = record {
     there =
         ap (λ n. arrived_at n told.place.row place) is.after
         ∙ ap (λ o. record { seat = place.seat; kind = place.kind; span = place.span; cursor = place.cursor; after = last_resolved place.after told.messages.items; row = o })
-        (ap (λ o. row_or o place.row) is.row ∙ last_name_is place.row told.messages.items)
+        (ap (λ o. row_or o place.row) is.row ∙ last_name_is None place.row told.messages.items)

@@ -1,14 +1,13 @@
-use Rattle.std.proofs.Common.{List, ap, arith, length, subst, sym, ◌≡◌}
+use Rattle.std.proofs.Common.{◌∙◌, List, ap, arith, length, subst, ◌≡◌}
 use Rattle.version_chain.specs.Chains.{Entry}
 use Rattle.catch_up.proofs.Merge.{IsHeading, heads_begin, heads_go_on}
 use Rattle.catch_up.proofs.heads.heads_after.Goals as goal
 
 pub loop-key-init : goal.loop-key-init
 loop-key-init c =
-    let found = c.in_span-key-items.ensures in
     let none : length c.new-heads.result.entries ≡ 0 = ap length c.new-heads.ensures.empty in (
-      subst (λ (es : List Entry). IsHeading c.args.store.now c.args.span.now c.args.ts c.args.place.now c.args.through c.args.n es c.new-heads.result) (sym c.into_iter-key-iterator.ensures.into_iter_gives)
-          (heads_begin c.args.store.now c.args.span.now c.args.ts c.args.place.now c.args.through c.args.n c.in_span-key-items.result c.new-heads.result found.found found.ordered c.new-heads.ensures.empty c.new-heads.ensures.ordered),
+      heads_begin c.args.store.now c.args.span.now c.args.ts c.args.place.now c.args.through c.args.n c.into_iter-key-iterator.result c.new-heads.result (c.into_iter-key-iterator.ensures.into_iter_gives ∙ c.in_span-key-items.ensures.found) c.in_span-key-items.ensures.ordered
+          c.new-heads.ensures.empty c.new-heads.ensures.ordered,
       omega arith,
     )
 

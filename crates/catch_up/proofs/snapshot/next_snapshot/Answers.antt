@@ -1,12 +1,11 @@
-use Rattle.std.proofs.Common.{List, arith, length, subst, sym, ◌<◌}
+use Rattle.std.proofs.Common.{◌∙◌, List, arith, length, subst, ◌<◌}
 use Rattle.catch_up.proofs.Common.{Entry, option_copied}
 use Rattle.catch_up.proofs.Firsts.{IsSnapping, snap_begins, snap_goes_on}
 use Rattle.catch_up.proofs.snapshot.next_snapshot.Goals as goal
 
 pub loop-key-init : goal.loop-key-init
-loop-key-init c = let found = c.in_span-key-items.ensures in
-    subst (λ (es : List Entry). IsSnapping c.args.store.now c.args.span.now (option_copied c.args.after) c.args.at c.args.n es c.new-rows.result.items) (sym c.into_iter-key-iterator.ensures.into_iter_gives)
-    (snap_begins c.args.store.now c.args.span.now c.in_ok-rest.rest (option_copied c.args.after) c.args.at c.args.n c.in_span-key-items.result c.new-rows.result.items c.in_ok-rest.ensures found.found found.ordered c.new-rows.ensures.items)
+loop-key-init c = snap_begins c.args.store.now c.args.span.now c.in_ok-rest.rest (option_copied c.args.after) c.args.at c.args.n c.into_iter-key-iterator.result c.new-rows.result.items c.in_ok-rest.ensures
+    (c.into_iter-key-iterator.ensures.into_iter_gives ∙ c.in_span-key-items.ensures.found) c.in_span-key-items.ensures.ordered c.new-rows.ensures.items
 
 pub loop-key-preserved : goal.loop-key-preserved
 loop-key-preserved c =
