@@ -1,10 +1,10 @@
 -- What a database stands for after a feed was opened.
-use Rattle.std.proofs.Common.{◌≡◌, ℕ, suc, Bool, true, false, List, ◌∷◌, Option, Some, None, refl, sym, ◌∙◌, subst, arith}
-use Rattle.plain_database.proofs.Common.{Allowed, Event, IsRightEvent, Kind, Opened, Opens, Span, common_steps, effect, effects_of, event, kind_of, open_cmd}
+use Rattle.std.proofs.Common.{◌≡◌, ℕ, suc, Bool, true, false, List, ◌∷◌, Option, Some, None, refl, sym, ◌∙◌, arith}
+use Rattle.plain_database.proofs.Common.{Event, IsRightEvent, Kind, Opened, Opens, Span, common_steps, effect, effects_of, event, kind_of, open_cmd}
 use Rattle.plain_database.specs.FeedTie.{Book, LeadsTo, Says}
 use Rattle.spans.specs.Feeds.{feeds_opened}
 use Rattle.plain_database.specs.declared.database.PlainDatabase.{PlainDatabase}
-use Rattle.plain_database.specs.Tied.{IsTied, StandsFor}
+use Rattle.plain_database.specs.Tied.{StandsFor}
 use Rattle.plain_database.proofs.Events.{takes}
 
 opens_is : (kind : Kind) (seat : ℕ) (span : Span) (cursor f : ℕ) → effect seat (open_cmd kind span cursor) (Opened f) ≡ Opens f seat kind span cursor
@@ -19,10 +19,7 @@ opens_is kind seat span cursor f = by_parts kind.initial kind.gap
 -- a feed was opened with the next number
 pub stands_opens : (db : PlainDatabase) (book : Book) (h : List Event) (n seat f number : ℕ) (kind : Kind) (span : Span) (cursor : ℕ) → Says db.feeds (λ p. number ≡ suc (feeds_opened p)) → LeadsTo db.feeds (Opens number seat kind span cursor) book
     → StandsFor db h → IsRightEvent (effects_of h) (event n seat (open_cmd kind span cursor) (Opened f)) → StandsFor (record db { feeds = book }) (event n seat (open_cmd kind span cursor) (Opened f) ∷ h)
-stands_opens db book h n seat f number kind span cursor next leads = takes db (record db { feeds = book }) h n seat (open_cmd kind span cursor) (Opened f) (λ tied all allowed.
-    let p = effects_of h in
-    let is = opens_is kind seat span cursor f in
-    let given : Allowed p (Opens f seat kind span cursor) = subst (Allowed p) is allowed in
-    let same : number ≡ f = next p tied.feeds ∙ sym given.0 in
-    let feeds = leads p all tied.feeds in
-    subst (λ e. IsTied (record db { feeds = book }) (e ∷ p)) (sym is) (grind (arith, common_steps)))
+stands_opens db book h n seat f number kind span cursor next leads = takes db (record db { feeds = book }) h n seat (open_cmd kind span cursor) (Opened f) (Opens f seat kind span cursor) (opens_is kind seat span cursor f) (λ tied all given.
+    let same : number ≡ f = next (effects_of h) tied.feeds ∙ sym given.0 in
+    let feeds = leads (effects_of h) all tied.feeds in
+    grind (arith, common_steps))

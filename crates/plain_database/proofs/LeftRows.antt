@@ -18,13 +18,14 @@ use Rattle.plain_database.specs.declared.feeds.told.Told.{Told}
 use Rattle.plain_database.specs.declared.database.PlainDatabase.{PlainDatabase}
 use Rattle.plain_database.specs.Tied.{StandsFor}
 use Rattle.plain_database.proofs.ClosedRange.{closed_in_range}
-use Rattle.plain_database.proofs.Streaming.{behind_of, grows, past_of}
-use Rattle.plain_database.specs.Behind.{beside, is_past, keys_past}
+use Rattle.plain_database.proofs.Streaming.{grows, past_of}
+use Rattle.plain_database.specs.Behind.{beside, is_past}
+use Rattle.plain_database.specs.Replies.{rows_past}
 
 -- ---- those of a list that were not told
 
 -- a row is behind the last one and above what was resolved
-abbrev pub is_left : Told → Row → Bool
+abbrev is_left : Told → Row → Bool
 is_left told r = nat_lt told.resolved r.ts && is_after_name told.row r
 
 in_filter : (q : Row → Bool) (r : Row) (rows : List Row) → IsRowIn r (filter q rows) ↔ (IsRowIn r rows × (q r ≡ true))
@@ -35,7 +36,7 @@ rises_filter : (q : Row → Bool) (rows : List Row) → RisingRows rows → Risi
 rises_filter q [] rise = tt
 rises_filter q (s ∷ rows) rise = grind (arith, common_steps, in_filter, rises_filter q rows rise.1)
 
-pub untold_filtered : (p : List Effect) → AllAllowed p → (f : ℕ) (x : FeedRecord) → IsRecordOf p f x → untold_rows p f (feed_part x) ≡ filter (is_left x.told) (list_of p (feed_part x) (closed_of p))
+untold_filtered : (p : List Effect) → AllAllowed p → (f : ℕ) (x : FeedRecord) → IsRecordOf p f x → untold_rows p f (feed_part x) ≡ filter (is_left x.told) (list_of p (feed_part x) (closed_of p))
 untold_filtered p all f x is =
     let feed = feed_part x in
     let list = list_of p feed (closed_of p) in
@@ -63,28 +64,17 @@ rows_at t f keys = map (λ x. record { ts = t; key = x; after = f x }) keys
 
 one_left : (g : Row → Bool) (ts t : ℕ) (key : Option (List ℕ)) (f : List ℕ → After) → ((r : Row) → r.ts ≡ t → g r ≡ is_behind ts key r)
     → (keys : List (List ℕ)) → filter g (rows_at t f keys) ≡ cond (nat_le ts t) (cond (nat_lt ts t) (rows_at t f keys) (past_of key (rows_at t f keys))) []
-one_left g ts t None f same [] = grind (arith, common_steps, nat_tests)
-one_left g ts t (Some key) f same [] = grind (arith, common_steps, nat_tests)
-one_left g ts t None f same (x ∷ xs) =
-    let first = same (record { ts = t; key = x; after = f x }) refl in
-    grind (arith, common_steps, nat_tests, one_left g ts t None f same xs)
-one_left g ts t (Some key) f same (x ∷ xs) =
-    let first = same (record { ts = t; key = x; after = f x }) refl in
-    grind (arith, common_steps, nat_tests, one_left g ts t (Some key) f same xs)
+one_left g ts t key f same [] = grind (arith, common_steps, nat_tests)
+one_left g ts t key f same (x ∷ xs) = grind (arith, common_steps, nat_tests, same (record { ts = t; key = x; after = f x }) refl, one_left g ts t key f same xs)
 
 -- where what is left above c is what is behind a place, the rest of the stream from c is what is behind the place
-pub stream_left : (p : List Effect) (span : Span) (g : Row → Bool) (c ts : ℕ) (key : Option (List ℕ)) → c ≤ ts → (is_some key ≡ true → c < ts) → ((r : Row) → c < r.ts → g r ≡ is_behind ts key r)
+stream_left : (p : List Effect) (span : Span) (g : Row → Bool) (c ts : ℕ) (key : Option (List ℕ)) → c ≤ ts → (is_some key ≡ true → c < ts) → ((r : Row) → c < r.ts → g r ≡ is_behind ts key r)
     → (n : ℕ) → filter g (stream_of p span c n) ≡ beside p span ts key n ++ stream_of p span ts n
-stream_left p span g c ts None low above same zero = refl
-stream_left p span g c ts (Some key) low above same zero = let off : nat_le ts 0 ≡ false = (let over : c < ts = above refl in grind (arith, nat_tests)) in rw off refl
+stream_left p span g c ts key low above same zero = grind (arith, common_steps, nat_tests)
 stream_left p span g c ts key low above same (suc n) =
-    filter-append g (stream_of p span c n) (cond (nat_lt c (suc n) && is_committed p (suc n)) (rows_of p span (suc n)) [])
-    ∙ rw (stream_left p span g c ts key low above same n, of_one (suc n) key above (λ over. one_left g ts (suc n) key (λ x. written_value (write_of p (suc n) x)) (λ r at. same r (omega (arith, at))) (filter (in_span span) (write_set p (suc n))))) (grows p span ts key n)
-  where
-    of_one : (t : ℕ) (k : Option (List ℕ)) → (is_some k ≡ true → c < ts) → (c < t → filter g (rows_of p span t) ≡ cond (nat_le ts t) (cond (nat_lt ts t) (rows_of p span t) (past_of k (rows_of p span t))) [])
-        → filter g (cond (nat_lt c t && is_committed p t) (rows_of p span t) []) ≡ cond (nat_le ts t) (behind_of p span ts k t) []
-    of_one t None above rows = grind (arith, common_steps, nat_tests)
-    of_one t (Some key) above rows = grind (arith, common_steps, nat_tests)
+    let rows : (c < suc n → filter g (rows_of p span (suc n)) ≡ cond (nat_le ts (suc n)) (cond (nat_lt ts (suc n)) (rows_of p span (suc n)) (past_of key (rows_of p span (suc n)))) []) =
+    (λ over. one_left g ts (suc n) key (λ x. written_value (write_of p (suc n) x)) (λ r at. same r (omega (arith, at))) (filter (in_span span) (write_set p (suc n)))) in
+    grind (arith, common_steps, nat_tests, filter-append g (stream_of p span c n), grows p span ts key n, stream_left p span g c ts key low above same n)
 
 -- ---- the snapshot
 
@@ -96,29 +86,23 @@ pairs_left g q t same m (x ∷ xs) = grind (arith, common_steps, pairs_left g q 
 -- of a map's values those of the span, as another map has them
 pairs_within : (span : Span) (m n : Map) (keys : List (List ℕ)) → ((x : List ℕ) → m x ≡ n x) → pairs_of (span_part span m) keys ≡ pairs_of n (filter (in_span span) keys)
 pairs_within span m n [] same = refl
-pairs_within span m n (x ∷ xs) same = by_test (in_span span x)
-    (λ inside. rw (inside, same x, pairs_within span m n xs same) refl)
-    (λ out. rw out (pairs_within span m n xs same))
+pairs_within span m n (x ∷ xs) same = grind (arith, common_steps, same x, pairs_within span m n xs same)
 
 -- at the cursor, where all before was told, what is left is behind the last row's key
 past_is : (resolved c : ℕ) (o : Option VersionName) (r : Row) → c ≡ suc resolved → row_ts o ≤ c → r.ts ≡ c → (nat_lt resolved r.ts && is_after_name o r) ≡ is_past (key_above resolved o) r.key
-past_is resolved c None r next low at = grind (arith, common_steps, nat_tests)
-past_is resolved c (Some row) r next low at = grind (arith, common_steps, nat_tests)
+past_is resolved c o r next low at = grind (arith, common_steps, nat_tests)
 
 -- above the cursor, what is left is behind the place
 behind_is : (resolved c : ℕ) (o : Option VersionName) (r : Row) → c < r.ts → (nat_lt resolved r.ts && is_after_name o r) ≡ is_behind (max (max c resolved) (row_ts o)) (key_above (max c resolved) o) r
-behind_is resolved c None r above = grind (arith, common_steps, nat_tests)
-behind_is resolved c (Some row) r above = grind (arith, common_steps, nat_tests)
+behind_is resolved c o r above = grind (arith, common_steps, nat_tests)
 
 -- where nothing above the cursor was told, all there is left
 above_is : (resolved c : ℕ) (o : Option VersionName) (r : Row) → resolved < c → row_ts o ≤ c → c < r.ts → (nat_lt resolved r.ts && is_after_name o r) ≡ nat_lt c r.ts
-above_is resolved c None r low under above = grind (arith, common_steps, nat_tests)
-above_is resolved c (Some row) r low under above = grind (arith, common_steps, nat_tests)
+above_is resolved c o r low under above = grind (arith, common_steps, nat_tests)
 
 -- of a feed whose place isn't in the snapshot, nothing at the cursor is left
 told_is : (resolved c : ℕ) (o : Option VersionName) (r : Row) → (nat_lt resolved c && nat_le (row_ts o) c) ≡ false → r.ts ≡ c → (nat_lt resolved r.ts && is_after_name o r) ≡ false
-told_is resolved c None r told at = grind (arith, common_steps, nat_tests)
-told_is resolved c (Some row) r told at = grind (arith, common_steps, nat_tests)
+told_is resolved c o r told at = grind (arith, common_steps, nat_tests)
 
 none_left : (g : Row → Bool) (t : ℕ) → ((r : Row) → r.ts ≡ t → g r ≡ false) → (pairs : List (List ℕ × List ℕ)) → filter g (map (pair_row t) pairs) ≡ []
 none_left g t none [] = refl
@@ -140,16 +124,14 @@ untold_stream p all f x ts key is out at behind =
     over o is = grind (arith, common_steps, nat_tests)
 
     none : filter (is_left x.told) (first_rows x.kind p x.span x.cursor) ≡ []
-    none = by_test x.kind.initial
-        (λ first. rw first (none_left (is_left x.told) x.cursor (λ r at. told_is x.told.resolved x.cursor x.told.row r (rw first at out) at) (pairs_of (span_part x.span (map_at p x.cursor)) (written_keys p))))
-        (λ isnt. rw isnt refl)
+    none = grind (arith, common_steps, none_left (is_left x.told) x.cursor, told_is x.told.resolved x.cursor x.told.row)
 
-pub is_in_snapshot : (x : FeedRecord) → tells_snapshot x ≡ true → (x.kind.initial ≡ true) × (x.told.resolved < x.cursor) × (row_ts x.told.row ≤ x.cursor)
+is_in_snapshot : (x : FeedRecord) → tells_snapshot x ≡ true → (x.kind.initial ≡ true) × (x.told.resolved < x.cursor) × (row_ts x.told.row ≤ x.cursor)
 is_in_snapshot x tells = grind (arith, common_steps)
 
 -- of a feed whose place is in the snapshot
-pub untold_snapshot : (p : List Effect) → AllAllowed p → (f : ℕ) (x : FeedRecord) (key : Option (List ℕ)) → IsRecordOf p f x → tells_snapshot x ≡ true → key ≡ key_above x.told.resolved x.told.row
-    → untold_rows p f (feed_part x) ≡ map (pair_row x.cursor) (pairs_of (λ y. (visible p y x.cursor).after) (keys_past key (filter (in_span x.span) (written_keys p)))) ++ stream_of p x.span x.cursor (closed_of p)
+untold_snapshot : (p : List Effect) → AllAllowed p → (f : ℕ) (x : FeedRecord) (key : Option (List ℕ)) → IsRecordOf p f x → tells_snapshot x ≡ true → key ≡ key_above x.told.resolved x.told.row
+    → untold_rows p f (feed_part x) ≡ map (pair_row x.cursor) (rows_past p x.span key x.cursor) ++ stream_of p x.span x.cursor (closed_of p)
 untold_snapshot p all f x key is tells behind =
     let s = is_in_snapshot x tells in
     let settled : x.cursor ≤ closed_of p = (feeding p all f (feed_part x) is.feed).settled s.0 in
@@ -163,38 +145,29 @@ untold_snapshot p all f x key is tells behind =
     ) refl)
 
 -- the first of both parts are the first of all
-both_first : (m n : ℕ) (firsts rows xs ys : List Row) → firsts ≡ take m xs → n ≡ m - length firsts → rows ≡ take n ys → firsts ++ rows ≡ take m (xs ++ ys)
-both_first m n firsts rows xs ys first left rest = grind (arith, common_steps, length-take, take_both)
-
 pub snapshot_taken : (p : List Effect) → AllAllowed p → (f : ℕ) (x : FeedRecord) (key : Option (List ℕ)) → IsRecordOf p f x → tells_snapshot x ≡ true → key ≡ key_above x.told.resolved x.told.row
-    → (n max room : ℕ) (firsts rows : List Row) → n ≡ closed_of p → n ≤ MAX → (x.cursor ≤ MAX → firsts ≡ take max (map (pair_row x.cursor) (pairs_of (λ y. (visible p y x.cursor).after) (keys_past key (filter (in_span x.span) (written_keys p))))))
+    → (n max room : ℕ) (firsts rows : List Row) → n ≡ closed_of p → n ≤ MAX → (x.cursor ≤ MAX → firsts ≡ take max (map (pair_row x.cursor) (rows_past p x.span key x.cursor)))
     → room ≡ max - length firsts → rows ≡ take room (stream_of p x.span x.cursor n) → firsts ++ rows ≡ take max (untold_rows p f (feed_part x))
 snapshot_taken p all f x key is tells behind n max room firsts rows at low first left rest =
     let settled : x.cursor ≤ closed_of p = (feeding p all f (feed_part x) is.feed).settled (is_in_snapshot x tells).0 in
-    both_first max room firsts rows _ _ (first (omega (arith, at, low, settled))) left rest ∙ rw at (ap (take max) (sym (untold_snapshot p all f x key is tells behind)))
+    let fits : x.cursor ≤ MAX = omega (arith, at, low, settled) in
+    grind (arith, common_steps, length-take, take_both, first fits, untold_snapshot p all f x key is tells behind)
 
 -- ---- at no timestamp
 
--- what is in range and no timestamp is 0
-no_timestamp : (n : ℕ) → ((false ≡ true) ↔ ((1 ≤ n) × (n ≤ MAX))) → n ≤ MAX → n ≡ 0
-no_timestamp zero none low = refl
-no_timestamp (suc n) none low = let no : false ≡ true = none.1 (omega arith, low) in cc
-
 -- nothing is visible where the cursor is none
-pub none_visible : (p : List Effect) (c max : ℕ) (xs : List (List ℕ)) → ((false ≡ true) ↔ ((1 ≤ c) × (c ≤ MAX))) → c ≤ MAX → [] ≡ take max (map (pair_row c) (pairs_of (λ x. (visible p x c).after) xs))
-none_visible p zero max (x ∷ xs) none low = none_visible p zero max xs none low
-none_visible p zero zero [] none low = refl
-none_visible p zero (suc max) [] none low = refl
-none_visible p (suc c) max xs none low = let no : suc c ≡ 0 = no_timestamp (suc c) none low in cc
+pub none_visible : (p : List Effect) (c : ℕ) → ((false ≡ true) ↔ ((1 ≤ c) × (c ≤ MAX))) → c ≤ MAX → (xs : List (List ℕ)) → pairs_of (λ x. (visible p x c).after) xs ≡ []
+none_visible p zero none low [] = refl
+none_visible p zero none low (x ∷ xs) = none_visible p zero none low xs
+none_visible p (suc c) none low xs = let no : false ≡ true = none.1 (omega arith, low) in cc
 
 -- nothing is left where nothing is closed
 pub nothing_left : (db : PlainDatabase) (h : List Event) (f : ℕ) (x : FeedRecord) (max : ℕ) → ((false ≡ true) ↔ ((1 ≤ db.versions.closed) × (db.versions.closed ≤ MAX)))
     → StandsFor db h → IsRecordOf (effects_of h) f x → [] ≡ take max (untold_rows (effects_of h) f (feed_part x))
 nothing_left db h f x max none stands is =
     let p = effects_of h in
-    let zeroth : closed_of p ≡ 0 = sym stands.tied.versions.closed_at ∙ no_timestamp db.versions.closed none (omega (arith, stands.tied.versions.closed_at, closed_in_range h stands.legal)) in
+    let zeroth : closed_of p ≡ 0 = grind (arith, common_steps, closed_in_range h stands.legal) in
     let settled = (feeding p (legal_allowed h stands.legal) f (feed_part x) is.feed).settled in
-    let first : first_rows x.kind p x.span x.cursor ≡ [] = first_none x.kind p x.span x.cursor (λ is. omega (arith, zeroth, settled is)) in
-    grind (arith, common_steps)
+    grind (arith, common_steps, first_none x.kind p x.span x.cursor)
 
-pub ruleset taken = (length-map, take-map)
+pub ruleset taken = (length-map, take-map, none_visible)

@@ -22,7 +22,6 @@ pub mod Walked
 pub mod Events
 pub mod Scanning
 pub mod Collecting
-pub mod Closing
 pub mod Least
 pub mod Telling
 pub mod FeedTies

@@ -1,11 +1,12 @@
 -- What the store finds is what the definitions say.
-use Rattle.std.proofs.Common.{◌≡◌, ℕ, ◌<◌, List, [], ◌∷◌, None, length, take, refl, ap, ◌∙◌, arith}
+use Rattle.std.proofs.Common.{◌≡◌, ℕ, ◌<◌, List, [], ◌∷◌, None, length, take, refl, ap, ◌∙◌}
 use Rattle.std.specs.Prelude.{filter}
 use Rattle.spans.specs.Newest.{newest}
-use Rattle.plain_database.proofs.Common.{Effect, Span, in_span, length-take, newest_same, pairs_of, take_all, version_of, visible, written_keys}
+use Rattle.plain_database.proofs.Common.{Effect, Span, in_span, newest_same, pairs_of, version_of, visible, written_keys}
 use Rattle.plain_database.specs.Behind.{keys_past}
 use Rattle.plain_database.specs.Replies.{rows_seen}
 use Rattle.plain_database.specs.VersionsTied.{Held, VersionsTied, version_in}
+use Rattle.plain_database.proofs.Taken.{all_taken}
 
 -- the version that is seen is the visible one
 pub seen_is : (h : Held) (p : List Effect) → VersionsTied h p → (x : List ℕ) (t : ℕ) → newest (version_in h x) t ≡ visible p x t
@@ -18,7 +19,4 @@ all_keys [] = refl
 all_keys (x ∷ xs) = ap (λ l. x ∷ l) (all_keys xs)
 
 pub all_rows : (p : List Effect) (span : Span) (t n : ℕ) (rows : List (List ℕ × List ℕ)) → rows ≡ take n (pairs_of (λ x. (visible p x t).after) (keys_past None (filter (in_span span) (written_keys p)))) → length rows < n → rows ≡ rows_seen p span t
-all_rows p span t n rows is few =
-    let all = rows_seen p span t in
-    let taken : rows ≡ take n all = is ∙ ap (λ xs. take n (pairs_of (λ x. (visible p x t).after) xs)) (all_keys (filter (in_span span) (written_keys p))) in
-    taken ∙ take_all n all (omega (arith, few, ap length taken, length-take n all))
+all_rows p span t n rows is few = all_taken n rows (rows_seen p span t) (is ∙ ap (λ xs. take n (pairs_of (λ x. (visible p x t).after) xs)) (all_keys (filter (in_span span) (written_keys p)))) few

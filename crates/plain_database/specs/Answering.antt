@@ -13,6 +13,10 @@ AfterEach db P = (h : List Event) → StandsFor db h → P (effects_of h)
 abbrev pub AfterCounted : PlainDatabase → (List Effect → Type 0) → Type 0
 AfterCounted db P = (h : List Event) → StandsFor db h → length h < 18446744073709551615 → P (effects_of h)
 
+-- a seat in the place of all, for a command that is answered alike whoever gives it
+abbrev pub any_seat : ℕ
+any_seat = 0
+
 -- after each history that the database stands for, this is the answer to the seat's command
 abbrev pub Answers : PlainDatabase → ℕ → Cmd → Reply → Type 0
 Answers db seat cmd reply = (h : List Event) → StandsFor db h → reply ≡ answer_of (effects_of h) seat cmd

@@ -10,7 +10,6 @@ pub mod Filling
 pub mod Replies
 pub mod KeysIn
 pub mod Tied
-pub mod Late
 pub mod Answering
 pub mod Streams
 pub mod Reports

@@ -1,6 +1,7 @@
 -- Parts of the answers: the tests of a scan, the rows that it finds, and the answer to a write.
-use Rattle.std.specs.Prelude.{ℕ, Bool, List, [], ◌∷◌, ◌++◌, filter, map, Option}
-use Rattle.plain_database.specs.Prelude.{Effect, Span, in_span, pairs_of, too_late, visible, written_keys}
+use Rattle.std.specs.Prelude.{ℕ, Bool, List, [], ◌∷◌, ◌++◌, filter, map, Option, Some, None}
+use Rattle.spans.specs.declared.calls.commands.Cmd.{Cmd}
+use Rattle.plain_database.specs.Prelude.{After, Del, Effect, Put, Span, in_span, pairs_of, too_late, visible, written_keys}
 use Rattle.plain_database.specs.Behind.{keys_past}
 use Rattle.spans.specs.Answer.{first_refusal_or, transaction_tests}
 use Rattle.spans.specs.Versions.{committed_value, is_blocked}
@@ -28,3 +29,8 @@ rows_committed p span t = pairs_of (λ x. committed_value p x t) (filter (in_spa
 -- the answer to a write, whatever it writes
 abbrev pub write_answer : List Effect → ℕ → ℕ → List ℕ → Reply
 write_answer p seat t x = first_refusal_or (transaction_tests p seat t ++ (too_late p x t, TooLate) ∷ []) Written
+
+-- the command that writes this
+abbrev pub write_cmd : ℕ → List ℕ → After → Cmd
+write_cmd t x None = Del t x
+write_cmd t x (Some v) = Put t x v

@@ -1,10 +1,10 @@
 -- What a database holds of a history.
-use Rattle.std.specs.Prelude.{ℕ, List, ◌≡◌, ◌+◌, ◌-◌, ◌^◌, min}
+use Rattle.std.specs.Prelude.{List, ◌≡◌, ◌-◌, ◌^◌, min}
 use Rattle.plain_database.specs.Prelude.{Effect, Event, IsLegal, effects_of, horizon_of}
 use Rattle.plain_database.specs.FeedTie.{FeedsTied}
 use Rattle.plain_database.specs.ProtectionTie.{ProtectionsTied}
-use Rattle.plain_database.specs.Counts.{dead_then, passed_then, versions_between}
-use Rattle.plain_database.specs.VersionsTied.{Says, VersionsTied}
+use Rattle.plain_database.specs.Counts.{dead_then, passed_then}
+use Rattle.plain_database.specs.VersionsTied.{VersionsTied}
 use Rattle.plain_database.specs.declared.database.PlainDatabase.{PlainDatabase}
 
 -- each part says what the definitions say of p
@@ -22,10 +22,3 @@ IsTied db p = record {
 pub record StandsFor (db : PlainDatabase) (h : List Event) : Type 0 where
   pub legal : IsLegal h
   pub tied : IsTied db (effects_of h)
-
--- closed was moved, and the versions that it passed were counted
-abbrev pub IsClosedAt : PlainDatabase → ℕ → PlainDatabase → Type 0
-IsClosedAt db at db' = record {
-  is : db' ≡ record db { versions = record db.versions { closed = at }; passed = db'.passed };
-  counted : Says db'.versions (λ p. db'.passed ≡ min (db.passed + versions_between p db.versions.closed at) (2 ^ 64 - 1));
-}

@@ -2,7 +2,7 @@
 ghost use Rattle.std.specs.Prelude.{◌≡◌, ℕ};
 ghost use Rattle.spans.specs.declared.calls.commands.Cmd.TheVariants.{Collect};
 ghost use Rattle.spans.specs.Collection.{collection_horizon};
-ghost use Rattle.plain_database.specs.Answering.{AfterCounted, AfterEach, AnswersCounted, Records};
+ghost use Rattle.plain_database.specs.Answering.{AfterCounted, AfterEach, AnswersCounted, Records, any_seat};
 ghost use Rattle.plain_database.specs.Counts.{newly_dead};
 
 use crate::database::PlainDatabase;
@@ -12,7 +12,7 @@ use timestamps::ts::MAX;
 
 impl PlainDatabase {
     pub(crate) fn answer_collect(&self, to: u64) -> Reply
-        ensures { (seat : ℕ) → AnswersCounted self.now seat (Collect to) result }
+        ensures { AnswersCounted self.now any_seat (Collect to) result }
     {
         if to > MAX {
             return Reply::Refused(Refusal::TsRange);

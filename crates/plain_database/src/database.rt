@@ -1,4 +1,4 @@
-//! The checker's database: what a history is asked about, and nothing that a walk finds.
+//! The checker's database: the transactions, the feeds and the protections, the horizon, and two numbers of versions.
 ghost use Rattle.std.specs.Prelude.{◌≡◌, IfOk, OnErr, OnOk, [], true};
 
 use crate::feed_calls::kind_of;
@@ -92,12 +92,12 @@ impl PlainDatabase {
             Cmd::Begin { ts } => self.record_begin(seat, *ts, reply)?,
             Cmd::Get { ts, key } => self.record_get(*ts, key, reply)?,
             Cmd::Scan { ts, span } => self.record_scan(*ts, span, reply)?,
-            Cmd::Put { ts, key, value } => self.record_put(*ts, key, value, reply)?,
-            Cmd::Del { ts, key } => self.record_del(*ts, key, reply)?,
+            Cmd::Put { ts, key, value } => self.record_write(*ts, key, Some(value), reply)?,
+            Cmd::Del { ts, key } => self.record_write(*ts, key, None, reply)?,
             Cmd::Commit { ts } => self.record_commit(*ts, reply),
             Cmd::Abort { ts } => self.record_abort(*ts, reply),
-            Cmd::Close { to } => self.record_close(*to, reply),
-            Cmd::CloseHard { to } => self.record_close_hard(*to, reply),
+            Cmd::Close { to: _ } => self.record_close(reply),
+            Cmd::CloseHard { to: _ } => self.record_close(reply),
             Cmd::ReadAt { t: _, key: _ } => {}
             Cmd::ScanAt { t: _, span: _ } => {}
             Cmd::Protect { t } => self.record_protect(*t, reply)?,

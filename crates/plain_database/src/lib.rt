@@ -7,8 +7,10 @@
 //! each command from both. [`limit_law::law_of_limits`] states that the limit of a report is how far a collection goes.
 //!
 //! 1. What is kept is the definitions' own data: of each transaction its seat, state, writes and reads, and then closed
-//!    and the horizon. Beside it stand an index of who may have written each key, and two counts that only grow.
-//! 2. Nothing is dropped. An abort and a closing change one word, and the versions of who is aborted are passed over.
+//!    and the horizon. Beside it stand an index of who may have written each key, and the numbers of versions that are
+//!    closed and that are dead, which only grow.
+//! 2. No transaction, read or key is dropped. An abort or a closing changes one word of the store, and the versions of
+//!    who is aborted are passed over.
 //! 3. Messages told to feeds are forgotten, and each feed's place is kept.
 //!
 //! ```text
@@ -28,19 +30,22 @@
 //!
 //! - `begin`, `commit`, `abort`: O(log n)
 //! - `get`, `readat`: P, and a copy of the value
-//! - `put`, `del`: O(log n), and all reads of the transactions above
+//! - `put`, `del`: O(log n), all reads of the transactions above, and copies of the key and the value
 //! - `scan`, `scanat`: P for each key in the span, and a copy of each key and row
 //! - `close`, `closehard`, `stats`: O(log n + c), and the transactions that a closing passes
 //! - `collect`: P for each version between the two horizons, the feeds and the protections
-//! - `poll`: the transactions from the feed's place to the last that it tells, of all spans; P for each key of a
-//!   snapshot
+//! - `poll`: O(f), and all writes of the transactions from the feed's place to the last that it tells, or to closed
+//!   where it is told all; P for each key of a snapshot
 //! - `protect`, `release`: the protections that stand; `open`, `cancel`: O(f)
 //! - `report`: c, the protections and the feeds; a whole one also a `collect` up to closed, and for each feed a `poll`
 //!   of all its rows
-//! - `dump`: P for each committed version, and a copy of those that are left
+//! - `dump`: P for each committed version, and a copy of each
 //!
-//! `answer` takes memory for rows, values and messages, and `report` and `dump` for their lists. `record` takes it for
-//! a begin, get, scan, put, del, protect, opening or poll that is accepted, and none for other commands.
+//! So a transcript is slow to check that has many reads above a transaction which writes on, many aborted writers of
+//! one key, or a long tail that is never closed.
+//!
+//! `answer` takes memory for rows, values, spans and messages, and `report` and `dump` for their lists. `record` takes
+//! it for a begin, get, scan, put, del, protect, opening or poll that is accepted, and none for other commands.
 //!
 //! Tests: `job_tests`, by random transcripts that are checked.
 #![tactic(auto)]

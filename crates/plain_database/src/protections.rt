@@ -1,7 +1,7 @@
 //! The checker's answers to protections, which hold the horizon back.
 ghost use Rattle.std.specs.Prelude.{◌≡◌, OnErr, OnOk, true, ℕ};
 ghost use Rattle.plain_database.specs.Prelude.{Protect, Release, first_refusal, horizon_tests, is_accepted};
-ghost use Rattle.plain_database.specs.Answering.{AfterEach, Answers, AnswersCounted, Records};
+ghost use Rattle.plain_database.specs.Answering.{AfterEach, Answers, AnswersCounted, Records, any_seat};
 
 use crate::database::PlainDatabase;
 use spans::calls::{Refusal, Reply};
@@ -11,7 +11,7 @@ use timestamps::ts::MAX;
 impl PlainDatabase {
     #[tactic(auto, using(spans::proofs::Histories::made_at_most, spans::proofs::Histories::effect_count))]
     pub(crate) fn answer_protect(&self, t: u64) -> Reply
-        ensures { (seat : ℕ) → AnswersCounted self.now seat (Protect t) result }
+        ensures { AnswersCounted self.now any_seat (Protect t) result }
     {
         if let Some(refusal) = self.horizon_refusal(t) {
             return Reply::Refused(refusal);
@@ -40,7 +40,7 @@ impl PlainDatabase {
     }
 
     pub(crate) fn answer_release(&self, id: u64) -> Reply
-        ensures { (seat : ℕ) → Answers self.now seat (Release id) result }
+        ensures { Answers self.now any_seat (Release id) result }
     {
         if !self.protections.is_standing(id) {
             return Reply::Refused(Refusal::NoProtection);

@@ -43,10 +43,11 @@ impl PlainDatabase {
     {
         let mut reports = Vec::new(self.alloc);
         for record in self.feeds.live() {
-            // the newest come first here, and last in the report
             let untold = self.untold_in(whole, record)?;
-            reports.insert(0, record.report(untold)?)?;
+            reports.push(record.report(untold)?)?;
         }
+        // the newest came first
+        reports.reverse();
         Ok(reports)
     }
 

@@ -1,7 +1,7 @@
 //! The checker's statistics: how many transactions are undecided, and how many versions there are and are dead.
 ghost use Rattle.std.specs.Prelude.{◌≡◌, ◌-◌, length, ℕ};
 ghost use Rattle.plain_database.specs.Prelude.{Stats, dead_of, versions_of};
-ghost use Rattle.plain_database.specs.Answering.{AfterCounted, AnswersCounted};
+ghost use Rattle.plain_database.specs.Answering.{AfterCounted, AnswersCounted, any_seat};
 
 use crate::database::PlainDatabase;
 use spans::calls::Reply;
@@ -10,7 +10,7 @@ impl PlainDatabase {
     /// The versions are counted without the dead ones.
     #[tactic(auto, using(spans::proofs::Legal::legal_allowed))]
     pub(crate) fn answer_stats(&self) -> Reply
-        ensures { (seat : ℕ) → AnswersCounted self.now seat Stats result }
+        ensures { AnswersCounted self.now any_seat Stats result }
     {
         Reply::Stats {
             versions: self.kept_versions(),

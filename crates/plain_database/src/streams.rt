@@ -1,9 +1,9 @@
 //! The rows that a feed was not told, from its place on, with those of its snapshot first: the checker's.
-ghost use Rattle.std.specs.Prelude.{◌≡◌, ◌≤◌, IfOk, filter, length, map, take};
+ghost use Rattle.std.specs.Prelude.{◌≡◌, ◌≤◌, IfOk, length, map, take};
 ghost use Rattle.std.specs.Option.{option_copied};
 ghost use Rattle.spans.specs.Streams.{pair_row};
-ghost use Rattle.plain_database.specs.Prelude.{MAX, in_span, pairs_of, visible, written_keys};
-ghost use Rattle.plain_database.specs.Behind.{keys_past};
+ghost use Rattle.plain_database.specs.Prelude.{MAX};
+ghost use Rattle.plain_database.specs.Replies.{rows_past};
 ghost use Rattle.plain_database.specs.Streams.{AreLeft, IsInSnapshot};
 ghost use Rattle.plain_database.specs.VersionsTied.{Says};
 
@@ -37,6 +37,7 @@ impl PlainDatabase {
     }
 
     /// The same, of a feed whose place is in the snapshot at its cursor.
+    #[tactic(auto, using(spans::proofs::Legal::legal_allowed, crate::proofs::ClosedRange::closed_in_range, crate::proofs::LeftRows::snapshot_taken))]
     fn rows_from_snapshot(
         &self,
         feed: &FeedRecord,
@@ -67,9 +68,8 @@ impl PlainDatabase {
         max: u64,
     ) -> Result<Vec<Row>, AllocError>
         ensures few { IfOk result (λ rows. length rows.items ≤ max) }
-        ensures rows { IfOk result (λ rows. feed.now.cursor ≤ MAX → Says self.now.versions (λ p. rows.items ≡ take max
-            (map (pair_row feed.now.cursor) (pairs_of (λ x. (visible p x feed.now.cursor).after)
-            (keys_past (option_copied after.entry) (filter (in_span feed.now.span) (written_keys p))))))) }
+        ensures rows { IfOk result (λ rows. feed.now.cursor ≤ MAX → Says self.now.versions (λ p. rows.items
+            ≡ take max (map (pair_row feed.now.cursor) (rows_past p feed.now.span (option_copied after.entry) feed.now.cursor)))) }
     {
         match Ts::new(feed.cursor) {
             // nothing is committed there

@@ -1,10 +1,10 @@
 //! The checker's begin, get, put, del, commit and abort. A command's answer stands beside its record.
 ghost use Rattle.std.specs.Prelude.{◌≡◌, IfOk, OnErr, OnOk, length, true, ℕ};
-ghost use Rattle.plain_database.specs.Prelude.{Abort, Begin, Commit, Del, Get, Put, first_refusal, is_accepted, transaction_tests};
+ghost use Rattle.std.specs.Option.{option_copied};
+ghost use Rattle.plain_database.specs.Prelude.{Abort, Begin, Commit, Get, first_refusal, is_accepted, transaction_tests};
 ghost use Rattle.plain_database.specs.Table.{begun_at, keys_in};
-ghost use Rattle.plain_database.specs.Answering.{Accepts, AfterEach, Answers, Records};
-ghost use Rattle.plain_database.specs.Late.{is_late};
-ghost use Rattle.plain_database.specs.Replies.{write_answer};
+ghost use Rattle.plain_database.specs.Answering.{Accepts, AfterEach, Answers, Records, any_seat};
+ghost use Rattle.plain_database.specs.Replies.{write_answer, write_cmd};
 
 use crate::database::PlainDatabase;
 use crate::versions::reads::Read;
@@ -17,7 +17,7 @@ use timestamps::value::Value;
 
 impl PlainDatabase {
     pub(crate) fn answer_begin(&self, ts: u64) -> Reply
-        ensures { (seat : ℕ) → Answers self.now seat (Begin ts) result }
+        ensures { Answers self.now any_seat (Begin ts) result }
     {
         if ts == 0 || ts > MAX {
             return Reply::Refused(Refusal::TsRange);
@@ -60,13 +60,8 @@ impl PlainDatabase {
         if let Some(by) = self.versions.blocker_at(key, ts) {
             return Ok(Reply::Refused(Refusal::Blocked { by }));
         }
-        match self.versions.value_at(key, ts) {
-            None => Ok(Reply::Found(None)),
-            Some(value) => {
-                let value = value.copy()?;
-                Ok(Reply::Found(Some(value)))
-            }
-        }
+        let value = copied(self.versions.value_at(key, ts))?;
+        Ok(Reply::Found(value))
     }
 
     pub(crate) fn record_get(&mut self, ts: u64, key: &Key, reply: &Reply) -> Result<(), AllocError>
@@ -96,42 +91,31 @@ impl PlainDatabase {
         Reply::Written
     }
 
-    pub(crate) fn record_put(
+    /// Records a put, or a delete where there is no value.
+    pub(crate) fn record_write(
         &mut self,
         ts: u64,
         key: &Key,
-        value: &Value,
+        value: Option<&Value>,
         reply: &Reply,
     ) -> Result<(), AllocError>
         ensures ok { OnOk result ((seat : ℕ) →
-            Records self.old seat (Put ts key.now value.now) reply.now self.new) }
+            Records self.old seat (write_cmd ts key.now (option_copied value.entry)) reply.now self.new) }
         ensures err { OnErr result (self.new ≡ self.old) }
         ensures memory { OnErr result (is_accepted reply.now ≡ true) }
     {
-        if is_too_late(reply) {
-            self.versions.end(ts, State::Aborted);
-            return Ok(());
-        }
         match reply {
             Reply::Written => {
-                let value = value.copy()?;
-                self.versions.write(ts, key, Some(value))
+                let after = copied(value)?;
+                self.versions.write(ts, key, after)
             }
-            _ => Ok(()),
-        }
-    }
-
-    pub(crate) fn record_del(&mut self, ts: u64, key: &Key, reply: &Reply) -> Result<(), AllocError>
-        ensures ok { OnOk result ((seat : ℕ) → Records self.old seat (Del ts key.now) reply.now self.new) }
-        ensures err { OnErr result (self.new ≡ self.old) }
-        ensures memory { OnErr result (is_accepted reply.now ≡ true) }
-    {
-        if is_too_late(reply) {
-            self.versions.end(ts, State::Aborted);
-            return Ok(());
-        }
-        match reply {
-            Reply::Written => self.versions.write(ts, key, None),
+            Reply::Refused(refusal) => match refusal {
+                Refusal::TooLate => {
+                    self.versions.end(ts, State::Aborted);
+                    Ok(())
+                }
+                _ => Ok(()),
+            },
             _ => Ok(()),
         }
     }
@@ -208,12 +192,12 @@ impl PlainDatabase {
     }
 }
 
-/// Whether a write came too late.
-fn is_too_late(reply: &Reply) -> bool
-    ensures { result ≡ is_late reply.now }
+/// A copy of the value, if there is one.
+pub(crate) fn copied(value: Option<&Value>) -> Result<Option<Value>, AllocError>
+    ensures { IfOk result (λ after. after ≡ option_copied value.entry) }
 {
-    match reply {
-        Reply::Refused(Refusal::TooLate) => true,
-        _ => false,
+    match value {
+        None => Ok(None),
+        Some(value) => Ok(Some(value.copy()?)),
     }
 }

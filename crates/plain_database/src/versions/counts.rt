@@ -1,7 +1,7 @@
 //! How many of the checker's versions stand between two timestamps, and how many die as a horizon goes up.
 //!
 //! A delete is dead as soon as a horizon reaches it, and a value as soon as one reaches the next version of its
-//! key. So only the versions between the old horizon and the new one are looked at.
+//! key. So only the versions between the old horizon and the new one are looked at, and the one below each.
 ghost use Rattle.std.specs.Prelude.{◌≡◌, ◌-◌, ◌^◌, ◌≤◌, Some, is_some, min};
 ghost use Rattle.spans.specs.Collection.{horizon_of};
 ghost use Rattle.spans.specs.Newest.{newest};

@@ -138,7 +138,7 @@ impl VersionStore {
         }
     }
 
-    /// Takes in a transaction that begins, where there is none of this timestamp.
+    /// Takes in a transaction that begins. It would replace one of this timestamp, so its caller looks first.
     pub fn begin(&mut self, ts: u64, seat: u8) -> Result<(), AllocError>
         ensures ok { OnOk result (self.new ≡ record self.old { table = with_begun ts seat self.old.table }) }
         ensures err { OnErr result (self.new ≡ self.old) }

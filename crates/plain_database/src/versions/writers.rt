@@ -1,5 +1,5 @@
 //! Who may have written each key: the checker's index over its transactions. Nothing is ever taken out of it, so a
-//! writer that was refused or aborted stays, and whoever asks looks the write up.
+//! writer that ran out of memory stays, as one does that was aborted, and whoever asks looks the write up.
 ghost use Rattle.std.specs.Prelude.{◌≡◌, ℕ, List, [], OnOk, true};
 ghost use Rattle.plain_database.specs.Indexed.{IsLast, is_listed};
 
