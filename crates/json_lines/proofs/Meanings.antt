@@ -1,20 +1,16 @@
 -- What is written of a number or of bytes means them again.
 use Rattle.json_lines.proofs.Common.{Format, Message, common_steps, le-leb}
-use Rattle.std.proofs.Common.{◌≡◌, ℕ, zero, suc, ◌<◌, Bool, true, false, cond, List, [], ◌∷◌, length, get_or, Option, Some, None, Result, Ok, Err, refl, ap, arith}
-use Rattle.std.specs.Prelude.{decimal, nat_le, ◌&&◌, ok_or, option_map}
+use Rattle.std.proofs.Common.{◌≡◌, ℕ, zero, suc, ◌<◌, List, [], ◌∷◌, get_or, Option, Result, Ok, Err, refl, ap, arith}
+use Rattle.std.specs.Prelude.{decimal, ok_or, option_map}
 use Rattle.std.specs.Result.{result_ok}
 use Rattle.base64.specs.declared.decode.DecodeError.{DecodeError}
 use Rattle.base64.specs.Engines.{standard}
 use Rattle.base64.specs.GeneralPurpose.{decode_of, decoded_of}
 use Rattle.base64.proofs.EngineFacts.{decode_of-encode_of}
-use Rattle.spans.specs.declared.calls.messages.Message.TheVariants as message
-use Rattle.json_lines.specs.declared.fault.MessageFault.{MessageFault}
-use Rattle.json_lines.specs.declared.fault.MessageFault.TheVariants.{Base64, Length}
+use Rattle.json_lines.specs.declared.fault.MessageFault.TheVariants.{Base64}
 use Rattle.json_lines.specs.Messages.{base64, AreBytes, IsTimestamp, IsKey, IsAfter, IsMessage}
 use Rattle.json_lines.specs.Texts.{texts_of}
-use Rattle.json_lines.specs.Steps.{◌>>=◌}
 use Rattle.json_lines.specs.Meaning.{timestamp_of, bytes_of, after_of, key_of, value_of, row_of, message_of}
-use Rattle.text_format.specs.Limits.{key_limit}
 use Rattle.json_lines.proofs.NumberWords.{number_only}
 
 -- ---- bytes by place and by recursion
@@ -43,31 +39,23 @@ bytes_again bytes h = bytes_good (base64 bytes) bytes (decode_of-encode_of stand
 
 -- ---- the parts of a message
 
-within : {A : Type 0} (a b : Bool) (x y : A) → a ≡ true → b ≡ true → cond (a && b) x y ≡ x
-within true true x y p q = refl
-within true false x y p q = absurd cc
-within false b x y p q = absurd cc
-
 timestamp_again : (ts : ℕ) → IsTimestamp ts → timestamp_of (decimal ts) ≡ Ok ts
 unfolding timestamp_of
-timestamp_again ts h = grind (arith, common_steps, number_only, within, le-leb)
+timestamp_again ts h = grind (arith, common_steps, number_only, le-leb)
 
 key_again : (format : Format) (key : List ℕ) → IsKey format key → key_of format key ≡ Ok key
 unfolding key_of
-key_again format key h = within (nat_le 1 (length key)) (nat_le (length key) (key_limit format)) (Ok key) (Err Length) (le-leb _ _ h.0) (le-leb _ _ h.1)
+key_again format key h = grind (arith, common_steps, le-leb)
 
 value_again : (format : Format) (after : Option (List ℕ)) → IsAfter format after → value_of format after ≡ Ok after
 unfolding value_of
-value_again format None h = refl
-value_again format (Some value) h = ap (λ (b : Bool). cond b (Ok (Some value)) (Err Length)) (le-leb _ _ h.0)
+value_again format after h = grind (arith, common_steps, le-leb)
 
 after_again : (format : Format) (after : Option (List ℕ)) → IsAfter format after → after_of (option_map base64 after) ≡ Ok after
 unfolding after_of
-after_again format None h = refl
-after_again format (Some value) h = ap (λ (r : Result (List ℕ) MessageFault). r >>= λ bytes. Ok (Some bytes)) (bytes_again value h.1)
+after_again format after h = grind (arith, common_steps, bytes_again)
 
 -- what a message's texts mean is the message
 pub message_again : (format : Format) (m : Message) → IsMessage format m → message_of format (texts_of m) ≡ Ok m
 unfolding message_of row_of
-message_again format (message.Resolved ts) h = rw (timestamp_again ts h) refl
-message_again format (message.Row r) h = grind (arith, common_steps, timestamp_again, bytes_again, after_again, key_again, value_again)
+message_again format m h = grind (arith, common_steps, timestamp_again, bytes_again, after_again, key_again, value_again)

@@ -1,6 +1,6 @@
 -- Number words and numbers, one to one.
-use Rattle.json_lines.proofs.Common.{all_ascii_digits, and_parts, cases_lt, common_steps, decimal-digits_value, decimal_digit, decimal_nonempty, digits_decimal, digits_value, digits_value-decimal, digits_value_after, eq-eqb, eqb-true, first_decimal, lt-ltb, ltb-true, ne_eqb}
-use Rattle.std.proofs.Common.{◌≡◌, ℕ, ◌^◌, ◌<◌, Bool, true, false, List, length, get_or, Some, refl, sym, ap, subst, ◌∙◌, ◌⊎◌, inl, inr, arith, rules}
+use Rattle.json_lines.proofs.Common.{all_ascii_digits, and_parts, cases_lt, common_steps, decimal-digits_value, decimal_digit, decimal_nonempty, digits_decimal, digits_value, digits_value-decimal, digits_value_after, eq-eqb, eqb-true, first_decimal, is_ascii_digit, list_all, lt-ltb, ltb-true, ne_eqb}
+use Rattle.std.proofs.Common.{◌≡◌, ℕ, ◌^◌, ◌<◌, Bool, true, false, List, [], ◌∷◌, length, get_or, Some, refl, sym, ap, subst, ◌∙◌, ◌⊎◌, inl, inr, arith, rules}
 use Rattle.std.specs.Prelude.{decimal, ◌&&◌, ◌||◌, ◌==◌, not, nat_lt}
 use Rattle.std.proofs.lemmas.Str.Parse.{IsNumeralModel, numerals_by_fold}
 use Rattle.std.proofs.lemmas.Option.{cond_some}
@@ -10,9 +10,7 @@ own : IsNumeralModel (λ ds. all_ascii_digits ds ≡ true) (digits_value 10)
 own = numerals_by_fold _ (search rules) (digits_value_after 10) (search rules)
 
 first_zero : (a : Bool) (b : Bool) → (a || not b) ≡ true → b ≡ true → a ≡ true
-first_zero true b e z = refl
-first_zero false true e z = absurd cc
-first_zero false false e z = absurd cc
+first_zero a b e z = grind arith
 
 -- what is read as a number is written so
 pub number_found : (word : List ℕ) (n : ℕ) → number_of word ≡ Some n → (word ≡ decimal n) × (n < 2 ^ 64)
@@ -31,16 +29,10 @@ zero_or_more : (n : ℕ) → (n ≡ 0) ⊎ (0 < n)
 zero_or_more n = elim (cases_lt 0 n) [ inl lt ↦ inr lt | inr le ↦ inl (omega arith) ]
 
 all_three : (a b c d : Bool) → a ≡ true → b ≡ true → c ≡ true → d ≡ true → (((a && b) && c) && d) ≡ true
-all_three true true true true p q r s = refl
-all_three false b c d p q r s = absurd cc
-all_three true false c d p q r s = absurd cc
-all_three true true false d p q r s = absurd cc
-all_three true true true false p q r s = absurd cc
+all_three a b c d p q r s = grind arith
 
 or_not : (a b : Bool) → b ≡ false → (a || not b) ≡ true
-or_not true b e = refl
-or_not false true e = absurd cc
-or_not false false e = refl
+or_not a b e = grind arith
 
 no_leading_zero : (n : ℕ) → n < 2 ^ 64 → (length (decimal n) == 1 || not (get_or (decimal n) 0 0 == 48)) ≡ true
 no_leading_zero n lt = grind (arith, common_steps, zero_or_more, decimal_digit, or_not, ne_eqb, first_decimal)
@@ -53,3 +45,11 @@ number_only n lt = grind (arith, common_steps, digits_value-decimal, own, all_th
 -- what is written of a number is digits
 pub decimal_digits : (n : ℕ) → n < 2 ^ 64 → all_ascii_digits (decimal n) ≡ true
 decimal_digits n lt = digits_decimal own n lt
+
+-- what holds of each digit holds of all of a number word
+digits_all : (p : ℕ → Bool) → ((c : ℕ) → is_ascii_digit c ≡ true → p c ≡ true) → (ds : List ℕ) → all_ascii_digits ds ≡ true → list_all p ds ≡ true
+digits_all p digit [] all = refl
+digits_all p digit (d ∷ ds) all = let h = and_parts (is_ascii_digit d) (all_ascii_digits ds) all in rw (digit d h.0) (digits_all p digit ds h.1)
+
+pub decimal_all : (p : ℕ → Bool) → ((c : ℕ) → is_ascii_digit c ≡ true → p c ≡ true) → (n : ℕ) → n < 2 ^ 64 → list_all p (decimal n) ≡ true
+decimal_all p digit n lt = digits_all p digit (decimal n) (decimal_digits n lt)

@@ -17,21 +17,16 @@ use Rattle.json_lines.proofs.Steps.{ok_is}
 use Rattle.json_lines.proofs.Ascii.{line_utf8}
 use Rattle.json_lines.proofs.Meanings.{message_again}
 use Rattle.json_lines.proofs.Trees.{tree_bad}
-use Rattle.json_lines.proofs.WrittenLines.{texts_line, line_of_texts, written_found, written_again}
+use Rattle.json_lines.proofs.WrittenLines.{line_of_texts, written_found, written_again}
 
 pub only_memory : (e : MessageFault) → (e ≢ fault.NoMemory → ⊥) → e ≡ fault.NoMemory
-only_memory fault.NotJson h = absurd (h (λ e. absurd cc))
-only_memory fault.Shape h = absurd (h (λ e. absurd cc))
-only_memory fault.Number h = absurd (h (λ e. absurd cc))
-only_memory fault.Base64 h = absurd (h (λ e. absurd cc))
-only_memory fault.Length h = absurd (h (λ e. absurd cc))
 only_memory fault.NoMemory h = refl
+only_memory (_) h = absurd (h (λ e. absurd cc))
 
 -- what is read is the line of the message
 pub read_found : (format : Format) (line : List ℕ) (t : Texts) (r : Result Message MessageFault) → texts_written line ≡ Ok t → IfOk r (λ m. IsMessage format m) → IfOk r (λ m. t ≡ texts_of m)
     → IfOk r (λ m. (line ≡ message_line m) × IsMessage format m)
-read_found format line t (Ok m) e lawful same = (written_found line t e ∙ ap texts_line same ∙ sym (line_of_texts m), lawful)
-read_found format line t (Err f) e lawful same = tt
+read_found format line t r e lawful same = grind (arith, common_steps, written_found, line_of_texts)
 
 -- a message's line is refused only out of memory
 pub read_whole : (format : Format) (line : List ℕ) (t : Texts) (r : Result Message MessageFault) → texts_written line ≡ Ok t → Gives (λ m. m) r (message_of format t)

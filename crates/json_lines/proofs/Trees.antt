@@ -1,11 +1,12 @@
 -- Trees, test by test.
-use Rattle.json_lines.proofs.Common.{IsUtf8, IsUtf8-from_is_utf8, common_steps, is_utf8, is_utf8-from_IsUtf8, members_len, ne_eqb}
+use Rattle.json_lines.proofs.Common.{IsUtf8, IsUtf8-from_is_utf8, common_steps, is_utf8-from_IsUtf8, members_len, ne_eqb}
 use Rattle.std.proofs.Common.{arith}
-use Rattle.std.proofs.Common.{◌≡◌, ◌≢◌, ℕ, Bool, true, false, cond, List, Option, Some, None, Result, Ok, Err, refl, ap, ◌∙◌}
+use Rattle.std.proofs.Common.{◌≡◌, ◌≢◌, ℕ, Bool, cond, List, Option, Some, None, Result, Ok, Err, ap, ◌∙◌}
 use Rattle.std.specs.Prelude.{ok_or, ◌==◌}
 use Rattle.serde_json.specs.Data.{Data, Members}
 use Rattle.serde_json.specs.Read.{read}
 use Rattle.serde_json.specs.Find.{as_object}
+use Rattle.serde_json.proofs.Views.{members_len-members_view}
 use Rattle.json_lines.specs.declared.fault.MessageFault.{MessageFault}
 use Rattle.json_lines.specs.declared.fault.MessageFault.TheVariants.{NotJson, Shape}
 use Rattle.json_lines.specs.Texts.{Texts}
@@ -17,14 +18,10 @@ pub tree_good : (line : List ℕ) (d : Data) → IsUtf8 line → read line ≡ S
 unfolding tree_of
 tree_good line d utf8 e = ap (λ (b : Bool). cond b (ok_or (read line) NotJson) (Err NotJson)) (is_utf8-from_IsUtf8 line utf8) ∙ ap (λ (o : Option Data). ok_or o NotJson) e
 
-refused_by : (b : Bool) (o : Option Data) → (b ≡ true → o ≡ None) → cond b (ok_or o NotJson) (Err NotJson) ≡ Err NotJson
-refused_by true o none = ap (λ (o : Option Data). ok_or o NotJson) (none refl)
-refused_by false o none = refl
-
 -- no UTF-8, or none that is read
 pub tree_bad : (line : List ℕ) → (IsUtf8 line → read line ≡ None) → tree_of line ≡ Err NotJson
 unfolding tree_of
-tree_bad line none = refused_by (is_utf8 line) (read line) (λ t. none (IsUtf8-from_is_utf8 line t))
+tree_bad line none = grind (arith, common_steps, IsUtf8-from_is_utf8)
 
 abbrev by_count : Data → ℕ → Result Texts MessageFault
 by_count tree n = cond (n == 1) (resolved_in tree) (cond (n == 3) (row_in tree) (Err Shape))
@@ -39,5 +36,6 @@ unfolding texts_in
 texts_none tree e = ap (λ (o : Option Members). ok_or o Shape >>= λ m. by_count tree (members_len m)) e
 
 pub texts_other : (tree : Data) (ms : Members) (n : ℕ) → as_object tree ≡ Some ms → members_len ms ≡ n → n ≢ 1 → n ≢ 3 → texts_in tree ≡ Err Shape
-texts_other tree ms n e count one three =
-    texts_by_count tree ms n e count ∙ ap (λ (b : Bool). cond b (resolved_in tree) (cond (n == 3) (row_in tree) (Err Shape))) (ne_eqb n 1 one) ∙ ap (λ (b : Bool). cond b (row_in tree) (Err Shape)) (ne_eqb n 3 three)
+texts_other tree ms n e count one three = grind (arith, common_steps, texts_by_count tree ms n e count, ne_eqb n 1 one, ne_eqb n 3 three)
+
+pub ruleset counted = (texts_by_count, texts_none, texts_other, members_len-members_view)

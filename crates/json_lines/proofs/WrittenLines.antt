@@ -1,18 +1,17 @@
 -- A written line is taken apart into the texts that it was made of.
-use Rattle.json_lines.proofs.Common.{Format, Message, all_ascii_digits, and_parts, common_steps, is_ascii_digit, list_all, ne_eqb, not-true}
-use Rattle.std.proofs.Common.{rules}
-use Rattle.std.proofs.Common.{◌≡◌, ℕ, ◌+◌, ◌/◌, ◌%◌, ◌*◌, ◌⊎◌, inl, inr, zero, suc, true, false, cond, List, [], ◌∷◌, ◌++◌, get_or, Option, Some, None, Result, Ok, Err, refl, ap, subst, ◌∙◌, append_assoc, arith}
+use Rattle.json_lines.proofs.Common.{Format, Message, common_steps}
+use Rattle.std.proofs.Common.{◌≡◌, ℕ, ◌^◌, ◌<◌, ◌⊎◌, inl, inr, cond, List, ◌∷◌, ◌++◌, Option, Some, None, Result, Ok, Err, refl, ap, ◌∙◌, append_assoc, arith}
 use Rattle.std.specs.Prelude.{codes, decimal, bytes_eq, option_map, not}
 use Rattle.std.proofs.lemmas.Slice.Eq.{bytes_eq-Decides}
 use Rattle.spans.specs.declared.calls.messages.Message.TheVariants as message
 use Rattle.json_lines.specs.declared.fault.MessageFault.{MessageFault}
 use Rattle.json_lines.specs.declared.fault.MessageFault.TheVariants.{Shape}
-use Rattle.json_lines.specs.Messages.{base64, symbols, message_line, IsMessage}
+use Rattle.json_lines.specs.Messages.{base64, message_line, IsMessage}
 use Rattle.json_lines.specs.Texts.{Texts, resolved, row, texts_of}
 use Rattle.json_lines.specs.Steps.{◌>>=◌}
 use Rattle.json_lines.specs.Written.{is_quote, behind, quoted, otherwise, last_text, text_at_front, null_at_front, after_at_front, resolved_written, row_written, texts_written}
-use Rattle.json_lines.proofs.Base64.{base64_three, base64_two, base64_one, base64_none}
-use Rattle.json_lines.proofs.NumberWords.{decimal_digits}
+use Rattle.json_lines.proofs.Base64.{base64_all}
+use Rattle.json_lines.proofs.NumberWords.{decimal_all}
 use Rattle.json_lines.proofs.Steps.{bind_ok, guarded, ok_is}
 use Rattle.json_lines.proofs.Quotes.{behind_found, quoted_found, quoted_again, HasNoQuote}
 
@@ -27,9 +26,6 @@ after_line (Some text) = codes "\"" ++ text ++ codes "\""
 abbrev pub texts_line : Texts → List ℕ
 texts_line (resolved ts) = codes "{\"resolved\":\"" ++ (ts ++ codes "\"}\n")
 texts_line (row after key updated) = codes "{\"after\":" ++ (after_line after ++ (codes ",\"key\":\"" ++ (key ++ (codes "\",\"updated\":\"" ++ (updated ++ codes "\"}\n")))))
-
-regroup : (a b c d e f g : List ℕ) → ((((((a ++ b) ++ c) ++ d) ++ e) ++ f) ++ g) ≡ a ++ (b ++ (c ++ (d ++ (e ++ (f ++ g)))))
-regroup a b c d e f g = simp append_assoc
 
 -- a message's line is that of its texts
 pub line_of_texts : (m : Message) → message_line m ≡ texts_line (texts_of m)
@@ -88,38 +84,18 @@ written_found line t e = grind (arith, common_steps, either, resolved_found, row
 
 -- ---- no written text has a quote
 
-no_quotes_join : (a b : List ℕ) → HasNoQuote a → HasNoQuote b → HasNoQuote (a ++ b)
-no_quotes_join [] b p q = q
-no_quotes_join (x ∷ a) b p q = (p.0, no_quotes_join a b p.1 q)
-
-no_quote_at : (table : List ℕ) (k : ℕ) → list_all (λ s. not (is_quote s)) table ≡ true → is_quote (get_or table k 0) ≡ false
-no_quote_at [] k all = refl
-no_quote_at (s ∷ table) zero all = not-true (is_quote s) (and_parts (not (is_quote s)) (list_all (λ s. not (is_quote s)) table) all).0
-no_quote_at (s ∷ table) (suc k) all = no_quote_at table k (and_parts (not (is_quote s)) (list_all (λ s. not (is_quote s)) table) all).1
-
-symbol_no_quote : (k : ℕ) → is_quote (get_or symbols k 0) ≡ false
-symbol_no_quote k = no_quote_at symbols k refl
-
 base64_no_quote : (bytes : List ℕ) → HasNoQuote (base64 bytes)
-base64_no_quote [] = rw base64_none tt
-base64_no_quote (a ∷ []) = rw base64_one (symbol_no_quote (a / 4), (symbol_no_quote (a % 4 * 16), (refl, (refl, tt))))
-base64_no_quote (a ∷ b ∷ []) = rw base64_two (symbol_no_quote (a / 4), (symbol_no_quote (a % 4 * 16 + b / 16), (symbol_no_quote (b % 16 * 4), (refl, tt))))
-base64_no_quote (a ∷ b ∷ c ∷ rest) = search (base64_three, no_quotes_join, symbol_no_quote, base64_no_quote rest, rules, arith)
+base64_no_quote bytes = base64_all (λ b. not (is_quote b)) refl refl refl bytes
 
-digit_no_quote : (c : ℕ) → is_ascii_digit c ≡ true → is_quote c ≡ false
-digit_no_quote c digit = ne_eqb c 34 (λ e. let h : is_ascii_digit 34 ≡ true = subst (λ (x : ℕ). is_ascii_digit x ≡ true) e digit in absurd cc)
-
-digits_no_quote : (digits : List ℕ) → all_ascii_digits digits ≡ true → HasNoQuote digits
-digits_no_quote [] all = tt
-digits_no_quote (d ∷ digits) all = let h = and_parts (is_ascii_digit d) (all_ascii_digits digits) all in (digit_no_quote d h.0, digits_no_quote digits h.1)
+number_no_quote : (n : ℕ) → n < 2 ^ 64 → HasNoQuote (decimal n)
+number_no_quote n lt = decimal_all (λ b. not (is_quote b)) (λ c digit. grind (arith, common_steps)) n lt
 
 abbrev AfterHasNoQuote : Option (List ℕ) → Type 0
 AfterHasNoQuote None = Unit {0}
 AfterHasNoQuote (Some text) = HasNoQuote text
 
 value_no_quote : (after : Option (List ℕ)) → AfterHasNoQuote (option_map base64 after)
-value_no_quote None = tt
-value_no_quote (Some value) = base64_no_quote value
+value_no_quote after = grind (arith, common_steps, base64_no_quote)
 
 -- ---- what was put together is taken apart again
 
@@ -143,5 +119,6 @@ row_again after key updated a k u = grind (arith, common_steps, after_again, quo
 -- a message's line is taken apart into its texts
 pub written_again : (format : Format) (m : Message) → IsMessage format m → texts_written (message_line m) ≡ Ok (texts_of m)
 written_again format (message.Resolved ts) lawful =
-    ap texts_written (line_of_texts (message.Resolved ts)) ∙ resolved_again (decimal ts) (digits_no_quote (decimal ts) (decimal_digits ts (omega arith)))
-written_again format (message.Row r) lawful = grind (arith, common_steps, line_of_texts, row_again, value_no_quote, base64_no_quote, digits_no_quote, decimal_digits)
+    ap texts_written (line_of_texts (message.Resolved ts)) ∙ resolved_again (decimal ts) (number_no_quote ts (omega arith))
+written_again format (message.Row r) lawful =
+    ap texts_written (line_of_texts (message.Row r)) ∙ row_again (option_map base64 r.after) (base64 r.key) (decimal r.ts) (value_no_quote r.after) (base64_no_quote r.key) (number_no_quote r.ts (omega arith))

@@ -48,7 +48,7 @@ fn put_message(out: &mut Vec<u8>, message: &Message) -> Result<(), AllocError>
     }
 }
 
-#[tactic(auto, using(crate::proofs::Writing::keeping), unfolding(crate::specs::Messages::message_line))]
+#[tactic(auto, using(crate::proofs::Writing::keeping, crate::proofs::Writing::on_error), unfolding(crate::specs::Messages::message_line))]
 fn put_row_line(out: &mut Vec<u8>, row: &Row) -> Result<(), AllocError>
     ensures ok { OnOk result (out.new.items ≡ out.old.items ++ message_line (Message.Row row.now)) }
     ensures err { OnErr result (Keeps out.old.items out.new.items) }

@@ -15,6 +15,7 @@ use std::alloc::Global;
 use text_format::Format;
 
 /// The message whose line it is, with its newline. Its key and its value are as long as the format lets them be.
+#[tactic(auto, using(crate::proofs::Readings::may_want, crate::proofs::Readings::no_json, crate::proofs::Readings::no_text))]
 pub fn read_message(alloc: Global, line: &[u8], format: Format) -> Result<Message, MessageFault>
     // What is read is the line of this message, byte for byte.
     ensures found { IfOk result (λ m. (line.now ≡ message_line m) × IsMessage format m) }
@@ -39,6 +40,7 @@ pub fn read_message(alloc: Global, line: &[u8], format: Format) -> Result<Messag
 }
 
 /// The message of a line that is spelled as a message's line is. No tree is built for it.
+#[tactic(auto, using(crate::proofs::Readings::unwritten))]
 fn read_written(alloc: Global, line: &[u8], format: Format) -> Result<Message, MessageFault>
     ensures found { IfOk result (λ m. (line.now ≡ message_line m) × IsMessage format m) }
     ensures whole { IfErr result (λ e. (m : Message) → IsMessage format m → line.now ≡ message_line m → e ≡ NoMemory) }

@@ -85,7 +85,7 @@ fn row_of(
 }
 
 /// The timestamp of a number word.
-#[tactic(auto, unfolding(crate::specs::Meaning::timestamp_of))]
+#[tactic(auto, using(crate::proofs::NumberWords::number_found), unfolding(crate::specs::Meaning::timestamp_of))]
 fn timestamp_of(text: &[u8]) -> Result<Ts, MessageFault>
     ensures exact { Reads (λ ts. ts) result (timestamp_of text.now) }
     ensures found { IfOk result (λ ts. text.now ≡ decimal ts) }
@@ -101,7 +101,7 @@ fn timestamp_of(text: &[u8]) -> Result<Ts, MessageFault>
 }
 
 /// The bytes whose base64 it is.
-#[tactic(auto, unfolding(crate::specs::Meaning::bytes_of))]
+#[tactic(auto, using(crate::proofs::Meanings::bytes_good, crate::proofs::Meanings::bytes_from_each))]
 fn bytes_of(alloc: Global, text: &[u8]) -> Result<Vec<u8>, MessageFault>
     ensures exact { Gives (λ v. v.items) result (bytes_of text.now) }
     ensures found { IfOk result (λ v. text.now ≡ base64 v.items) }

@@ -24,7 +24,7 @@ pub(crate) fn meant_by(alloc: Global, text: &str, format: Format) -> Result<Mess
     message_of(alloc, texts, format)
 }
 
-#[tactic(auto, unfolding(crate::specs::Tests::tree_of))]
+#[tactic(auto, using(crate::proofs::Trees::tree_good, crate::proofs::Trees::tree_bad))]
 fn tree_of(alloc: Global, text: &str) -> Result<Value, MessageFault>
     ensures { Gives view result (tree_of text.now) }
 {
@@ -39,7 +39,7 @@ fn tree_of(alloc: Global, text: &str) -> Result<Value, MessageFault>
     }
 }
 
-#[tactic(auto, unfolding(crate::specs::Tests::texts_in))]
+#[tactic(auto, using(crate::proofs::Trees::counted))]
 fn texts_in(tree: &Value) -> Result<Texts<'_>, MessageFault>
     ensures { Reads texts_view result (texts_in (view tree.now)) }
 {

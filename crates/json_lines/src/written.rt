@@ -88,6 +88,7 @@ fn last_text(bytes: &[u8]) -> Result<&[u8], MessageFault>
 }
 
 /// The bytes behind a front.
+#[tactic(auto, using(crate::proofs::Quotes::behind_yes, crate::proofs::Quotes::behind_no))]
 fn behind<'a>(front: &[u8], bytes: &'a [u8]) -> Result<&'a [u8], MessageFault>
     ensures { Reads (λ t. t.now) result (behind front.now bytes.now) }
 {
@@ -98,6 +99,7 @@ fn behind<'a>(front: &[u8], bytes: &'a [u8]) -> Result<&'a [u8], MessageFault>
 }
 
 /// The bytes before the first quote, and those behind it.
+#[tactic(auto, using(crate::proofs::Quotes::quoted_none))]
 fn quoted(bytes: &[u8]) -> Result<(&[u8], &[u8]), MessageFault>
     ensures { Reads (λ p. (p.0.now, p.1.now)) result (quoted bytes.now) }
 {

@@ -6,7 +6,7 @@ use Rattle.spans.specs.declared.calls.messages.Message.TheVariants as messages
 use Rattle.replica.specs.declared.replica.Replica.{Replica}
 use Rattle.replica.specs.Replicas.{view_in, through_in, Follows}
 use Rattle.replica.specs.Starts.{Start, seeded_start, initial_start, IsStartOf}
-use Rattle.replica.specs.Right.{ReplicaIsRight}
+use Rattle.replica.specs.Right.{IsCompleteAt, ReplicaIsRight}
 use Rattle.replica.proofs.Following.{view_join, at_join, through_is, ready_row}
 use Rattle.replica.proofs.Seeding.{among_part}
 use Rattle.replica.proofs.Again.{again_ready, new_above}
@@ -27,8 +27,12 @@ complete_seen p feed s r before starts follows = grind (arith, common_steps)
 
 -- a seed that is complete at a timestamp is the map there
 seed_whole : (initial : Bool) (m part : Map) (cursor t : ℕ) (x : List ℕ) → cond initial None (Some cursor) ≡ Some t → (cursor ≡ t → part x ≡ m x) → cond initial (λ y. None) part x ≡ m x
-seed_whole true m part cursor t x is same = cc
-seed_whole false m part cursor t x is same = same cc
+seed_whole initial m part cursor t x is same = grind (arith, common_steps)
+
+-- after a resolved message a replica is complete at its timestamp, if what the messages make of its first rows is the map there
+complete_at : (p : List Effect) (feed : Feed) (s : Start) (r : Replica) (before : List Message) (t : ℕ) → Follows r s (before ++ messages.Resolved t ∷ [])
+    → ((x : List ℕ) → view_of s.rows before x ≡ span_part feed.span (map_at p t) x) → IsCompleteAt p feed r t
+complete_at p feed s r before t follows views = record { complete = grind (arith, common_steps, follows.complete, at_join); rows = λ x. grind (arith, common_steps, follows.rows x, view_join, views x) }
 
 -- what is told after the messages that a replica has taken is above where it was told all
 told_above : (r : Replica) (s : Start) (before rest : List Message) (n : ℕ) → AllTaken s.span s.start [] (before ++ rest) → Follows r s before → through_in r ≡ Some n → AllAbove n rest
@@ -39,15 +43,8 @@ pub replica_is_right : (p : List Effect) (f : ℕ) (feed : Feed) (s : Start) →
     → ReplicaIsRight p f feed s
 replica_is_right p f feed s starts right complete others fed fed_others = record {
   takes = subst (λ i. AllTaken i s.start [] (told_to p f)) (sym starts.span) (subst (λ n. AllTaken feed.span n [] (told_to p f)) (sym starts.start) right.takes);
-  complete = λ r before rest t told follows. record {
-    complete = follows.complete ∙ at_join s.first before (messages.Resolved t ∷ []);
-    rows = λ x. follows.rows x ∙ ap (λ (m : Map). m x) (view_join s.rows before (messages.Resolved t ∷ []))
-        ∙ view_like s.rows (seed_of feed.kind p feed.span feed.cursor) before x starts.rows ∙ right.views before rest t told x;
-  };
-  whole = λ r t follows is x.
-      let first : cond feed.kind.initial None (Some feed.cursor) ≡ Some t = sym starts.first ∙ sym follows.complete ∙ is in
-      follows.rows x ∙ starts.rows x
-      ∙ seed_whole feed.kind.initial (span_part feed.span (map_at p t)) (span_part feed.span (map_at p feed.cursor)) feed.cursor t x first (λ at. ap (λ k. span_part feed.span (map_at p k) x) at);
+  complete = λ r before rest t told follows. complete_at p feed s r before t follows (λ x. view_like s.rows (seed_of feed.kind p feed.span feed.cursor) before x starts.rows ∙ right.views before rest t told x);
+  whole = λ r t follows is x. grind (arith, common_steps, follows.rows x, starts.rows x);
   through = λ r before rest n told follows is. complete.above before rest n told (sym (complete_seen p feed s r before starts follows) ∙ is);
   ready = λ r before rest m n told follows is x.
       let shown = ready_row r m n s before follows is in
@@ -61,12 +58,8 @@ replica_is_right p f feed s starts right complete others fed fed_others = record
       let at = complete_is (start_of feed) feed.cursor n before (sym (complete_seen p feed s r before starts follows) ∙ is) in
       let seen : (y : List ℕ) → s'.rows y ≡ seen_after p feed before y = λ y. from.rows y ∙ view_seen p feed s r before starts follows y in record {
         takes = taken;
-        complete = λ r' again later t told_again follows'. record {
-          complete = follows'.complete ∙ at_join s'.first again (messages.Resolved t ∷ []);
-          rows = λ x. follows'.rows x ∙ ap (λ (m : Map). m x) (view_join s'.rows again (messages.Resolved t ∷ []))
-              ∙ view_like s'.rows (seen_after p feed before) again x seen
-              ∙ complete.repeats before rest n told (sym (complete_seen p feed s r before starts follows) ∙ is) g next opened goes again later t told_again x;
-        };
+        complete = λ r' again later t told_again follows'. complete_at p feed s' r' again t follows' (λ x. view_like s'.rows (seen_after p feed before) again x seen
+            ∙ complete.repeats before rest n told (sym (complete_seen p feed s r before starts follows) ∙ is) g next opened goes again later t told_again x);
         through = λ r' again later k told_again follows' is'. told_above r' s' again later k (subst (AllTaken s'.span s'.start []) told_again taken) follows' is';
         ready = λ r' again later m k told_again follows' is' past x.
             let shown = ready_row r' m k s' again follows' is' in

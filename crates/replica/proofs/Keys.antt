@@ -1,7 +1,7 @@
 -- The keys of a value, as they are copied.
 use Rattle.replica.proofs.Common.{BTreeSet, IsIn, RisingKeys, append-nil, common_steps}
 use Rattle.std.proofs.Common.{arith}
-use Rattle.std.proofs.Common.{◌≡◌, ℕ, true, List, [], ◌∷◌, ◌++◌, Option, Some, Result, Ok, Err, sym, ◌∙◌, ap, subst}
+use Rattle.std.proofs.Common.{◌≡◌, ℕ, true, List, [], ◌∷◌, ◌++◌, Option, Some, Result, Ok, Err}
 use Rattle.std.specs.Prelude.{IfOk, ◌↔◌}
 use Rattle.replica.specs.Indexes.{Keyed, is_among, is_listed, IsIndexOf}
 use Rattle.replica.specs.Rows.{value_at, AreKeysWith}
@@ -13,25 +13,15 @@ pub copied_more : (done rest next all : List (List ℕ)) (key copy : List ℕ) �
 copied_more done rest next all key copy so_far step same = grind (arith, common_steps)
 
 pub copied_all : (done rest all : List (List ℕ)) → done ++ rest ≡ all → rest ≡ [] → done ≡ all
-copied_all done rest all so_far none = sym (append-nil done) ∙ ap (λ l. done ++ l) (sym none) ∙ so_far
+copied_all done rest all so_far none = grind (arith, common_steps, append-nil)
 
--- the keys of a set are those that it is asked for
-pub in_set : (keys : List (List ℕ)) (s : BTreeSet (List ℕ)) (o : Option (BTreeSet (List ℕ))) (x : List ℕ) → keys ≡ s.keys → o ≡ Some s → IsIn x keys ↔ (is_among o x ≡ true)
-in_set keys s o x all some = subst (λ p. IsIn x keys ↔ (is_among p x ≡ true)) (sym some) (subst (λ ks. IsIn x ks ↔ (is_among (Some s) x ≡ true)) (sym all) (is_in_set s.keys x))
-
--- of a result that is a list of keys
+-- the keys of a set, in a result, are those that it is asked for
 pub keys_in_set : {T E : Type 0} (items : T → List (List ℕ)) (r : Result T E) (s : BTreeSet (List ℕ)) (o : Option (BTreeSet (List ℕ))) → o ≡ Some s → IfOk r (λ t. items t ≡ s.keys)
     → IfOk r (λ t. (x : List ℕ) → IsIn x (items t) ↔ (is_among o x ≡ true))
-keys_in_set items (Ok t) s o some all = λ x. in_set (items t) s o x all some
+keys_in_set items (Ok t) s o some all = λ x. rw (all, some) (is_in_set s.keys x)
 keys_in_set items (Err e) s o some all = tt
 
 pub keys_with : {T E : Type 0} (items : T → List (List ℕ)) (r : Result T E) (rows : List (List ℕ × List ℕ)) (index : Keyed) (v : List ℕ) → IsIndexOf rows index
     → IfOk r (λ t. RisingKeys (items t)) → IfOk r (λ t. (x : List ℕ) → IsIn x (items t) ↔ (is_listed index x v ≡ true)) → IfOk r (λ t. AreKeysWith (value_at rows) v (items t))
-keys_with items (Ok t) rows index v tied rising exact = record {
-  rising = rising;
-  each = λ x. (
-    λ i. (has_some (value_at rows x) v).0 (sym (tied x v) ∙ (exact x).0 i),
-    λ e. (exact x).1 (tied x v ∙ (has_some (value_at rows x) v).1 e),
-  );
-}
+keys_with items (Ok t) rows index v tied rising exact = record { rising = rising; each = λ x. grind (arith, common_steps, exact x, tied x v, has_some (value_at rows x) v) }
 keys_with items (Err e) rows index v tied rising exact = tt

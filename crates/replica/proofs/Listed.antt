@@ -1,8 +1,8 @@
 -- What is listed after the keys of one value changed.
-use Rattle.replica.proofs.Common.{BTreeMap, BTreeSet, by_test, common_steps, is_at, key_cmp, lookup, same_key}
+use Rattle.replica.proofs.Common.{BTreeSet, by_test, common_steps, is_at, key_cmp, lookup, same_key}
 use Rattle.std.proofs.Common.{arith}
 use Rattle.std.proofs.Common.{rules}
-use Rattle.std.proofs.Common.{◌≡◌, ℕ, false, cond, ◌&&◌, ◌||◌, List, Option, sym, subst}
+use Rattle.std.proofs.Common.{◌≡◌, ℕ, false, cond, ◌&&◌, ◌||◌, List, Option}
 use Rattle.std.specs.Prelude.{bytes_eq}
 use Rattle.std.proofs.lemmas.Map.Text.{is_eq-slice_cmp}
 use Rattle.replica.specs.Indexes.{Keyed, is_among, is_listed}
@@ -22,20 +22,11 @@ pub listed_more : (es fs : Keyed) (x v : List ℕ) (w : Option (BTreeSet (List �
     → (y u : List ℕ) → is_listed fs y u ≡ ((bytes_eq v u && bytes_eq x y) || is_listed es y u)
 listed_more es fs x v w put among y u = search (by_test, at_bytes, same_key, rules, arith)
 
--- the same of a map that is the one after a write
-pub listed_put : (m n k : BTreeMap (List ℕ) (BTreeSet (List ℕ))) (x z v c : List ℕ) (w : Option (BTreeSet (List ℕ))) → n ≡ k → z ≡ x → c ≡ v → ArePutAt m.entries k.entries c w
-    → ((y : List ℕ) → is_among w y ≡ (bytes_eq z y || is_listed m.entries y c))
-    → (y u : List ℕ) → is_listed n.entries y u ≡ ((bytes_eq v u && bytes_eq x y) || is_listed m.entries y u)
-listed_put m n k x z v c w is key value put among =
-    subst (λ b. (y u : List ℕ) → is_listed n.entries y u ≡ ((bytes_eq b u && bytes_eq x y) || is_listed m.entries y u)) value
-    (subst (λ l. (y u : List ℕ) → is_listed l.entries y u ≡ ((bytes_eq c u && bytes_eq x y) || is_listed m.entries y u)) (sym is)
-    (listed_more m.entries k.entries x c w put (subst (λ b. (y : List ℕ) → is_among w y ≡ (bytes_eq b y || is_listed m.entries y c)) key among)))
-
 pub listed_less : (es fs : Keyed) (x v : List ℕ) (w : Option (BTreeSet (List ℕ))) → ArePutAt es fs v w → ((y : List ℕ) → is_among w y ≡ cond (bytes_eq x y) false (is_listed es y v))
     → (y u : List ℕ) → is_listed fs y u ≡ cond (bytes_eq v u && bytes_eq x y) false (is_listed es y u)
 listed_less es fs x v w put among y u = search (by_test, at_bytes, same_key, rules, arith)
 
 -- the keys of v are the same ones
-pub listed_same : (m n k : BTreeMap (List ℕ) (BTreeSet (List ℕ))) (v : List ℕ) (w : Option (BTreeSet (List ℕ))) → n ≡ k → ArePutAt m.entries k.entries v w → ((y : List ℕ) → is_among w y ≡ is_listed m.entries y v)
-    → (y u : List ℕ) → is_listed n.entries y u ≡ is_listed m.entries y u
-listed_same m n k v w is put among y u = search (by_test, at_bytes, same_key, rules, arith)
+pub listed_same : (es fs : Keyed) (v : List ℕ) (w : Option (BTreeSet (List ℕ))) → ArePutAt es fs v w → ((y : List ℕ) → is_among w y ≡ is_listed es y v)
+    → (y u : List ℕ) → is_listed fs y u ≡ is_listed es y u
+listed_same es fs v w put among y u = search (by_test, at_bytes, same_key, rules, arith)

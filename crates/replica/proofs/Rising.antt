@@ -1,7 +1,7 @@
 -- Rows and keys that rise, and what they say of a map.
 use Rattle.replica.proofs.Common.{AllByRecursion, IsIn, IsPairIn, KeysRise, Less, Span, by_test, common_steps, false_from_ne_true, in_span, is_at, key_clash, key_cmp, key_itself, keys_of, list_any, or_cases, or_left, or_right, same_key}
 use Rattle.std.proofs.Common.{rules}
-use Rattle.std.proofs.Common.{◌≡◌, ℕ, zero, suc, ◌+◌, ◌<◌, true, List, [], ◌∷◌, length, get_or, Some, refl, subst, inl, inr, arith}
+use Rattle.std.proofs.Common.{◌≡◌, ℕ, zero, suc, ◌+◌, ◌<◌, true, List, [], ◌∷◌, length, get_or, Some, refl, inl, inr, arith}
 use Rattle.std.specs.Prelude.{◌↔◌}
 use Rattle.std.specs.List.Sorted.{IsStrictlySortedBy}
 use Rattle.replica.specs.Rows.{value_at, AreRowsOf}
@@ -39,13 +39,10 @@ is_in_set (k ∷ ks) x = search (or_left, at_bytes, key_itself, or_right, or_cas
 
 -- rising keys at neighbouring places
 pub rise_at : (es : Pairs) (i : ℕ) (d : List ℕ × List ℕ) → KeysRise es → i + 1 < length es → key_cmp (get_or es i d).0 (get_or es (i + 1) d).0 ≡ Less
-rise_at es i d rising low = subst (λ j. key_cmp (get_or es i d).0 (get_or es j d).0 ≡ Less) (omega arith) (at_suc es i rising (omega arith))
-  where
-    at_suc : (fs : Pairs) (j : ℕ) → KeysRise fs → suc j < length fs → key_cmp (get_or fs j d).0 (get_or fs (suc j) d).0 ≡ Less
-    at_suc [] j r l = absurd (omega arith)
-    at_suc (e ∷ []) j r l = absurd (omega arith)
-    at_suc (e ∷ f ∷ fs) zero r l = r.0 f.0 f.1 (inl (refl, refl))
-    at_suc (e ∷ f ∷ fs) (suc j) r l = at_suc (f ∷ fs) j r.1 (omega arith)
+rise_at [] i d rising low = absurd (omega arith)
+rise_at (e ∷ []) i d rising low = absurd (omega arith)
+rise_at (e ∷ f ∷ fs) zero d rising low = rising.0 f.0 f.1 (inl (refl, refl))
+rise_at (e ∷ f ∷ fs) (suc i) d rising low = grind (arith, common_steps, rise_at (f ∷ fs) i d rising.1)
 
 pub keys_at : (es : Pairs) (i : ℕ) (d : List ℕ × List ℕ) → get_or (keys_of es) i d.0 ≡ (get_or es i d).0
 keys_at [] i d = refl
@@ -55,10 +52,7 @@ keys_at (e ∷ es) (suc i) d = keys_at es i d
 -- what holds of each row by its place holds of each pair
 pub inside_all : (s : Span) (es : Pairs) → ((k : ℕ) (d : List ℕ × List ℕ) → k < length es → in_span s (get_or es k d).0 ≡ true) → AreInside s es
 inside_all s [] all x v i = absurd i
-inside_all s (e ∷ es) all x v i = elim i [
-  | inl here ↦ subst (λ z. in_span s z ≡ true) here.0 (all zero e (omega arith))
-  | inr there ↦ inside_all s es (λ k d l. all (suc k) d (omega arith)) x v there
-]
+inside_all s (e ∷ es) all x v i = grind (arith, common_steps, all zero e, inside_all s es (λ k d l. all (suc k) d (omega arith)) x v)
 
 pub all_inside : (s : Span) (es : Pairs) → AreInside s es → (k : ℕ) (d : List ℕ × List ℕ) → k < length es → in_span s (get_or es k d).0 ≡ true
 all_inside s [] inside k d l = absurd (omega arith)

@@ -1,16 +1,13 @@
 -- A map that is made of rising rows, one after another.
 use Rattle.std.proofs.Common.{arith}
 use Rattle.std.proofs.Common.{rules}
-use Rattle.std.proofs.Common.{◌≡◌, ℕ, false, cond, List, [], ◌∷◌, ◌++◌, map, Option, Some, None, refl, sym, ◌∙◌, ap}
+use Rattle.std.proofs.Common.{◌≡◌, ℕ, cond, List, [], ◌∷◌, ◌++◌, Option, Some, None, refl, sym, ◌∙◌, ap}
 use Rattle.std.specs.Prelude.{bytes_eq}
 use Rattle.replica.proofs.Common.{AreRows, IsPairIn, KeysRise, Less, Map, Span, among_rows, both_ways, by_test, in_span, key_clash, key_cmp, pair_among, put, same_key, span_part, value_among}
+use Rattle.replica.proofs.Rests.{none_of}
 
 abbrev Pairs : Type 0
 Pairs = List (List ℕ × List ℕ)
-
-pub map_same : (es : Pairs) → map (λ (y : List ℕ × List ℕ). y) es ≡ es
-map_same [] = refl
-map_same (e ∷ es) = ap (λ l. e ∷ l) (map_same es)
 
 -- the map with the rows put in, in turn
 abbrev pub puts : Map → Pairs → Map
@@ -31,17 +28,12 @@ value_or_none (Some v) = refl
 
 -- a key below all others isn't among them
 none_below : (y : List ℕ) (es : Pairs) → ((x v : List ℕ) → IsPairIn es x v → key_cmp y x ≡ Less) → value_among es y ≡ None
-none_below y es below = by_value (value_among es y) refl
-  where
-    by_value : (o : Option (List ℕ)) → value_among es y ≡ o → value_among es y ≡ None
-    by_value None e = e
-    by_value (Some v) e = absurd (let before : key_cmp y y ≡ Less = below y v (pair_among es y v e) in key_clash y y before before)
+none_below y es below = none_of (value_among es y) (λ v e. let before : key_cmp y y ≡ Less = below y v (pair_among es y v e) in key_clash y y before before)
 
 puts_among : (m : Map) (es : Pairs) (x : List ℕ) → KeysRise es → puts m es x ≡ value_or (value_among es x) (m x)
 puts_among m [] x rising = refl
 puts_among m (e ∷ es) x rising = puts_among (put m e.0 (Some e.1)) es x rising.1 ∙ by_test (bytes_eq e.0 x)
-    (λ here.
-    search (same_key, none_below, rules, arith))
+    (λ here. search (same_key, none_below, rules, arith))
     (λ there. rw there refl)
 
 -- rows that rise, put into an empty map, are what the map has
@@ -57,8 +49,4 @@ put_more m n es k v is put_at x = put_at x ∙ ap (λ o. cond (bytes_eq k x) (So
 pub among_part : (span : Span) (m : Map) (rows : Pairs) → AreRows span m rows → (x : List ℕ) → value_among rows x ≡ span_part span m x
 among_part span m rows are x = by_test (in_span span x)
     (λ inside. rw inside (among_rows span m rows are x inside))
-    (λ outside. rw outside (by_value outside (value_among rows x) refl))
-  where
-    by_value : in_span span x ≡ false → (o : Option (List ℕ)) → value_among rows x ≡ o → value_among rows x ≡ None
-    by_value outside None e = e
-    by_value outside (Some v) e = absurd (both_ways _ outside ((are.each x v).0 (pair_among rows x v e)).0)
+    (λ outside. rw outside (none_of (value_among rows x) (λ v e. both_ways _ outside ((are.each x v).0 (pair_among rows x v e)).0)))

@@ -1,6 +1,6 @@
 -- The tests of the rows that a replica begins with.
 use Rattle.replica.proofs.Common.{KeysRise, Less, Span, common_steps, in_span, key_cmp, keys_of}
-use Rattle.std.proofs.Common.{◌≡◌, ℕ, zero, suc, ◌+◌, ◌-◌, ◌<◌, ◌≤◌, true, false, List, [], ◌∷◌, length, get_or, refl, sym, ◌∙◌, ap, arith}
+use Rattle.std.proofs.Common.{◌≡◌, ℕ, zero, suc, ◌+◌, ◌-◌, ◌<◌, ◌≤◌, true, false, List, [], ◌∷◌, length, get_or, refl, arith}
 use Rattle.std.proofs.lemmas.Cmp.{nat_list_cmp_total}
 use Rattle.std.proofs.lemmas.Map.Keys.{sorted_from_all_adjacent}
 use Rattle.std.proofs.lemmas.Map.Entries.{length-keys_of}
@@ -23,7 +23,7 @@ inside_more s es i x so_far low is inside k d below = grind (arith, common_steps
 
 -- one of them doesn't
 pub outside_at : (s : Span) (es : Pairs) (i : ℕ) (x : List ℕ × List ℕ) → i < length es → x ≡ get_or es i x → in_span s x.0 ≡ false → AreInsideTo s es (length es) → false ≡ true
-outside_at s es i x low is outside all = sym outside ∙ ap (λ (y : List ℕ × List ℕ). in_span s y.0) is ∙ all i x low
+outside_at s es i x low is outside all = grind (arith, common_steps, all i x low)
 
 -- the first n rows rise
 abbrev pub AreRisingTo : Pairs → ℕ → Type 0
@@ -34,13 +34,9 @@ rising_more es i x y so_far some low first second less k d below = grind (arith,
 
 pub rising_all : (es : Pairs) → AreRisingTo es (length es) → KeysRise es
 rising_all es all = rows_rise es (sorted_from_all_adjacent nat_list_cmp_total (keys_of es) [] (λ k low.
-    let below : k + 1 < length es = omega (arith, length-keys_of es) in
-    let d : List ℕ × List ℕ = ([], []) in
-    ap (λ x. key_cmp x (get_or (keys_of es) (k + 1) [])) (keys_at es k d) ∙ ap (λ x. key_cmp (get_or es k d).0 x) (keys_at es (k + 1) d) ∙ all k d below))
+    grind (arith, common_steps, length-keys_of es, keys_at es k ([], []), keys_at es (k + 1) ([], []), all k ([], []))))
 
 -- two neighbours of rising rows rise
 pub rising_at : (es : Pairs) (i : ℕ) (x y : List ℕ × List ℕ) → KeysRise es → 1 ≤ i → i < length es → x ≡ get_or es (i - 1) x → y ≡ get_or es i y → key_cmp x.0 y.0 ≡ Less
 rising_at es i x y rising some low first second =
-    let next : (i - 1) + 1 ≡ i = omega arith in
-    let y_is : y ≡ get_or es ((i - 1) + 1) x = second ∙ at_any es i y x low ∙ ap (λ j. get_or es j x) (sym next) in
-    ap (λ (p : List ℕ × List ℕ). key_cmp p.0 y.0) first ∙ ap (λ (p : List ℕ × List ℕ). key_cmp (get_or es (i - 1) x).0 p.0) y_is ∙ rise_at es (i - 1) x rising (omega arith)
+    grind (arith, common_steps, at_any es i y x low, rise_at es (i - 1) x rising)

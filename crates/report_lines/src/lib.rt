@@ -44,7 +44,7 @@ pub fn write_report(report: &Report, out: &mut Vec<u8>) -> Result<(), AllocError
     or_undo(out, length_before, written)
 }
 
-#[tactic(auto, using(json_lines::proofs::Writing::keeping), unfolding(crate::specs::Lines::report_text))]
+#[tactic(auto, using(json_lines::proofs::Writing::keeping, json_lines::proofs::Writing::on_error), unfolding(crate::specs::Lines::report_text))]
 fn put_report(out: &mut Vec<u8>, report: &Report) -> Result<(), AllocError>
     ensures ok { OnOk result (out.new.items ≡ out.old.items ++ report_text report.now) }
     ensures err { OnErr result (Keeps out.old.items out.new.items) }

@@ -165,7 +165,7 @@ fn put_feed(out: &mut Vec<u8>, closed: u64, feed: &FeedReport) -> Result<(), All
 }
 
 /// Writes a line for each undecided transaction.
-#[tactic(auto, using(json_lines::proofs::Writing::keeping))]
+#[tactic(auto, using(json_lines::proofs::Writing::keeping, json_lines::proofs::Writing::on_error))]
 pub(crate) fn put_transactions(
     out: &mut Vec<u8>,
     transactions: &[TransactionReport],
@@ -180,7 +180,7 @@ pub(crate) fn put_transactions(
 }
 
 /// Writes a line for each protection.
-#[tactic(auto, using(json_lines::proofs::Writing::keeping))]
+#[tactic(auto, using(json_lines::proofs::Writing::keeping, json_lines::proofs::Writing::on_error))]
 pub(crate) fn put_protections(
     out: &mut Vec<u8>,
     protections: &[ProtectionReport],
@@ -195,7 +195,7 @@ pub(crate) fn put_protections(
 }
 
 /// Writes a line for each feed, where the database is closed so far.
-#[tactic(auto, using(json_lines::proofs::Writing::keeping))]
+#[tactic(auto, using(json_lines::proofs::Writing::keeping, json_lines::proofs::Writing::on_error))]
 pub(crate) fn put_feeds(
     out: &mut Vec<u8>,
     closed: u64,

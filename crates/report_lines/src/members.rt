@@ -25,6 +25,7 @@ pub(crate) enum Member<'a> {
 }
 
 /// Writes a line of this kind with these members.
+#[tactic(auto, using(json_lines::proofs::Writing::keeping, json_lines::proofs::Writing::on_error), unfolding(crate::specs::Members::line_of, crate::specs::Lines::begins))]
 pub(crate) fn put_line(out: &mut Vec<u8>, kind: &[u8], members: &[Member]) -> Result<(), AllocError>
     ensures ok { OnOk result (out.new.items ≡ out.old.items ++ line_of kind.now members.now) }
     ensures err { OnErr result (Keeps out.old.items out.new.items) }
@@ -54,6 +55,7 @@ fn put_member(out: &mut Vec<u8>, member: &Member) -> Result<(), AllocError>
     }
 }
 
+#[tactic(auto, using(json_lines::proofs::Writing::keeping, json_lines::proofs::Writing::on_error), unfolding(crate::specs::Lines::member, crate::specs::Lines::quoted))]
 fn put_number_member(out: &mut Vec<u8>, name: &[u8], n: u64) -> Result<(), AllocError>
     ensures ok { OnOk result (out.new.items ≡ out.old.items ++ member name.now (number n)) }
     ensures err { OnErr result (Keeps out.old.items out.new.items) }
@@ -63,6 +65,7 @@ fn put_number_member(out: &mut Vec<u8>, name: &[u8], n: u64) -> Result<(), Alloc
     out.extend_from_slice(b"\"")
 }
 
+#[tactic(auto, using(json_lines::proofs::Writing::keeping, json_lines::proofs::Writing::on_error), unfolding(crate::specs::Lines::member, crate::specs::Lines::quoted))]
 fn put_bytes_member(out: &mut Vec<u8>, name: &[u8], of: &[u8]) -> Result<(), AllocError>
     ensures ok { OnOk result (out.new.items ≡ out.old.items ++ member name.now (bytes of.now)) }
     ensures err { OnErr result (Keeps out.old.items out.new.items) }
@@ -73,6 +76,7 @@ fn put_bytes_member(out: &mut Vec<u8>, name: &[u8], of: &[u8]) -> Result<(), All
 }
 
 /// Writes texts, one behind the other.
+#[tactic(auto, using(json_lines::proofs::Writing::keeping, json_lines::proofs::Writing::on_error))]
 fn put_parts(out: &mut Vec<u8>, parts: &[&[u8]]) -> Result<(), AllocError>
     ensures ok { OnOk result (out.new.items ≡ out.old.items ++ flat_map (λ part. part.now) parts.now) }
     ensures err { OnErr result (Keeps out.old.items out.new.items) }

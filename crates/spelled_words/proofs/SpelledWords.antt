@@ -1,6 +1,6 @@
 -- Spelled bytes and words, one to one.
 use Rattle.spelled_words.proofs.Common.{append-nil, cases_Bool, common_steps, eqb-false, eqb-true, flat_map, leb-true}
-use Rattle.std.proofs.Common.{◌≡◌, ℕ, ◌+◌, ◌*◌, ◌-◌, ◌%◌, ◌<◌, ◌≤◌, Bool, true, false, cond, List, [], ◌∷◌, length, Option, Some, None, refl, sym, ap, subst, ◌∙◌, inl, inr, arith}
+use Rattle.std.proofs.Common.{◌≡◌, ℕ, ◌+◌, ◌*◌, ◌<◌, ◌≤◌, Bool, true, false, cond, List, [], ◌∷◌, length, Option, Some, None, refl, sym, ap, subst, ◌∙◌, inl, inr, arith}
 use Rattle.std.specs.Prelude.{codes, bytes_eq, ◌&&◌, ◌==◌, nat_le, option_and_then}
 use Rattle.std.proofs.lemmas.Slice.Eq.{bytes_eq-Decides}
 use Rattle.spelled_words.specs.Spelling.{is_plain, hex_value, escape, escaped, spelled, spelling, with_front, unspelled, bytes_of, AreBytes}

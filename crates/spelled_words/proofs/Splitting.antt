@@ -90,20 +90,17 @@ pub empty_more : (h a : Bool) (text : List ℕ) (i : ℕ) (total : Bool) → i <
 empty_more h a text i total lt so_far = grind (arith, common_steps)
 
 length_onto : (b : ℕ) (parts : List (List ℕ)) → 0 < length parts → length (onto_first b parts) ≡ 0 + length parts
-length_onto b [] some = absurd (omega arith)
-length_onto b (part ∷ parts) some = omega arith
+length_onto b parts some = grind arith
 
 count_step : (s : Bool) (b : ℕ) (text : List ℕ) → is_space b ≡ s → length (words (b ∷ text)) ≡ (cond s 1 0) + length (words text)
 count_step true b text e = ap length (slice_split-cons_yes is_space b text e) ∙ omega arith
 count_step false b text e = ap length (slice_split-cons_no is_space b text e) ∙ length_onto b (words text) (words_some text)
 
 pub at_most_one : (s : Bool) → from_bool s ≤ 1
-at_most_one true = omega arith
-at_most_one false = omega arith
+at_most_one s = grind arith
 
 as_number : (s : Bool) → cond s 1 0 ≡ from_bool s
-as_number true = refl
-as_number false = refl
+as_number s = grind arith
 
 pub count_more : (n : ℕ) (text : List ℕ) (i total : ℕ) → i < length text → n + length (words (drop i text)) ≡ total → (n + from_bool (is_space (get_or text i 0))) + length (words (drop (i + 1) text)) ≡ total
 count_more n text i total lt so_far = grind (arith, common_steps, at_drop_more, count_step, as_number)

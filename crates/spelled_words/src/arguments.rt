@@ -89,7 +89,7 @@ fn take_bound(alloc: Global, words: &mut Words, format: Format) -> Result<Option
 }
 
 /// A span: its lower and its upper bound.
-#[tactic(auto, unfolding(crate::specs::Reading::span_at))]
+#[tactic(auto, using(crate::proofs::LongWords::behind_bound, crate::proofs::LongWords::long_behind), unfolding(crate::specs::Reading::span_at))]
 pub fn take_span(alloc: Global, words: &mut Words, format: Format) -> Result<Span, ReadError>
     ensures exact { Takes result words.new (span_at format words.old) }
     ensures memory { IfErr result (λ e. e ≡ NoMemory → has_long 2 words.old ≡ true) }
@@ -101,7 +101,7 @@ pub fn take_span(alloc: Global, words: &mut Words, format: Format) -> Result<Spa
 
 /// A number, and behind it a key.
 #[inline(always)]
-#[tactic(auto, unfolding(crate::specs::Reading::number_and_key_at))]
+#[tactic(auto, using(crate::proofs::LongWords::left_long, crate::proofs::LongWords::behind_number), unfolding(crate::specs::Reading::number_and_key_at))]
 pub fn take_number_and_key(
     alloc: Global,
     words: &mut Words,
@@ -116,7 +116,7 @@ pub fn take_number_and_key(
 }
 
 /// A number, and behind it a span.
-#[tactic(auto, unfolding(crate::specs::Reading::number_and_span_at))]
+#[tactic(auto, using(crate::proofs::LongWords::left_long, crate::proofs::LongWords::behind_number), unfolding(crate::specs::Reading::number_and_span_at))]
 pub fn take_number_and_span(
     alloc: Global,
     words: &mut Words,

@@ -131,6 +131,7 @@ impl<'a> Words<'a> {
 }
 
 /// The first word of a text, and what stands behind the space after it, where there is one.
+#[tactic(auto, using(crate::proofs::Splitting::words_alone, crate::proofs::Splitting::words_first, crate::proofs::Splitting::end_is))]
 fn first_word(text: &[u8]) -> (&[u8], Option<&[u8]>)
     ensures { words text.now ≡ result.0.now ∷ words_left result.1 }
 {

@@ -1,9 +1,6 @@
 use Rattle.json_lines.specs.TextsView.{texts_view}
-use Rattle.json_lines.proofs.Readings.{read_found, read_whole, read_unresolved, unwritten}
+use Rattle.json_lines.proofs.Readings.{read_found, read_whole, read_unresolved}
 use Rattle.json_lines.proofs.reading.read_written.Goals as goal
-
-pub returns-in_default-clause-whole : goal.returns-in_default-clause-whole
-returns-in_default-clause-whole c = λ m lawful is. absurd (unwritten c.args.format c.args.line.now c.in_default.field-0 c.in_default.ensures m lawful is)
 
 pub returns-clause-found : goal.returns-clause-found
 returns-clause-found c = read_found c.args.format c.args.line.now (texts_view c.in-Ok.texts) c.message_of.result c.in-Ok.ensures c.message_of.ensures.lawful c.message_of.ensures.found

@@ -1,4 +1,4 @@
-use Rattle.std.proofs.Common.{ap, sym, subst, refl, ◌≡◌, ◌∙◌, Some, None}
+use Rattle.std.proofs.Common.{ap, sym, refl, ◌≡◌, ◌∙◌, Some, None}
 use Rattle.replica.specs.Tests.{fault_in}
 use Rattle.replica.proofs.Rests.{none_of}
 use Rattle.replica.proofs.Following.{fault_is, takes_resolved, resolved_above}
@@ -12,4 +12,4 @@ returns-in-Resolved-clause-ok c =
     let none : fault_in c.args.self.now c.args.message ≡ None = sym c.fault.ensures ∙ none_of c.fault.result c.in_default.not-Some in
     let at : c.get-at.result ≡ c.in-Resolved.ts = c.get-at.ensures.number in
     rw c.in-Resolved.is (takes_resolved c.args.self.now (record c.args.self.now { resolved = c.get-at.result; floor = c.get-at.result; complete = Some c.get-at.result }) c.in-Resolved.ts
-    refl refl (resolved_above c.args.self.now c.in-Resolved.ts (subst (λ m. fault_in c.args.self.now m ≡ None) c.in-Resolved.is none)) at refl (ap Some at) refl at)
+    refl refl (resolved_above c.args.self.now c.in-Resolved.ts (rw c.in-Resolved.is at none)) at refl (ap Some at) refl at)

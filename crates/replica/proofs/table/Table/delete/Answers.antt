@@ -1,6 +1,9 @@
 use Rattle.std.proofs.Common.{sym, None}
 use Rattle.replica.specs.Indexes.{is_listed}
 use Rattle.replica.specs.Rows.{value_at}
+use Rattle.std.proofs.Common.{arith}
+use Rattle.replica.proofs.Common.{common_steps}
+use Rattle.replica.proofs.Listed.{at_bytes}
 use Rattle.replica.proofs.Tied.{put_at, tied_less}
 use Rattle.replica.proofs.table.Table.delete.Goals as goal
 
@@ -11,4 +14,4 @@ invariant_of-self c = tied_less (value_at c.self.inside.rows.entries) (value_at 
     c.remove-in-Some.ensures
 
 pub returns-in-Some : goal.returns-in-Some
-returns-in-Some c = rw (← c.self.view_is) (put_at (value_at c.self.inside.rows.entries) (value_at c.remove.new.self.entries) c.args.key.now None c.in-Some.ensures.updates.0)
+returns-in-Some c = grind (arith, common_steps, at_bytes)

@@ -1,15 +1,17 @@
-use Rattle.std.proofs.Common.{ap, sym, ◌≡◌, ◌∙◌, Some, None, false}
+use Rattle.std.proofs.Common.{ap, sym, ◌≡◌, ◌∙◌, Some, false}
 use Rattle.replica.specs.Indexes.{is_listed}
 use Rattle.replica.specs.Rows.{value_at}
 use Rattle.replica.specs.Values.{has_value}
-use Rattle.replica.proofs.Putting.{is_put, ties_new, ties_other}
+use Rattle.std.proofs.Common.{arith}
+use Rattle.replica.proofs.Common.{common_steps}
+use Rattle.replica.proofs.Listed.{at_bytes}
+use Rattle.replica.proofs.Putting.{ties_new, ties_other}
 use Rattle.replica.proofs.table.Table.put.Goals as goal
 
 pub invariant_of-self-in-Ok-None : goal.invariant_of-self-in-Ok-None
 invariant_of-self-in-Ok-None c =
-    let none : value_at c.self.inside.rows.entries c.in_ok-own.own ≡ None = sym c.in-Ok-None.ensures.old ∙ c.in-Ok-None.field-0-is in
     ties_new c.self.inside.rows.entries c.insert.new.self.entries (is_listed c.self.inside.index) (is_listed c.add.new.self) c.in_ok-own.own c.args.key.now c.args.value
-    c.in_ok-own.ensures.bytes c.self.invariant none c.in-Ok-None.ensures.updates.0 c.in_ok-add.ensures.ok
+    c.in_ok-own.ensures.bytes c.self.invariant (sym c.in-Ok-None.ensures.old ∙ c.in-Ok-None.field-0-is) c.in-Ok-None.ensures.updates.0 c.in_ok-add.ensures.ok
 
 pub invariant_of-self-in-Ok-Some : goal.invariant_of-self-in-Ok-Some
 invariant_of-self-in-Ok-Some c =
@@ -19,9 +21,7 @@ invariant_of-self-in-Ok-Some c =
     c.in_ok-own.ensures.bytes c.self.invariant some apart c.in-Ok-Some.ensures.updates.0 c.in_ok-add.ensures.ok c.remove-in-Ok-Some.ensures
 
 pub returns-in-Ok-None-clause-ok : goal.returns-in-Ok-None-clause-ok
-returns-in-Ok-None-clause-ok c = rw (← c.self.view_is)
-    (is_put c.self.inside.rows.entries c.insert.new.self.entries c.in_ok-own.own c.args.key.now (Some c.args.value) c.in_ok-own.ensures.bytes c.in-Ok-None.ensures.updates.0)
+returns-in-Ok-None-clause-ok c = grind (arith, common_steps, at_bytes)
 
 pub returns-in-Ok-Some-clause-ok : goal.returns-in-Ok-Some-clause-ok
-returns-in-Ok-Some-clause-ok c = rw (← c.self.view_is)
-    (is_put c.self.inside.rows.entries c.insert.new.self.entries c.in_ok-own.own c.args.key.now (Some c.args.value) c.in_ok-own.ensures.bytes c.in-Ok-Some.ensures.updates.0)
+returns-in-Ok-Some-clause-ok c = grind (arith, common_steps, at_bytes)
