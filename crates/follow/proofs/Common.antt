@@ -10,7 +10,7 @@ unfoldable pub use Rattle.script.specs.Lines.{lines_of}
 pub use Rattle.script.specs.Lines.{is_newline}
 pub use Rattle.sessions.specs.Devices.{Reads, Writes}
 pub use Rattle.sessions.specs.NextLines.{HasReadOn, IsSought}
-pub use Rattle.sessions.specs.Waiting.{IsLine, has_ended, waiting}
+pub use Rattle.sessions.specs.Waiting.{IsLine, format_of, has_ended, waiting}
 pub use Rattle.sessions.specs.Writing.{HasBegun, HasTaken, pending_of}
 pub use Rattle.sessions.specs.declared.lines.Lines.{Lines}
 pub use Rattle.spans.specs.Consumer.{ApplyFault, apply_fault, view_of}

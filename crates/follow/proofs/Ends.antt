@@ -1,6 +1,7 @@
 -- A follower that stopped, once what is kept was written.
-use Rattle.std.proofs.Common.{◌≡◌, ◌≢◌, ℕ, ◌+◌, Bool, List, [], ◌++◌, refl, sym, ap, ◌∙◌, subst, arith, append-nil, append_assoc, inl, inr}
-use Rattle.follow.proofs.Common.{Message, Reads, Writes}
+use Rattle.std.proofs.Common.{◌≡◌, ◌≢◌, ℕ, ◌+◌, Bool, List, [], ◌++◌, refl, sym, ap, ◌∙◌, subst, arith, append-nil, inl, inr}
+use Rattle.follow.proofs.Common.{HasTaken, Message, Reads, Writes}
+use Rattle.sessions.proofs.Transcripts.{begun_on, taken_before, taken_on}
 use Rattle.follow.specs.declared.ending.FollowEnd.{FollowEnd}
 use Rattle.follow.specs.declared.ending.FollowEnd.TheVariants as ends
 use Rattle.follow.specs.declared.options.FollowOptions.{FollowOptions}
@@ -18,19 +19,11 @@ module _ (o : FollowOptions) (input : List ℕ) (ended : Bool) (ms : List Messag
   owed_at _ output ne owed = owed
 
   -- memory is wanted for the line of the end
-  comes_unlined : (e : FollowEnd) → HasLine e → ComesBy o input ended ms e → ComesBy o input ended ms ends.Memory
-  comes_unlined (ends.Fault line fault) lined (inl begun) = inl begun.1
-  comes_unlined (ends.Fault line fault) lined (inr stop) = inr (inr (inl (line, fault, stop)))
-  comes_unlined ends.Spent lined endless = inr (inl endless)
-  comes_unlined _ lined comes = absurd lined
-
-fails_unlined : (e : FollowEnd) (r r' : Reads) (w w' : Writes) → HasLine e → FailsAt e r w r' w' → FailsAt ends.Memory r w r' w'
-fails_unlined (ends.Fault line fault) r r' w w' lined f = f
-fails_unlined ends.Spent r r' w w' lined f = f
-fails_unlined _ r r' w w' lined f = absurd lined
-
-lined_else : (e : FollowEnd) → HasLine e → e ≢ ends.Output
-lined_else e lined is = let none : HasLine ends.Output = subst HasLine is lined in none
+  unlined : (e : FollowEnd) (r r' : Reads) (w w' : Writes) → HasLine e → ComesBy o input ended ms e → FailsAt e r w r' w' → ComesBy o input ended ms ends.Memory × FailsAt ends.Memory r w r' w' × (e ≢ ends.Output)
+  unlined (ends.Fault line fault) r r' w w' lined (inl begun) f = (inl begun.1, f, λ is. cc)
+  unlined (ends.Fault line fault) r r' w w' lined (inr stop) f = (inr (inr (inl (line, fault, stop))), f, λ is. cc)
+  unlined ends.Spent r r' w w' lined endless f = (inr (inl endless), f, λ is. cc)
+  unlined _ r r' w w' lined comes f = absurd lined
 
 -- all that was left is written, and no write fails
 fails_still : (e : FollowEnd) (r r' : Reads) (w w' w'' : Writes) → w''.failures ≡ w'.failures → FailsAt e r w r' w' → FailsAt e r w r' w''
@@ -49,41 +42,33 @@ module _ (o : FollowOptions) (r r' : Reads) (w w' : Writes) (kept : List ℕ) (e
   -- a write has failed before
   pub followed_cut : e ≡ ends.Output → IsFollowed o r r' w w' ends.Output
   followed_cut is =
-      followed_by ends.Output w' s.out s.wrote (ends.Output, s.told ++ [], (tt, (s.told, s.report, refl)), (s.rest, append-nil s.told ∙ s.left))
-      (subst (λ (x : FollowEnd). FailsAt x r w r' w') is s.failed)
+      let t = s.told.2 in
+      followed_by ends.Output w' t.part t.took (ends.Output, s.told.0 ++ [], (tt, (s.told.0, s.told.1, refl)), (s.rest, append-nil s.told.0 ∙ t.left)) (subst (λ (x : FollowEnd). FailsAt x r w r' w') is s.failed)
 
-  -- what was left, and the line of the end, is written, or a write fails
-  pub followed_told : (kept' : List ℕ) (w'' : Writes) (e' : FollowEnd) → e ≢ ends.Output → kept' ≡ kept ++ last_line e → EndsWritten kept' e w' w'' e' → IsFollowed o r r' w w'' e'
-  followed_told kept' w'' e' ne keeps written =
-      let whole : s.told ++ last_line e ≡ s.out ++ kept' = ap (λ (xs : List ℕ). xs ++ last_line e) (s.left ∙ ap (λ (xs : List ℕ). s.out ++ xs) (s.keeps ne)) ∙ (append_assoc s.out kept (last_line e) ∙ ap (λ (xs : List ℕ). s.out ++ xs) (sym keeps)) in
+  -- what was left, and the line of an end, is written, or a write fails
+  told_by : (kept' : List ℕ) (w'' : Writes) (end e' : FollowEnd) → e ≢ ends.Output → end ≢ ends.Output → kept' ≡ kept ++ last_line end → ComesBy o s.over.input r'.ended s.messages end → FailsAt end r w r' w' → EndsWritten kept' end w' w'' e' → IsFollowed o r r' w w'' e'
+  told_by kept' w'' end e' ne ne' keeps comes failed written =
+      let told = s.told.0 in let whole = told ++ last_line end in
+      let t : HasTaken w.taken w'.taken whole kept' = subst (HasTaken w.taken w'.taken whole) (ap (λ (xs : List ℕ). xs ++ last_line end) (s.keeps ne) ∙ sym keeps) (taken_before w.taken w'.taken told s.rest (last_line end) s.told.2) in
       elim written [
-        | inl t ↦ subst (IsFollowed o r r' w w'') (sym t.0)
-            (followed_by e w'' (s.out ++ kept')
-            (t.1.took ∙ (ap (λ (xs : List ℕ). xs ++ t.1.part) s.wrote ∙ (append_assoc w.taken s.out t.1.part ∙ ap (λ (xs : List ℕ). w.taken ++ (s.out ++ xs)) (sym (t.1.left ∙ append-nil t.1.part)))))
-            (owed_at o s.over.input r'.ended s.messages e (s.out ++ kept') ne (s.over.comes, (s.told, s.report, sym whole)))
-            (fails_still e r r' w w' w'' t.2 s.failed))
-        | inr t ↦ subst (IsFollowed o r r' w w'') (sym t.0)
-            (followed_by ends.Output w'' (s.out ++ t.1.1.part)
-            (t.1.1.took ∙ (ap (λ (xs : List ℕ). xs ++ t.1.1.part) s.wrote ∙ append_assoc w.taken s.out t.1.1.part))
-            (e, s.told ++ last_line e, (s.over.comes, (s.told, s.report, refl)), (t.1.0, whole ∙ (ap (λ (xs : List ℕ). s.out ++ xs) t.1.1.left ∙ sym (append_assoc s.out t.1.1.part t.1.0))))
-            (fails_more e r r' w w' w'' ne t.2 s.failed))
+        | inl y ↦
+            let all = taken_on w.taken w'.taken w''.taken whole kept' [] t y.1 in
+            subst (IsFollowed o r r' w w'') (sym y.0)
+            (followed_by end w'' all.part all.took (owed_at o s.over.input r'.ended s.messages end all.part ne' (comes, (told, s.told.1, sym (all.left ∙ append-nil all.part)))) (fails_still end r r' w w' w'' y.2 failed))
+        | inr y ↦
+            let b = begun_on w.taken w'.taken w''.taken whole kept' t y.1 in
+            subst (IsFollowed o r r' w w'') (sym y.0)
+            (followed_by ends.Output w'' b.1.part b.1.took (end, whole, (comes, (told, s.told.1, refl)), (b.0, b.1.left)) (fails_more end r r' w w' w'' ne' y.2 failed))
       ]
 
--- or memory is wanted for that line
-pub followed_unlined : (o : FollowOptions) (r r' : Reads) (w w' w'' : Writes) (kept kept' : List ℕ) (e e' : FollowEnd) → HasLine e → kept' ≡ kept → EndsWritten kept' ends.Memory w' w'' e' → IsStopped o r r' w w' kept e → IsFollowed o r r' w w'' e'
-followed_unlined o r r' w w' w'' kept kept' e e' lined same written s =
-    followed_told o r r' w w' kept ends.Memory (record {
-      messages = s.messages;
-      over = record { input = s.over.input; read = s.over.read; begins = s.over.begins; comes = comes_unlined o s.over.input r'.ended s.messages e lined s.over.comes };
-      told = s.told;
-      report = s.report;
-      out = s.out;
-      wrote = s.wrote;
-      rest = s.rest;
-      left = s.left;
-      keeps = λ ne. s.keeps (lined_else e lined);
-      failed = fails_unlined e r r' w w' lined s.failed;
-    }) kept' w'' e' (λ is. cc) (same ∙ sym (append-nil kept)) written
+  pub followed_told : (kept' : List ℕ) (w'' : Writes) (e' : FollowEnd) → e ≢ ends.Output → kept' ≡ kept ++ last_line e → EndsWritten kept' e w' w'' e' → IsFollowed o r r' w w'' e'
+  followed_told kept' w'' e' ne keeps written = told_by kept' w'' e e' ne ne keeps s.over.comes s.failed written
+
+  -- or memory is wanted for that line
+  pub followed_unlined : (kept' : List ℕ) (w'' : Writes) (e' : FollowEnd) → HasLine e → kept' ≡ kept → EndsWritten kept' ends.Memory w' w'' e' → IsFollowed o r r' w w'' e'
+  followed_unlined kept' w'' e' lined same written =
+      let y = unlined o s.over.input r'.ended s.messages e r r' w w' lined s.over.comes s.failed in
+      told_by kept' w'' ends.Memory e' y.2 (λ is. cc) (same ∙ sym (append-nil kept)) y.0 y.1 written
 
 -- ---- nothing was begun
 
@@ -92,12 +77,8 @@ module _ (o : FollowOptions) (r : Reads) (w : Writes) where
   stopped_nothing e kept none comes failed = record {
     messages = [];
     over = record { input = []; read = sym (append-nil r.given); begins = λ whole may. ((followed_at o whole).messages, refl); comes = comes };
-    told = [];
-    report = refl;
-    out = [];
-    wrote = sym (append-nil w.taken);
     rest = kept;
-    left = sym none;
+    told = ([], refl, record { part = []; took = sym (append-nil w.taken); left = sym none });
     keeps = λ ne. refl;
     failed = failed;
   }

@@ -1,12 +1,12 @@
 -- What is followed of an input, line by line.
 use Rattle.std.proofs.Common.{◌≡◌, ℕ, ◌+◌, ◌-◌, ◌<◌, ◌≤◌, ◌⊎◌, ⊎_elim, Bool, true, false, cond, List, [], ◌∷◌, ◌++◌, length, take, drop, Option, Some, None, Result, Ok, Err, refl, sym, ap, subst, ◌∙◌, arith, append-nil, append_assoc, length-append, inl, inr}
-use Rattle.std.specs.Prelude.{◌≢◌, is_some, not, position}
-use Rattle.follow.proofs.Common.{ApplyFault, Format, IsLine, IsMessage, Lines, Message, MessageFault, apply_fault, has_newline, is_newline, length-take-le, lines_of, message_at, message_line, take-append-drop, text_at, waiting, without_newline}
+use Rattle.std.specs.Prelude.{◌≢◌, is_some, not}
+use Rattle.follow.proofs.Common.{ApplyFault, Format, IsLine, IsMessage, Lines, Message, MessageFault, apply_fault, has_newline, length-take-le, lines_of, message_at, message_line, text_at, waiting, without_newline}
 use Rattle.std.proofs.Math.Seq.{take-length, take-append_seam, drop-append_seam}
 use Rattle.spelled_words.specs.declared.fault.LineFault.{LineFault}
 use Rattle.spelled_words.specs.declared.fault.LineFault.TheVariants as faults
 use Rattle.script.proofs.CutLines.{lines_first}
-use Rattle.sessions.proofs.Finding.{newline_stays, newline_comes, newline_lacks, no_last}
+use Rattle.sessions.proofs.Finding.{newline_front, newline_stays, no_last}
 use Rattle.sessions.proofs.FirstLines as first
 use Rattle.follow.specs.declared.options.FollowOptions.{FollowOptions}
 use Rattle.follow.specs.Ends.{TakesNext}
@@ -67,24 +67,6 @@ module _ (format : Format) where
             c.3,
       )
 
-  front_at : (n at : ℕ) (ws : List ℕ) → n ≤ length ws → Some at ≡ position is_newline ws → n ≡ at + 1 → Some at ≡ position is_newline (take n ws)
-  front_at n at ws within is next = by_place (position is_newline (take n ws)) refl (position is_newline (drop n ws)) refl
-    where
-      l : length (take n ws) ≡ n
-      l = length-take-le n ws within
-
-      whole : Some at ≡ position is_newline (take n ws ++ drop n ws)
-      whole = is ∙ ap (position is_newline) (sym (take-append-drop n ws))
-
-      by_place : (o : Option ℕ) → o ≡ position is_newline (take n ws) → (p : Option ℕ) → p ≡ position is_newline (drop n ws) → Some at ≡ position is_newline (take n ws)
-      by_place (Some k) here p there = let stays = newline_stays (take n ws) (drop n ws) k here in let same : Some at ≡ Some k = whole ∙ sym stays in same ∙ here
-      by_place None none (Some k) there =
-          let comes = newline_comes (take n ws) (drop n ws) k none there in
-          let same : Some at ≡ Some (length (take n ws) + k) = whole ∙ sym comes in
-          let same' : at ≡ length (take n ws) + k = cc in
-          absurd (omega (arith, l))
-      by_place None none None there = let lacks = newline_lacks (take n ws) (drop n ws) none there in let clash : Some at ≡ None = whole ∙ sym lacks in absurd cc
-
   -- a line that has its newline ends there, whatever comes behind it
   pub line_ahead : (n : ℕ) (l : Lines) (text : List ℕ) → n ≤ length (waiting l) → IsLine l n → text_at format (take n (waiting l)) ≡ Ok text
       → (0 < n) × ((more : List ℕ) → lines_of (take n (waiting l) ++ more) ≡ take n (waiting l) ∷ lines_of more)
@@ -94,7 +76,7 @@ module _ (format : Format) where
       let next : h.0 + 1 ≡ length (take n ws) = sym h.2 ∙ sym size in (
         (let q = h.2 in omega arith),
         λ more.
-            let cut = lines_first (take n ws ++ more) h.0 (newline_stays (take n ws) more h.0 (front_at n h.0 ws within h.1 h.2)) in
+            let cut = lines_first (take n ws ++ more) h.0 (newline_stays (take n ws) more h.0 (newline_front ws h.0 n h.1 h.2 within)) in
             let front : take (h.0 + 1) (take n ws ++ more) ≡ take n ws = ap (λ (k : ℕ). take k (take n ws ++ more)) next ∙ take-append_seam (take n ws) more in
             let back : drop (h.0 + 1) (take n ws ++ more) ≡ more = ap (λ (k : ℕ). drop k (take n ws ++ more)) next ∙ drop-append_seam (take n ws) more in
             cut ∙ λ i. front i ∷ lines_of (back i),

@@ -1,7 +1,7 @@
 -- The steps of a follower.
-use Rattle.std.proofs.Common.{◌≡◌, ℕ, ◌+◌, ◌<◌, ◌≤◌, ◌⊎◌, Bool, true, cond, List, [], ◌∷◌, ◌++◌, length, take, drop, Option, Some, None, Ok, refl, sym, ap, ◌∙◌, subst, arith, append-nil, append_assoc, length-append, inl, inr}
-use Rattle.std.specs.Prelude.{codes, position}
-use Rattle.follow.proofs.Common.{ApplyFault, Follows, Format, HasBegun, HasReadOn, HasTaken, IsFaultAt, IsLine, Lines, Map, Message, Reads, Takes, Writes, apply_fault, has_ended, is_newline, length-take-le, lines_of, resolved_at, take-append-drop, test_of, text_at, view_in, view_of, waiting}
+use Rattle.std.proofs.Common.{◌≡◌, ℕ, ◌+◌, ◌<◌, ◌≤◌, ⊎_elim, Bool, true, cond, List, [], ◌∷◌, ◌++◌, length, take, drop, Option, Some, None, Ok, Err, refl, sym, ap, ◌∙◌, subst, arith, append-nil, append_assoc, length-append, inr}
+use Rattle.std.specs.Prelude.{codes}
+use Rattle.follow.proofs.Common.{ApplyFault, Follows, Format, HasBegun, HasReadOn, HasTaken, IsFaultAt, IsLine, IsSought, Lines, Map, Message, Reads, Takes, Writes, apply_fault, format_of, has_ended, length-take-le, lines_of, pending_of, resolved_at, take-append-drop, test_of, text_at, view_in, view_of, waiting}
 use Rattle.spans.specs.declared.span.Span.{Span}
 use Rattle.spans.specs.Completeness.{ready_after}
 use Rattle.spans.specs.Consumer as consumer
@@ -10,7 +10,11 @@ use Rattle.replica.specs.declared.fault.Fault.TheVariants as replica_faults
 use Rattle.replica.specs.declared.replica.Replica.{Replica}
 use Rattle.replica.specs.Starts.{Start as ReplicaStart}
 use Rattle.sessions.specs.Runs.{MayHold}
+use Rattle.sessions.specs.declared.ending.ServeEnd.{ServeEnd}
+use Rattle.sessions.specs.declared.ending.ServeEnd.TheVariants as serve_ends
+use Rattle.sessions.specs.declared.output.Output.{Output}
 use Rattle.sessions.proofs.Goings.{behind}
+use Rattle.sessions.proofs.Transcripts.{taken_before, taken_on}
 use Rattle.follow.specs.declared.ending.FollowEnd.{FollowEnd}
 use Rattle.follow.specs.declared.ending.FollowEnd.TheVariants as ends
 use Rattle.follow.specs.declared.options.FollowOptions.{FollowOptions}
@@ -30,7 +34,7 @@ use Rattle.follow.specs.Reports.{IsFollowReport, IsToldAt, shown_before, resolve
 use Rattle.follow.specs.Ends.{StopAt, TakesNext, ComesBy, FailsAt}
 use Rattle.follow.specs.Taking.{HasRead, IsMisreadAt}
 use Rattle.follow.specs.Telling.{named_in, NamesKey, TellsAt}
-use Rattle.follow.specs.Steps.{onto_taken, named_through, ready_told, are_some, GoesBy, IsFollowing, HasReported, lines_ahead, message_ahead, IsAhead, IsHolding, IsGoing, IsOver, IsStopped, IsFresh, GoesOn, TakesMore, StopsWithLine, end_at, end_by}
+use Rattle.follow.specs.Steps.{onto_taken, named_through, ready_told, are_some, GoesBy, IsFollowing, HasReported, lines_ahead, message_ahead, IsAhead, IsHolding, IsGoing, IsOver, IsStopped, IsFresh, GoesOn, TakesMore, StopsWithLine, end_at, end_by, end_unfound}
 use Rattle.follow.proofs.Reports.{told_more, named_more, told_by, resolved_last}
 use Rattle.follow.proofs.Lines.{chosen_stays, line_whole, line_comes, line_ahead, followed_none, followed_misread, followed_passed, followed_message, message_adds, line_adds, takes_more}
 
@@ -53,53 +57,22 @@ started o r f fresh = record {
   found = λ e. absurd (let q = fresh.open_ended in cc);
   followed = λ more. ap (λ (b : Bool). followed_lines o b [] 1 (lines_of more)) (sym fresh.taking);
   counted = omega arith;
-  worked = refl;
 }
-
-pub reported_nothing : (o : FollowOptions) (w : Writes) (kept : List ℕ) → kept ≡ [] → HasReported o [] w w kept
-reported_nothing o w kept none = record { told = []; report = refl; out = []; wrote = sym (append-nil w.taken); keeps = sym none; worked = refl }
 
 -- ---- what is kept and written
 
-module _ (o : FollowOptions) (ms : List Message) (w w' w'' : Writes) (kept kept' : List ℕ) where
-  -- some of what was kept was written
-  pub reported_on : HasTaken w'.taken w''.taken kept kept' → w''.failures ≡ w'.failures → HasReported o ms w w' kept → HasReported o ms w w'' kept'
-  reported_on t same h = record {
-    told = h.told;
-    report = h.report;
-    out = h.out ++ t.part;
-    wrote = t.took ∙ (ap (λ (xs : List ℕ). xs ++ t.part) h.wrote ∙ append_assoc w.taken h.out t.part);
-    keeps = h.keeps ∙ (ap (λ (xs : List ℕ). h.out ++ xs) t.left ∙ sym (append_assoc h.out t.part kept'));
-    worked = same ∙ h.worked;
-  }
+-- some of what was kept was written
+reported_on : (o : FollowOptions) (ms : List Message) (w w' w'' : Writes) (kept kept' : List ℕ) → HasTaken w'.taken w''.taken kept kept' → HasReported o ms w w' kept → HasReported o ms w w'' kept'
+reported_on o ms w w' w'' kept kept' t h = (h.0, h.1, taken_on w.taken w'.taken w''.taken h.0 kept kept' h.2 t)
 
-  -- or a write failed
-  pub stop_unwritten : (r r' : Reads) (kept'' : List ℕ) → HasBegun w'.taken w''.taken kept → w''.failures ≡ w'.failures + 1 → HasReported o ms w w' kept → r'.failures ≡ r.failures → IsOver o r r' ms ends.Output → IsStopped o r r' w w'' kept'' ends.Output
-  stop_unwritten r r' kept'' b failed h worked over =
-      let t = b.1 in
-      record {
-        messages = ms;
-        over = over;
-        told = h.told;
-        report = h.report;
-        out = h.out ++ t.part;
-        wrote = t.took ∙ (ap (λ (xs : List ℕ). xs ++ t.part) h.wrote ∙ append_assoc w.taken h.out t.part);
-        rest = b.0;
-        left = h.keeps ∙ (ap (λ (xs : List ℕ). h.out ++ xs) t.left ∙ sym (append_assoc h.out t.part b.0));
-        keeps = λ ne. absurd (ne refl);
-        failed = (omega arith, omega arith, failed ∙ ap (λ (n : ℕ). n + 1) h.worked);
-      }
+-- or a write failed
+pub stop_unwritten : (o : FollowOptions) (ms : List Message) (w w' w'' : Writes) (kept : List ℕ) (r r' : Reads) (kept' : List ℕ) → HasBegun w'.taken w''.taken kept → w''.failures ≡ w.failures + 1 → HasReported o ms w w' kept → r'.failures ≡ r.failures → IsOver o r r' ms ends.Output → IsStopped o r r' w w'' kept' ends.Output
+stop_unwritten o ms w w' w'' kept r r' kept' b failed h reads over = record { messages = ms; over = over; rest = b.0; told = reported_on o ms w w' w'' kept b.0 b.1 h; keeps = λ ne. absurd (ne refl); failed = (omega arith, omega arith, failed) }
 
 -- the report goes on
 reported_more : (o : FollowOptions) (ms ms' : List Message) (w w' : Writes) (kept kept' : List ℕ) → GoesOn o ms ms' kept kept' → HasReported o ms w w' kept → HasReported o ms' w w' kept'
-reported_more o ms ms' w w' kept kept' g h = record {
-  told = h.told ++ g.text;
-  report = g.report h.told h.report;
-  out = h.out;
-  wrote = h.wrote;
-  keeps = ap (λ (xs : List ℕ). xs ++ g.text) h.keeps ∙ (append_assoc h.out kept g.text ∙ ap (λ (xs : List ℕ). h.out ++ xs) (sym g.keeps));
-  worked = h.worked;
-}
+reported_more o ms ms' w w' kept kept' g h =
+    (h.0 ++ g.text, g.report h.0 h.1, subst (HasTaken w.taken w'.taken (h.0 ++ g.text)) (sym g.keeps) (taken_before w.taken w'.taken h.0 kept g.text h.2))
 
 -- nothing is told
 pub goes_on_still : (o : FollowOptions) (ms : List Message) (kept : List ℕ) → GoesOn o ms ms kept kept
@@ -107,7 +80,7 @@ goes_on_still o ms kept = record { text = []; keeps = sym (append-nil kept); rep
 
 -- it ends, and no write has failed
 pub stop_reported : (o : FollowOptions) (ms : List Message) (r r' : Reads) (w w' : Writes) (kept : List ℕ) (e : FollowEnd) → IsOver o r r' ms e → HasReported o ms w w' kept → FailsAt e r w r' w' → IsStopped o r r' w w' kept e
-stop_reported o ms r r' w w' kept e over h failed = record { messages = ms; over = over; told = h.told; report = h.report; out = h.out; wrote = h.wrote; rest = kept; left = h.keeps; keeps = λ ne. refl; failed = failed }
+stop_reported o ms r r' w w' kept e over told failed = record { messages = ms; over = over; rest = kept; told = told; keeps = λ ne. refl; failed = failed }
 
 -- ---- what is known while it goes
 
@@ -157,48 +130,36 @@ pub done_fails : (ms : List Message) (r r' : Reads) (w w' : Writes) → r'.failu
 done_fails [] r r' w w' reads writes = (reads, writes)
 done_fails (m ∷ ms) r r' w w' reads writes = (reads, writes)
 
-found_end : (b b' e e' : Bool) → ((b' ≡ b) × (e' ≡ e)) ⊎ (b' ≡ e') → (b ≡ true → e ≡ true) → b' ≡ true → e' ≡ true
-found_end b b' e e' (inl same) found is = same.1 ∙ found (sym same.0 ∙ is)
-found_end b b' e e' (inr told) found is = sym told ∙ is
-
-module _ (o : FollowOptions) (r r' r'' : Reads) (f : Follower) (l : Lines) (lines : ℕ) (ms : List Message) (x : HasReadOn f.lines l r' r'') (u : IsAhead o r r' f lines ms) where
-  -- what was read on waits
-  read_on : r''.given ≡ r.given ++ (u.front ++ waiting l)
-  read_on = x.gave ∙ (ap (λ (xs : List ℕ). xs ++ x.got) u.read ∙ (behind r.given u.front (waiting f.lines) x.got ∙ ap (λ (xs : List ℕ). r.given ++ (u.front ++ xs)) (sym x.waits)))
-
-  over_on : (e : FollowEnd) → ComesBy o (u.front ++ waiting l) r''.ended ms e → IsOver o r r'' ms e
-  over_on e comes = record {
-    input = u.front ++ waiting l;
-    read = read_on;
-    begins = λ whole may. (
-      (lines_ahead o f ms lines (waiting l ++ may.rest)).messages,
-      ap (λ (y : Followed). y.messages) (ap (followed_at o) (may.goes_on ∙ append_assoc u.front (waiting l) may.rest) ∙ u.followed (waiting l ++ may.rest)),
-    );
-    comes = comes;
-  }
-
-  -- a write failed
-  pub over_output : IsOver o r r'' ms ends.Output
-  over_output = over_on ends.Output tt
-
-  -- a read failed
-  pub over_input : None ≡ position is_newline (waiting l) → IsOver o r r'' ms ends.Input
-  over_input none = over_on ends.Input (record { lines = u.front; rest = waiting l; parts = refl; read = all_followed o r r' f lines ms u; unended = none })
-
-  -- the next line was found, or there is none
-  pub go_on : (f' : Follower) → f'.choice ≡ f.choice → f'.format ≡ f.format → f'.complete ≡ f.complete → f'.replica ≡ f.replica → f'.started ≡ f.started → f'.lines ≡ l → f'.telling ≡ f.telling → r''.failures ≡ r'.failures → IsAhead o r r'' f' lines ms
-  go_on f' choice format complete replica started is telling reads = record {
-    by = record { format = format ∙ u.by.format; feed = ap (λ (c : Choice). c.feed) choice ∙ u.by.feed; shown = ap (λ (t : Telling). t.shown) telling ∙ u.by.shown; complete = complete ∙ u.by.complete };
-    follows = subst (λ (p : Replica). Follows p (start_of o.span o.start) ms) (sym replica) u.follows;
-    started = started ∙ u.started;
-    named = λ changes. ap named_in telling ∙ u.named changes;
+module _ (o : FollowOptions) (r r' r'' : Reads) (f : Follower) (l : Lines) (lines : ℕ) (ms : List Message) (x : HasReadOn f.lines l r' r'') (same : format_of l ≡ f.format) where
+  -- what was read since waits
+  ahead_on : IsAhead o r r' f lines ms → IsAhead o r r'' (record f { lines = l; formatted = same }) lines ms
+  ahead_on u = record {
+    by = u.by;
+    follows = u.follows;
+    started = u.started;
+    named = u.named;
     front = u.front;
-    read = read_on ∙ ap (λ (y : Lines). r.given ++ (u.front ++ waiting y)) (sym is);
-    found = λ e. found_end (has_ended f.lines) (has_ended l) r'.ended r''.ended x.found u.found (sym (ap has_ended is) ∙ e);
-    followed = λ more. u.followed more ∙ ap (λ (c : Choice). onto_taken ms (followed_lines o c.taking ms (lines + 1) (lines_of more))) (sym choice);
+    read = x.gave ∙ (ap (λ (xs : List ℕ). xs ++ x.got) u.read ∙ (behind r.given u.front (waiting f.lines) x.got ∙ ap (λ (xs : List ℕ). r.given ++ (u.front ++ xs)) (sym x.waits)));
+    found = λ e. ⊎_elim (λ same. same.1 ∙ u.found (sym same.0 ∙ e)) (λ told. sym told ∙ e) x.found;
+    followed = u.followed;
     counted = u.counted;
-    worked = reads ∙ u.worked;
   }
+
+  module _ (w w' w'' : Writes) (kept kept' : Output) (g : IsGoing o r r' w w' f (pending_of kept) lines ms) where
+    -- the next line was found, or there is none
+    pub go_on : (next : Option ℕ) → IsSought l r' r'' w' w'' kept kept' (Ok next) → IsGoing o r r'' w w'' (record f { lines = l; formatted = same }) (pending_of kept') lines ms
+    go_on next s = (ahead_on g.0, reported_on o ms w w' w'' (pending_of kept) (pending_of kept') s.1 g.1, s.2 ∙ g.2, s.3 ∙ g.3)
+
+    -- a read or a write failed
+    pub stop_unfound : (e : ServeEnd) → IsSought l r' r'' w' w'' kept kept' (Err e) → IsStopped o r r'' w w'' (pending_of kept') (end_unfound e)
+    stop_unfound serve_ends.Input s =
+        let u = ahead_on g.0 in let f' = record f { lines = l; formatted = same } in
+        let over = over_so o (lines_ahead o f' ms lines) r r'' f' lines ms u ends.Input (record { lines = u.front; rest = waiting l; parts = refl; read = all_followed o r r'' f' lines ms u; unended = s.0 }) in
+        stop_reported o ms r r'' w w'' (pending_of kept') ends.Input over (reported_on o ms w w' w'' (pending_of kept) (pending_of kept') s.1 g.1) (s.2 ∙ ap (λ (n : ℕ). n + 1) g.2, s.3 ∙ g.3)
+    stop_unfound serve_ends.Output s =
+        let f' = record f { lines = l; formatted = same } in
+        stop_unwritten o ms w w' w'' (pending_of kept) r r'' (pending_of kept') s.0 (s.2 ∙ ap (λ (n : ℕ). n + 1) g.3) g.1 (s.1 ∙ g.2) (over_so o (lines_ahead o f' ms lines) r r'' f' lines ms (ahead_on g.0) ends.Output tt)
+    stop_unfound _ s = absurd s
 
 -- ---- lines
 
@@ -211,7 +172,7 @@ module _ (o : FollowOptions) (r r' : Reads) (f f' : Follower) (lines n : ℕ) (m
       let whole : waiting f.lines ≡ line ++ waiting f'.lines = sym (take-append-drop n (waiting f.lines)) ∙ ap (λ (xs : List ℕ). line ++ xs) (sym h.left) in
       let size : length line ≡ n = length-take-le n (waiting f.lines) within in (
         record {
-          by = record { format = format ∙ u.by.format; feed = h.feed ∙ u.by.feed; shown = ap (λ (t : Telling). t.shown) telling ∙ u.by.shown; complete = complete ∙ u.by.complete };
+          by = (format ∙ u.by.0, h.feed ∙ u.by.1, ap (λ (t : Telling). t.shown) telling ∙ u.by.2, complete ∙ u.by.3);
           follows = subst (λ (p : Replica). Follows p (start_of o.span o.start) ms) (sym replica) u.follows;
           started = started ∙ u.started;
           named = λ changes. ap named_in telling ∙ u.named changes;
@@ -220,21 +181,18 @@ module _ (o : FollowOptions) (r r' : Reads) (f f' : Follower) (lines n : ℕ) (m
           found = λ e. u.found (sym h.ended ∙ e);
           followed = λ more. ap (followed_at o) (append_assoc u.front line more) ∙ (u.followed (line ++ more) ∙ ap (onto_taken ms) (step more));
           counted = let longer = length-append u.front line in let few = u.counted in omega arith;
-          worked = u.worked;
         },
         refl,
       )
 
-module _ (o : FollowOptions) (f f' : Follower) (n : ℕ) (m : Option Message) where
-  -- what a line says by the options, it says to the follower
-  says : GoesBy o f → HasRead f f' n m → line_at o.format f.choice.taking (take n (waiting f.lines)) ≡ Ok m
-  says by h = ap (λ (x : Format). line_at x f.choice.taking (take n (waiting f.lines))) (sym by.format) ∙ h.message
-
-  spells : (by : GoesBy o f) (h : HasRead f f' n m) → text_at o.format (take n (waiting f.lines)) ≡ Ok h.text
-  spells by h = ap (λ (x : Format). text_at x (take n (waiting f.lines))) (sym by.format) ∙ h.whole
-
-  turns_so : (by : GoesBy o f) (h : HasRead f f' n m) → f'.choice.taking ≡ is_taking_after o.feed f.choice.taking h.text
-  turns_so by h = h.taking ∙ ap (λ (x : Option ℕ). is_taking_after x f.choice.taking h.text) by.feed
+-- what a line says by the options, it says to the follower
+says : (o : FollowOptions) (f f' : Follower) (n : ℕ) (m : Option Message) → GoesBy o f → (h : HasRead f f' n m)
+    → (line_at o.format f.choice.taking (take n (waiting f.lines)) ≡ Ok m) × (text_at o.format (take n (waiting f.lines)) ≡ Ok h.text) × (f'.choice.taking ≡ is_taking_after o.feed f.choice.taking h.text)
+says o f f' n m by h = let line = take n (waiting f.lines) in (
+  ap (λ (x : Format). line_at x f.choice.taking line) (sym by.0) ∙ h.message,
+  ap (λ (x : Format). text_at x line) (sym by.0) ∙ h.whole,
+  h.taking ∙ ap (λ (x : Option ℕ). is_taking_after x f.choice.taking h.text) by.1,
+)
 
 module _ (o : FollowOptions) (r r' : Reads) (f f' : Follower) (lines n : ℕ) (ms : List Message) (within : n ≤ length (waiting f.lines)) (is : IsLine f.lines n) (u : IsAhead o r r' f lines ms) where
   -- the line stands behind the messages
@@ -246,24 +204,25 @@ module _ (o : FollowOptions) (r r' : Reads) (f f' : Follower) (lines n : ℕ) (m
   -- a line was passed over
   pub go_passed : f'.format ≡ f.format → f'.complete ≡ f.complete → f'.replica ≡ f.replica → f'.telling ≡ f.telling → f'.started ≡ f.started → HasRead f f' n None → IsAhead o r r' f' (lines + 1) ms
   go_passed format complete replica telling started h =
-      let cut = line_ahead o.format n f.lines h.text within is (spells o f f' n None u.by h) in
+      let line = take n (waiting f.lines) in let y = says o f f' n None u.by h in
+      let cut = line_ahead o.format n f.lines h.text within is y.1 in
       (go_line o r r' f f' lines n ms None (lines_ahead o f' ms (lines + 1)) within cut.0 format complete replica telling started h
-      (λ more. followed_passed o f.choice.taking f'.choice.taking ms (lines + 1) (take n (waiting f.lines) ++ more) more (take n (waiting f.lines)) h.text (cut.1 more) (says o f f' n None u.by h) (spells o f f' n None u.by h) (turns_so o f f' n None u.by h)) u).0
+      (λ more. followed_passed o f.choice.taking f'.choice.taking ms (lines + 1) (line ++ more) more line h.text (cut.1 more) y.0 y.1 y.2) u).0
 
   -- a line's message is in hand
   pub go_holding : (m : Message) → f'.format ≡ f.format → f'.complete ≡ f.complete → f'.replica ≡ f.replica → f'.telling ≡ f.telling → f'.started ≡ f.started → HasRead f f' n (Some m) → IsHolding o r r' f' (lines + 1) ms m
   go_holding m format complete replica telling started h =
-      let line = take n (waiting f.lines) in
-      let cut = line_ahead o.format n f.lines h.text within is (spells o f f' n (Some m) u.by h) in
+      let line = take n (waiting f.lines) in let y = says o f f' n (Some m) u.by h in
+      let cut = line_ahead o.format n f.lines h.text within is y.1 in
       let v = go_line o r r' f f' lines n ms (Some m) (message_ahead o f' ms (lines + 1) m) within cut.0 format complete replica telling started h
-      (λ more. followed_message o f.choice.taking f'.choice.taking ms (lines + 1) m (line ++ more) more line h.text (cut.1 more) (says o f f' n (Some m) u.by h) (spells o f f' n (Some m) u.by h) (turns_so o f f' n (Some m) u.by h)) u in
-      (v.0, subst (λ (xs : List ℕ). TakesNext o xs ms (followed_at o xs)) (sym v.1) (next_line h.text [] (u.front ++ line) (spells o f f' n (Some m) u.by h) (ap (λ (xs : List ℕ). u.front ++ xs) (sym (append-nil line)))))
+      (λ more. followed_message o f.choice.taking f'.choice.taking ms (lines + 1) m (line ++ more) more line h.text (cut.1 more) y.0 y.1 y.2) u in
+      (v.0, subst (λ (xs : List ℕ). TakesNext o xs ms (followed_at o xs)) (sym v.1) (next_line h.text [] (u.front ++ line) y.1 (ap (λ (xs : List ℕ). u.front ++ xs) (sym (append-nil line)))))
 
   -- a line can't be read, or memory is wanted for it, which is one to take
   pub over_misread : (e : FollowError) → f.lines.format ≡ f.format → IsMisreadAt f n e → IsOver o r r' ms (end_by (lines + 1) e)
   over_misread errors.NoMemory same misread =
       let line = take n (waiting f.lines) in
-      let whole : text_at o.format line ≡ Ok misread.0 = ap (λ (x : Format). text_at x line) (sym u.by.format) ∙ misread.1 in
+      let whole : text_at o.format line ≡ Ok misread.0 = ap (λ (x : Format). text_at x line) (sym u.by.0) ∙ misread.1 in
       over_so o (lines_ahead o f ms lines) r r' f lines ms u ends.Memory (inr (inr (inr (
         followed_at o (u.front ++ line),
         next_line misread.0 (drop n (waiting f.lines)) (u.front ++ waiting f.lines) whole (ap (λ (xs : List ℕ). u.front ++ xs) (sym (take-append-drop n (waiting f.lines)))),
@@ -271,9 +230,9 @@ module _ (o : FollowOptions) (r r' : Reads) (f f' : Follower) (lines n : ℕ) (m
       ))))
   over_misread (errors.Fault fault) same misread =
       stops_so o (lines_ahead o f ms lines) r r' f lines ms u (lines + 1) fault (λ rest over.
-      let first = line_comes o.format f.choice.taking n f.lines rest (same ∙ u.by.format) within is (λ found. over (u.found found)) in
+      let first = line_comes o.format f.choice.taking n f.lines rest (same ∙ u.by.0) within is (λ found. over (u.found found)) in
       followed_misread o f.choice.taking ms (lines + 1) (waiting f.lines ++ rest) first.0 first.1 (errors.Fault fault) first.2
-      (first.3 ∙ (ap (λ (x : Format). line_at x f.choice.taking (take n (waiting f.lines))) (sym u.by.format) ∙ misread)))
+      (first.3 ∙ (ap (λ (x : Format). line_at x f.choice.taking (take n (waiting f.lines))) (sym u.by.0) ∙ misread)))
 
 error_fails : (line : ℕ) (e : FollowError) (r r' : Reads) (w w' : Writes) → r'.failures ≡ r.failures → w'.failures ≡ w.failures → FailsAt (end_by line e) r w r' w'
 error_fails line (errors.Fault fault) r r' w w' reads writes = (reads, writes)
@@ -284,21 +243,20 @@ module _ (o : FollowOptions) (r r' : Reads) (w w' : Writes) (f : Follower) (kept
   pub stop_line : (error : FollowError) (e : FollowEnd) → StopsWithLine f error → kept' ≡ kept → e ≡ end_by number error → IsStopped o r r' w w' kept' e
   stop_line error e stops same is =
       subst (λ (x : List ℕ × FollowEnd). IsStopped o r r' w w' x.0 x.1) (λ i. (sym same i, (ap (λ (k : ℕ). end_by k error) (sym numbered) ∙ sym is) i))
-      (stop_reported o ms r r' w w' kept (end_by (lines + 1) error) (stops o r r' lines ms u.0) u.1 (error_fails (lines + 1) error r r' w w' u.0.worked u.1.worked))
+      (stop_reported o ms r r' w w' kept (end_by (lines + 1) error) (stops o r r' lines ms u.0) u.1 (error_fails (lines + 1) error r r' w w' u.2 u.3))
 
   module _ (f' : Follower) (w'' : Writes) (kept'' : List ℕ) (takes : TakesMore f f' kept kept') where
     -- a line is taken
     pub go_written : HasTaken w'.taken w''.taken kept' kept'' → w''.failures ≡ w'.failures → (ms' : List Message) × IsGoing o r r' w w'' f' kept'' number ms'
     go_written written same =
         let t = takes o r r' lines ms u.0 in
-        (t.0, (subst (λ (k : ℕ). IsAhead o r r' f' k t.0) (sym numbered) t.1, reported_on o t.0 w w' w'' kept' kept'' written same (reported_more o ms t.0 w w' kept kept' t.2 u.1)))
+        (t.0, (subst (λ (k : ℕ). IsAhead o r r' f' k t.0) (sym numbered) t.1, reported_on o t.0 w w' w'' kept' kept'' written (reported_more o ms t.0 w w' kept kept' t.2 u.1), u.2, same ∙ u.3))
 
     -- and a write failed
     pub stop_written : HasBegun w'.taken w''.taken kept' → w''.failures ≡ w'.failures + 1 → IsStopped o r r' w w'' kept'' ends.Output
     stop_written begun failed =
         let t = takes o r r' lines ms u.0 in
-        stop_unwritten o t.0 w w' w'' kept' kept'' r r' kept'' begun failed (reported_more o ms t.0 w w' kept kept' t.2 u.1) u.0.worked
-        (over_so o (lines_ahead o f' t.0 (lines + 1)) r r' f' (lines + 1) t.0 t.1 ends.Output tt)
+        stop_unwritten o t.0 w w' w'' kept' r r' kept'' begun (failed ∙ ap (λ (n : ℕ). n + 1) u.3) (reported_more o ms t.0 w w' kept kept' t.2 u.1) u.2 (over_so o (lines_ahead o f' t.0 (lines + 1)) r r' f' (lines + 1) t.0 t.1 ends.Output tt)
 
 -- ---- a message in hand
 
@@ -348,7 +306,7 @@ module _ (o : FollowOptions) (r r' : Reads) (f : Follower) (number : ℕ) (ms : 
 
     -- what it shows before it is taken, and what it resolves, in the words of the definitions
     ready_is : ready ≡ shown_before o ms m
-    ready_is = shows begins ms h.0.follows ∙ λ i. cond (h.0.by.complete i) (ready_after (span_kept o.span o.start i) begins.start begins.cursor ms m) None
+    ready_is = shows begins ms h.0.follows ∙ λ i. cond (h.0.by.3 i) (ready_after (span_kept o.span o.start i) begins.start begins.cursor ms m) None
 
     resolved_is : resolved ≡ resolved_by m
     resolved_is = resolves begins (ms ++ m ∷ []) follows ∙ resolved_last begins.first ms m
@@ -358,16 +316,16 @@ module _ (o : FollowOptions) (r r' : Reads) (f : Follower) (number : ℕ) (ms : 
 
     -- which keys are named before what it resolves is told
     named_so : o.shown ≡ shown.Changes → named_in t' ≡ named_before
-    named_so changes = names (tells.same ∙ (h.0.by.shown ∙ changes)) ∙ ap (λ (xs : List (List ℕ)). named_with xs m) (tells.named ∙ (λ i. unless_told (ready_is i) (h.0.named changes i)))
+    named_so changes = names (tells.same ∙ (h.0.by.2 ∙ changes)) ∙ ap (λ (xs : List (List ℕ)). named_with xs m) (tells.named ∙ (λ i. unless_told (ready_is i) (h.0.named changes i)))
 
     first_told : IsToldAt o.shown (codes "complete") (shown_before o ms m) (view_of begins.rows ms) (named_through o [] [] ms) tells.text
     first_told =
-        told_by f.telling.shown o.shown (codes "complete") (shown_before o ms m) (view_of begins.rows ms) (named_in f.telling) (named_through o [] [] ms) tells.text h.0.by.shown h.0.named
+        told_by f.telling.shown o.shown (codes "complete") (shown_before o ms m) (view_of begins.rows ms) (named_in f.telling) (named_through o [] [] ms) tells.text h.0.by.2 h.0.named
         (subst (λ (p : Option ℕ × Map). IsToldAt f.telling.shown (codes "complete") p.0 p.1 (named_in f.telling) tells.text) (λ i. (ready_is i, λ x. h.0.follows.rows x i)) tells.is)
 
     last_told : IsToldAt o.shown (codes "resolved") (resolved_by m) (view_of begins.rows (ms ++ m ∷ [])) named_before tells'.text
     last_told =
-        told_by t'.shown o.shown (codes "resolved") (resolved_by m) (view_of begins.rows (ms ++ m ∷ [])) (named_in t') named_before tells'.text (same ∙ (tells.same ∙ h.0.by.shown)) named_so
+        told_by t'.shown o.shown (codes "resolved") (resolved_by m) (view_of begins.rows (ms ++ m ∷ [])) (named_in t') named_before tells'.text (same ∙ (tells.same ∙ h.0.by.2)) named_so
         (subst (λ (p : Option ℕ × Map). IsToldAt t'.shown (codes "resolved") p.0 p.1 (named_in t') tells'.text) (λ i. (resolved_is i, λ x. follows.rows x i)) tells'.is)
 
     -- what is told of it is kept
@@ -382,7 +340,7 @@ module _ (o : FollowOptions) (r r' : Reads) (f : Follower) (number : ℕ) (ms : 
     go_taken format complete choice lines begun =
         let u = h.0 in
         record {
-          by = record { format = format ∙ u.by.format; feed = ap (λ (c : Choice). c.feed) choice ∙ u.by.feed; shown = tells'.same ∙ (same ∙ (tells.same ∙ u.by.shown)); complete = complete ∙ u.by.complete };
+          by = (format ∙ u.by.0, ap (λ (c : Choice). c.feed) choice ∙ u.by.1, tells'.same ∙ (same ∙ (tells.same ∙ u.by.2)), complete ∙ u.by.3);
           follows = follows;
           started = begun ∙ some_of ms m;
           named = λ changes. tells'.named ∙ ((λ i. unless_told (resolved_is i) (named_so changes i)) ∙ sym (named_more o [] [] ms m));
@@ -395,5 +353,4 @@ module _ (o : FollowOptions) (r r' : Reads) (f : Follower) (number : ℕ) (ms : 
               ∙ (ap (λ (xs : List Message). record { messages = xs; stop = below.stop }) (sym (append_assoc ms (m ∷ []) below.messages))
               ∙ ap (λ (c : Choice). onto_taken (ms ++ m ∷ []) (followed_lines o c.taking (ms ++ m ∷ []) (number + 1) (lines_of more))) (sym choice)));
           counted = u.counted;
-          worked = u.worked;
         }

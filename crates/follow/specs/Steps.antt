@@ -35,14 +35,10 @@ are_some [] = false
 are_some (m ∷ ms) = true
 
 -- the follower goes by these options
-pub record GoesBy (o : FollowOptions) (f : Follower) : Type 0 where
-  pub format : f.format ≡ o.format
-  pub feed : f.choice.feed ≡ o.feed
-  pub shown : f.telling.shown ≡ o.shown
-  pub complete : f.complete ≡ o.complete
+abbrev pub GoesBy : FollowOptions → Follower → Type 0
+GoesBy o f = (f.format ≡ o.format) × (f.choice.feed ≡ o.feed) × (f.telling.shown ≡ o.shown) × (f.complete ≡ o.complete)
 
--- so many lines and these messages were taken. Behind the lines that were taken, `next` says what is followed of more bytes. No read
--- has failed
+-- so many lines and these messages were taken. Behind the lines that were taken, `next` says what is followed of more bytes
 pub record IsFollowing (o : FollowOptions) (next : List ℕ → Followed) (r r' : Reads) (f : Follower) (lines : ℕ) (ms : List Message) : Type 0 where
   pub by : GoesBy o f
   pub follows : Follows f.replica (start_of o.span o.start) ms
@@ -54,16 +50,10 @@ pub record IsFollowing (o : FollowOptions) (next : List ℕ → Followed) (r r' 
   pub followed : (more : List ℕ) → followed_at o (front ++ more) ≡ onto_taken ms (next more)
   -- each line took a byte at least
   pub counted : lines ≤ length front
-  pub worked : r'.failures ≡ r.failures
 
--- what was written, with what is kept, is the report of the messages. No write has failed
-pub record HasReported (o : FollowOptions) (ms : List Message) (w w' : Writes) (kept : List ℕ) : Type 0 where
-  pub told : List ℕ
-  pub report : IsFollowReport o ms told
-  pub out : List ℕ
-  pub wrote : w'.taken ≡ w.taken ++ out
-  pub keeps : told ≡ out ++ kept
-  pub worked : w'.failures ≡ w.failures
+-- what was written, with what is kept, is the report of the messages
+abbrev pub HasReported : FollowOptions → List Message → Writes → Writes → List ℕ → Type 0
+HasReported o ms w w' kept = (told : List ℕ) × IsFollowReport o ms told × HasTaken w.taken w'.taken told kept
 
 -- what is followed behind so many lines
 abbrev pub lines_ahead : FollowOptions → Follower → List Message → ℕ → List ℕ → Followed
@@ -82,9 +72,9 @@ IsAhead o r r' f lines ms = IsFollowing o (lines_ahead o f ms lines) r r' f line
 abbrev pub IsHolding : FollowOptions → Reads → Reads → Follower → ℕ → List Message → Message → Type 0
 IsHolding o r r' f lines ms m = (u : IsFollowing o (message_ahead o f ms lines m) r r' f lines ms) × TakesNext o u.front ms (followed_at o u.front)
 
--- so many lines were taken, and what is told of their messages was written, or is kept
+-- so many lines were taken, and what is told of their messages was written, or is kept. No read and no write has failed
 abbrev pub IsGoing : FollowOptions → Reads → Reads → Writes → Writes → Follower → List ℕ → ℕ → List Message → Type 0
-IsGoing o r r' w w' f kept lines ms = IsAhead o r r' f lines ms × HasReported o ms w w' kept
+IsGoing o r r' w w' f kept lines ms = IsAhead o r r' f lines ms × HasReported o ms w w' kept × (r'.failures ≡ r.failures) × (w'.failures ≡ w.failures)
 
 -- why no line follows
 pub record IsOver (o : FollowOptions) (r r' : Reads) (ms : List Message) (e : FollowEnd) : Type 0 where
@@ -97,12 +87,8 @@ pub record IsOver (o : FollowOptions) (r r' : Reads) (ms : List Message) (e : Fo
 pub record IsStopped (o : FollowOptions) (r r' : Reads) (w w' : Writes) (kept : List ℕ) (e : FollowEnd) : Type 0 where
   pub messages : List Message
   pub over : IsOver o r r' messages e
-  pub told : List ℕ
-  pub report : IsFollowReport o messages told
-  pub out : List ℕ
-  pub wrote : w'.taken ≡ w.taken ++ out
   pub rest : List ℕ
-  pub left : told ≡ out ++ rest
+  pub told : HasReported o messages w w' rest
   pub keeps : e ≢ ends.Output → rest ≡ kept
   pub failed : FailsAt e r w r' w'
 

@@ -1,110 +1,75 @@
--- Events in the order of their positions, which weigh as a history without a gap and are its events, are that history.
-use Rattle.std.proofs.Common.{◌≡◌, ℕ, zero, suc, ◌+◌, ◌<◌, ◌≤◌, cond, List, [], ◌∷◌, ◌++◌, length, get_or, sym, refl, ap, ◌∙◌, subst, arith, eq-eqb, ne_eqb, ⊎_elim, All}
-use Rattle.std.specs.Prelude.{◌==◌, sum_by, IsPermutation}
-use Rattle.races.proofs.Common.{All-permutation, Event, IsGapless, IsNonDecreasingBy, sum_by-IsPermutation, sum_by-cons}
+-- Events in the order of their positions, which are those of a history without a gap, are that history.
+use Rattle.std.proofs.Common.{◌≡◌, ℕ, zero, suc, ◌+◌, ◌<◌, ◌≤◌, cond, nat_lt, List, [], ◌∷◌, ◌++◌, length, get_or, sym, refl, ap, ◌∙◌, subst, arith, All}
+use Rattle.std.specs.Prelude.{◌≢◌, sum_by, IsPermutation}
+use Rattle.std.specs.List.{Contains}
+use Rattle.std.proofs.lemmas.Bool.Decides.{nat_tests}
+use Rattle.std.proofs.lemmas.Bool.{le-ltb}
+use Rattle.std.proofs.lemmas.List.{ext_get_or, nil_from_length}
+use Rattle.std.proofs.lemmas.List.Elements.{Contains-get_or}
+use Rattle.std.proofs.lemmas.List.Sorted.{Contains-permutation, IsPermutation-sym, IsPermutation-trans, length_permutation}
+use Rattle.races.proofs.Common.{Event, IsGapless, IsNonDecreasingBy, get_or_default, sum_by-IsPermutation, sum_by-cons}
+use Rattle.races.specs.declared.merging.MergeError.{MergeError}
 use Rattle.races.specs.declared.merging.MergeError.TheVariants as errors
-use Rattle.races.specs.Merging.{position_of, start_of, IsMerged, Breaks, IsReason}
-use Rattle.races.proofs.Weighing.{Has, Among}
+use Rattle.races.specs.Merging.{position_of, start_of, IsMerged, IsReason}
 
--- no event stands below the place
-abbrev Above : ℕ → List Event → Type 0
-Above n [] = Unit {0}
-Above n (y ∷ ys) = (n ≤ y.position) × Above n ys
+-- where an event stands
+pub placed : (n k : ℕ) (h : List Event) (d : Event) → IsGapless n h → k < length h → (get_or h k d).position ≡ n + k
+placed n k [] d g there = absurd (omega arith)
+placed n zero (e ∷ h) d g there = omega (arith, g.0)
+placed n (suc k) (e ∷ h) d g there = let rest = placed (suc n) k h d g.1 (omega arith) in omega arith
 
-abbrev Rising : List Event → Type 0
-Rising [] = Unit {0}
-Rising (x ∷ xs) = Above x.position xs × Rising xs
+-- one where a position is below the place
+abbrev low : ℕ → ℕ → ℕ
+low n position = cond (nat_lt position n) 1 0
 
-above_lower : (a b : ℕ) (xs : List Event) → a ≤ b → Above b xs → Above a xs
-above_lower a b [] le h = tt
-above_lower a b (x ∷ xs) le h = let p = h.0 in (omega arith, above_lower a b xs le h.1)
+none_low : (n : ℕ) (xs : List Event) → All (λ (x : Event). n ≤ x.position) xs → sum_by (λ (x : Event). low n x.position) xs ≡ 0
+none_low n [] high = refl
+none_low n (x ∷ xs) high =
+    let first = ap {B = ℕ} (λ b. cond b 1 0) (le-ltb x.position n (high 0 x (omega arith))) in
+    omega (arith, sum_by-cons (λ (x : Event). low n x.position) x xs, first, none_low n xs (λ k d there. high (suc k) d (omega arith)))
 
-gapless_above : (n : ℕ) (h : List Event) → IsGapless n h → Above n h
-gapless_above n [] g = tt
-gapless_above n (e ∷ es) g = let p = g.0 in (omega arith, above_lower n (suc n) es (omega arith) (gapless_above (suc n) es g.1))
+-- events that rise, and weigh by position as a history without a gap, have no gap
+pub places : (n : ℕ) (h m : List Event) → IsGapless n h → IsNonDecreasingBy position_of m → ((f : ℕ → ℕ) → sum_by (λ (e : Event). f e.position) m ≡ sum_by (λ (e : Event). f e.position) h) → IsGapless n m
+places n h [] g rising weighs = tt
+places n [] (x ∷ xs) g rising weighs = absurd (omega (arith, weighs (λ p. 1), sum_by-cons (λ (e : Event). 1) x xs))
+places n (e ∷ h) (x ∷ xs) g rising weighs =
+    let c = λ (f : ℕ → ℕ). sum_by-cons (λ (e : Event). f e.position) x xs in let c' = λ (f : ℕ → ℕ). sum_by-cons (λ (e : Event). f e.position) e h in
+    let none = none_low n (e ∷ h) (λ k d there. omega (arith, placed n k (e ∷ h) d g there)) in
+    let others = none_low (suc n) h (λ k d there. omega (arith, placed (suc n) k h d g.1 there)) in
+    let rising_tail : n < x.position → All (λ (y : Event). suc n ≤ y.position) xs = λ far k d there. let up = rising 0 (suc k) d (omega arith) (omega arith) in omega arith in
+    let least : n ≤ x.position = grind (arith, nat_tests, weighs (low n), c (low n), none) in
+    let most : x.position ≤ n = grind (arith, nat_tests, weighs (low (suc n)), c (low (suc n)), c' (low (suc n)), others, g.0, none_low (suc n) xs, rising_tail) in
+    (omega arith, places (suc n) h xs g.1 (λ i j d order there. rising (suc i) (suc j) d (omega arith) (omega arith)) (λ f. let w = weighs f in let same : f x.position ≡ f e.position = ap f (let p = g.0 in omega arith) in omega (arith, w, c f, c' f, same)))
 
-gapless_rising : (n : ℕ) (h : List Event) → IsGapless n h → Rising h
-gapless_rising n [] g = tt
-gapless_rising n (e ∷ es) g = let p = g.0 in (above_lower e.position (suc n) es (omega arith) (gapless_above (suc n) es g.1), gapless_rising (suc n) es g.1)
+-- the same events, both without a gap
+pub same_events : (n : ℕ) (h m : List Event) → IsGapless n h → IsGapless n m → IsPermutation m h → m ≡ h
+same_events n h [] g g' same = sym (nil_from_length h (length_permutation [] h same))
+same_events n h (x ∷ xs) g g' same =
+    let m = x ∷ xs in let long = length_permutation m h same in
+    ext_get_or x m h (sym long) (λ k there.
+    let y = get_or m k x in
+    let has : Contains h y = Contains-permutation m h y same (Contains-get_or m k x there) in
+    let here : has.0 ≡ k = omega (arith, placed n k m x g' there, placed n has.0 h y g has.1, ap position_of has.2) in
+    sym has.2 ∙ (ap (λ j. get_or h j y) here ∙ get_or_default h k y x (omega (arith, long, there))))
 
-above_of : (n : ℕ) (xs : List Event) → ((j : ℕ) (d : Event) → j < length xs → n ≤ (get_or xs j d).position) → Above n xs
-above_of n [] h = tt
-above_of n (x ∷ xs) h = (h 0 x (omega arith), above_of n xs (λ j d lt. h (suc j) d (omega arith)))
+next_place : (n : ℕ) (before after : List Event) (last event : Event) → IsGapless n ((before ++ last ∷ []) ++ event ∷ after) → event.position ≡ last.position + 1
+next_place n [] after last event g = omega (arith, g.0, g.1.0)
+next_place n (b ∷ before) after last event g = next_place (suc n) before after last event g.1
 
-rising_of : (xs : List Event) → IsNonDecreasingBy position_of xs → Rising xs
-rising_of [] r = tt
-rising_of (x ∷ xs) r = (above_of x.position xs (λ j d lt. r 0 (suc j) d (omega arith) (omega arith)), rising_of xs (λ i j d le lt. r (suc i) (suc j) d (omega arith) (omega arith)))
-
--- one where the event stands at the place
-abbrev at : ℕ → Event → ℕ
-at n e = cond (e.position == n) 1 0
-
-at_place : (n : ℕ) (e : Event) → e.position ≡ n → at n e ≡ 1
-at_place n e is = ap {B = ℕ} (λ b. cond b 1 0) (eq-eqb e.position n is)
-
-past_place : (n : ℕ) (e : Event) → n < e.position → at n e ≡ 0
-past_place n e lt = ap {B = ℕ} (λ b. cond b 1 0) (ne_eqb e.position n (λ is. absurd (omega arith)))
-
-none_at : (n m : ℕ) (xs : List Event) → n < m → Above m xs → sum_by (at n) xs ≡ 0
-none_at n m [] lt h = refl
-none_at n m (x ∷ xs) lt h = let le = h.0 in let p = past_place n x (omega arith) in let q = none_at n m xs lt h.1 in omega (arith, p, q, sum_by-cons (at n) x xs)
-
-has_above : (n : ℕ) (x : Event) (h : List Event) → Has x h → Above n h → n ≤ x.position
-has_above n x [] has a = absurd has
-has_above n x (y ∷ ys) has a = ⊎_elim (λ is. let p = ap position_of is in let q = a.0 in omega (arith, p, q)) (λ later. has_above n x ys later a.1) has
-
--- without the event of that place
-narrow : (n : ℕ) (e : Event) (es xs : List Event) → e.position ≡ n → sum_by (at n) xs ≡ 0 → Among xs (e ∷ es) → Among xs es
-narrow n e es [] stands none a = tt
-narrow n e es (y ∷ ys) stands none a = let c = sum_by-cons (at n) y ys in (
-  ⊎_elim (λ is. let p = at_place n y (ap position_of is ∙ stands) in absurd (omega (arith, p, c, none))) (λ later. later) a.0,
-  narrow n e es ys stands (omega (arith, c, none)) a.1,
-)
-
-first_is : (n : ℕ) (e x : Event) (es xs : List Event) → IsGapless n (e ∷ es) → Above x.position xs → Has x (e ∷ es) → sum_by (at n) (x ∷ xs) ≡ sum_by (at n) (e ∷ es) → x ≡ e
-first_is n e x es xs g rising has w = ⊎_elim (λ is. is)
-    (λ later. let le = has_above (suc n) x es later (gapless_above (suc n) es g.1) in
-    let p = past_place n x (omega arith) in let q = none_at n x.position xs (omega arith) rising in let r = at_place n e g.0 in
-    absurd (omega (arith, p, q, r, w, sum_by-cons (at n) x xs, sum_by-cons (at n) e es)))
-    has
-
-same : (h m : List Event) (n : ℕ) → IsGapless n h → Rising m → Among m h → ((f : Event → ℕ) → sum_by f m ≡ sum_by f h) → m ≡ h
-same [] [] n g r a w = refl
-same [] (x ∷ xs) n g r a w = absurd a.0
-same (e ∷ es) [] n g r a w = let p = w (λ (y : Event). 1) in absurd (omega (arith, p, sum_by-cons (λ (y : Event). 1) e es))
-same (e ∷ es) (x ∷ xs) n g r a w =
-    let is : x ≡ e = first_is n e x es xs g r.0 a.0 (w (at n)) in
-    let rest : ((f : Event → ℕ) → sum_by f xs ≡ sum_by f es) = λ f. let p = w f in let q = ap f is in omega (arith, p, q, sum_by-cons f x xs, sum_by-cons f e es) in
-    let none : sum_by (at n) xs ≡ 0 = rest (at n) ∙ none_at n (suc n) es (omega arith) (gapless_above (suc n) es g.1) in
-    ap (λ y. y ∷ xs) is ∙ ap (λ ys. e ∷ ys) (same es xs (suc n) g.1 r.1 (narrow n e es xs g.0 none a.1) rest)
-
-all_of : (h xs : List Event) → Among xs h → All (λ x. Has x h) xs
-all_of h [] a k d lt = absurd (omega arith)
-all_of h (x ∷ xs) a zero d lt = a.0
-all_of h (x ∷ xs) a (suc k) d lt = all_of h xs a.1 k d (omega arith)
-
-among_of : (h xs : List Event) → All (λ x. Has x h) xs → Among xs h
-among_of h [] all = tt
-among_of h (x ∷ xs) all = (all 0 x (omega arith), among_of h xs (λ k d lt. all (suc k) d (omega arith)))
-
-module _ (h all : List Event) (n : ℕ) (g : IsGapless n h) (a : Among all h) (w : (f : Event → ℕ) → sum_by f all ≡ sum_by f h) where
-  ordered : (m : List Event) → IsPermutation all m → Rising m → m ≡ h
-  ordered m perm r = same h m n g r (among_of h m (All-permutation (λ x. Has x h) all m perm (all_of h all a))) (λ f. sum_by-IsPermutation f all m perm ∙ w f)
+module _ (n : ℕ) (h all : List Event) (g : IsGapless n h) (whole : IsPermutation all h) where
+  in_place : (m : List Event) → IsPermutation all m → IsNonDecreasingBy position_of m → IsGapless n m
+  in_place m same rising = places n h m g rising (λ f. sum_by-IsPermutation (λ (e : Event). f e.position) all m same ∙ sym (sum_by-IsPermutation (λ (e : Event). f e.position) all h whole))
 
   -- put together in order, the events are the history
   pub merged_is : (m : List Event) → IsMerged all m → m ≡ h
-  merged_is m merged = ordered m merged.same (gapless_rising (start_of m) m merged.unbroken)
+  merged_is m merged =
+      let rising : IsNonDecreasingBy position_of m = λ i j d order there. omega (arith, placed (start_of m) i m d merged.unbroken (omega arith), placed (start_of m) j m d merged.unbroken there) in
+      same_events n h m g (in_place m merged.same rising) (IsPermutation-trans m all h (IsPermutation-sym all m merged.same) whole)
 
-  next_place : (k : ℕ) (before after : List Event) (last event : Event) → IsGapless k ((before ++ last ∷ []) ++ event ∷ after) → event.position ≡ last.position + 1
-  next_place k [] after last event q = let x = q.0 in let y = q.1.0 in omega (arith, x, y)
-  next_place k (b ∷ bs) after last event q = next_place (suc k) bs after last event q.1
-
-  unbroken_at : (how : ℕ → ℕ → Type 0) (sorted : List Event) (position : ℕ) → IsPermutation all sorted → IsNonDecreasingBy position_of sorted → (b : Breaks how sorted position) → b.event.position ≡ b.last.position + 1
-  unbroken_at how sorted position perm rising b = next_place n b.before b.after b.last b.event (subst (IsGapless n) (sym (ordered sorted perm (rising_of sorted rising)) ∙ b.parts) g)
-
-  -- neither reason not to put them together
-  pub no_repeat : (position : ℕ) → IsReason all (errors.Repeated position) → ⊥
-  no_repeat position r = let p = unbroken_at (λ before here. here ≡ before) r.sorted position r.same r.rising r.breaks in let q = r.breaks.broken in omega (arith, p, q)
-
-  pub no_gap : (position : ℕ) → IsReason all (errors.Gap position) → ⊥
-  no_gap position r = let p = unbroken_at (λ before here. before + 1 < here) r.sorted position r.same r.rising r.breaks in let q = r.breaks.broken in omega (arith, p, q)
+  -- there is no reason not to put them together but want of memory
+  pub never_refused : (e : MergeError) → e ≢ errors.NoMemory → IsReason all e → ⊥
+  never_refused errors.NoMemory other r = other refl
+  never_refused (errors.Repeated position) other r =
+      let b = r.breaks in omega (arith, next_place n b.before b.after b.last b.event (subst (IsGapless n) b.parts (in_place r.sorted r.same r.rising)), b.broken)
+  never_refused (errors.Gap position) other r =
+      let b = r.breaks in omega (arith, next_place n b.before b.after b.last b.event (subst (IsGapless n) b.parts (in_place r.sorted r.same r.rising)), b.broken)

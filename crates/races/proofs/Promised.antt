@@ -1,5 +1,5 @@
 -- What the threads of a race promised, at their places.
-use Rattle.std.proofs.Common.{◌≡◌, ℕ, zero, suc, ◌<◌, List, [], ◌∷◌, length, map, get_or, Ok, Global, sym, ap, ◌∙◌, subst, arith}
+use Rattle.std.proofs.Common.{◌≡◌, ℕ, zero, suc, ◌<◌, List, [], ◌∷◌, length, map, get_or, Ok, Global, sym, ap, ◌∙◌, subst, arith, All}
 use Rattle.std.specs.Prelude.{Result, Vec, vec_len, IfOk}
 use Rattle.races.proofs.Common.{Cmd, Db, length-map}
 use Rattle.races.specs.declared.ended.Ended.{Ended}
@@ -15,20 +15,15 @@ of_map f [] k a e = absurd (some-ne-none a (sym e))
 of_map f (x ∷ xs) zero a e = ap (λ y. some (f y)) (some-injective x a e)
 of_map f (x ∷ xs) (suc k) a e = of_map f xs k a e
 
-pub read_at : {A : Type 0} (xs : List A) (k : ℕ) (a : A) → k < length xs → a ≡ get_or xs k a → get_elem? xs k ≡ some a
-read_at [] k a there at = absurd (omega arith)
-read_at (x ∷ xs) zero a there at = ap some (sym at)
-read_at (x ∷ xs) (suc k) a there at = read_at xs k a (omega arith) at
+-- one that is read at a place stands there
+pub found : {A : Type 0} (xs : List A) (k : ℕ) (a : A) → get_elem? xs k ≡ some a → (k < length xs) × ((d : A) → get_or xs k d ≡ a)
+found [] k a e = absurd (some-ne-none a (sym e))
+found (x ∷ xs) zero a e = (omega arith, λ d. some-injective x a e)
+found (x ∷ xs) (suc k) a e = let rest = found xs k a e in (omega (arith, rest.0), rest.1)
 
-pub there_at : {A : Type 0} (xs : List A) (k : ℕ) (a : A) → get_elem? xs k ≡ some a → k < length xs
-there_at [] k a e = absurd (some-ne-none a (sym e))
-there_at (x ∷ xs) zero a e = omega arith
-there_at (x ∷ xs) (suc k) a e = let q = there_at xs k a e in omega arith
-
-pub got_at : {A : Type 0} (xs : List A) (k : ℕ) (a d : A) → get_elem? xs k ≡ some a → get_or xs k d ≡ a
-got_at [] k a d e = absurd (some-ne-none a (sym e))
-got_at (x ∷ xs) zero a d e = some-injective x a e
-got_at (x ∷ xs) (suc k) a d e = got_at xs k a d e
+-- and has what all have
+pub all_at : {A : Type 0} (P : A → Type 0) (xs : List A) (k : ℕ) (a : A) → All P xs → get_elem? xs k ≡ some a → P a
+all_at P xs k a all e = let f = found xs k a e in subst P (f.1 a) (all k a f.0)
 
 -- what each thread promised, its session kept
 pub all_ended : {H Z E : Type 0} (promise : H → Plays) (db : Db) (seats : List _) (lists : List (Vec Cmd Global)) (handles : List H) (results : List (Result Ended E)) (all : Vec Ended Z) → AreStarted promise db seats lists handles
@@ -39,7 +34,7 @@ all_ended promise db seats lists handles results all started kept as_many ok who
   as_many = ap length (sym started.of_lists) ∙ (length-map handles (λ h. (promise h).commands.value) ∙ (sym (length-map handles (λ h. (promise h).seat.value)) ∙ ap length started.of_seats));
   each = λ k e at.
       let r = kept k (Ok e) (ap (λ xs. get_elem? xs k) (sym ok) ∙ of_map Ok all.items k e at) in
-      let same : (promise r.0).db.value ≡ db = subst (λ h. (promise h).db.value ≡ db) (got_at handles k r.0 r.0 r.1) (started.same k r.0 (there_at handles k r.0 r.1)) in
+      let same : (promise r.0).db.value ≡ db = all_at (λ h. (promise h).db.value ≡ db) handles k r.0 started.same r.1 in
       record {
         seat = (promise r.0).seat.value;
         commands = (promise r.0).commands.value;

@@ -1,28 +1,25 @@
 -- A run that stopped, once its database is finished.
 use Rattle.std.proofs.Common.{◌≡◌, ◌≢◌, ℕ, ◌+◌, List, [], ◌++◌, length, refl, sym, ap, ◌∙◌, subst, append-nil, append_assoc, inl, arith}
-use Rattle.sessions.proofs.Common.{Config, Event, Format, RingInRange, SeatsInRange, first_of, most, script_at}
+use Rattle.sessions.proofs.Common.{Config, Event, Format, RingInRange, SeatsInRange, first_of, most, script_at, script_text}
 use Rattle.sessions.specs.declared.ending.ServeEnd.{ServeEnd}
 use Rattle.sessions.specs.declared.ending.ServeEnd.TheVariants as end
 use Rattle.sessions.specs.Devices.{Reads, Writes}
 use Rattle.sessions.specs.declared.serving.Run.{Run}
 use Rattle.sessions.specs.Writing.{HasTaken, HasBegun}
 use Rattle.sessions.specs.Made.{HasMade, HasSpent, IsHistory}
-use Rattle.sessions.specs.Runs.{EndsBy, FailsBy, IsOpenAt, IsServed, last_line}
+use Rattle.sessions.specs.Runs.{calls_of, EndsBy, FailsBy, IsOpenAt, IsServed, last_line}
 use Rattle.sessions.specs.Going.{IsStopped, IsRefused, kept_at}
-use Rattle.sessions.proofs.Goings.{ends_known, cut_off}
+use Rattle.sessions.proofs.Goings.{cut_off}
+use Rattle.sessions.proofs.Scripts.{begin_with}
+use Rattle.sessions.proofs.Steps.{few_seats}
 
 open_at : (config : Config) (e : ServeEnd) → SeatsInRange config × RingInRange config → IsOpenAt config e
 open_at config (end.Open reason) r = tt
 open_at config _ r = r
 
-nothing_behind : (out pending : List ℕ) → out ++ pending ≡ out ++ (pending ++ [])
-nothing_behind out pending = ap (λ (xs : List ℕ). out ++ xs) (sym (append-nil pending))
-
 kept_else : (e : ServeEnd) (out pending : List ℕ) → e ≢ end.Output → kept_at e out pending ≡ out ++ (pending ++ last_line e)
-kept_else (end.Fault line fault) out pending ne = refl
-kept_else (end.Spent line) out pending ne = refl
 kept_else end.Output out pending ne = absurd (ne refl)
-kept_else _ out pending ne = nothing_behind out pending
+kept_else _ out pending ne = refl
 
 -- how often writes failed, where the rest is written or can't be
 fails_whole : (e : ServeEnd) (r r' : Reads) (w w' w'' : Writes) → e ≢ end.Output → w''.failures ≡ w'.failures → FailsBy e r w r' w' → FailsBy e r w r' w''
@@ -33,55 +30,54 @@ fails_part : (e : ServeEnd) (r r' : Reads) (w w' w'' : Writes) → e ≢ end.Out
 fails_part end.Output r r' w w' w'' ne failed h = absurd (ne refl)
 fails_part _ r r' w w' w'' ne failed h = let reads = h.0 in (omega (arith, reads), omega (arith, reads), failed ∙ ap (λ (n : ℕ). n + 1) h.1)
 
-abbrev AllLegal : Run → Type 0
-AllLegal run = (events : List Event) → HasMade run.callers.latest run.callers.seats.items events → IsHistory (first_of run.callers.db) events
+module _ (r r' : Reads) (w w' : Writes) (run : Run) (e : ServeEnd) (s : IsStopped r r' w w' run e) (legal : (events : List Event) → HasMade run.callers.latest run.callers.seats.items events → IsHistory (first_of run.callers.db) events)
+    (spent : (events : List Event) → HasMade run.callers.latest run.callers.seats.items events → HasSpent run.callers.seats.items → first_of run.callers.db + length events ≡ most) where
+  abbrev input : List ℕ
+  input = script_text (calls_of s.events) ++ s.rest
 
-abbrev AllSpent : Run → Type 0
-AllSpent run = (events : List Event) → HasMade run.callers.latest run.callers.seats.items events → HasSpent run.callers.seats.items → first_of run.callers.db + length events ≡ most
+  abbrev Ends : List ℕ → ServeEnd → Type 0
+  Ends output e' = EndsBy run.terms.format (run.terms.config.first + length s.events ≡ most) run.terms.config input r'.ended s.events output e'
 
-served : (r r' : Reads) (w w' w'' : Writes) (output : List ℕ) (run : Run) (e e' : ServeEnd) (s : IsStopped r r' w w' run e) → AllLegal run → AllSpent run → w''.taken ≡ w.taken ++ output → FailsBy e' r w r' w''
-    → EndsBy run.terms.format (HasSpent run.callers.seats.items) run.terms.config s.input r'.ended s.events output e' → IsServed run.terms.format run.terms.config r r' w w'' e'
-served r r' w w' w'' output run e e' s legal spent wrote failed ends = record {
-  events = s.events;
-  history = subst (λ (n : ℕ). IsHistory n s.events) s.first (legal s.events s.made);
-  input = s.input;
-  read = s.read;
-  output = output;
-  wrote = wrote;
-  begins = s.begins;
-  ends = ends_known run.terms.format (HasSpent run.callers.seats.items) (run.terms.config.first + length s.events ≡ most) run.terms.config s.input r'.ended s.events output e' (λ h. subst (λ (n : ℕ). n + length s.events ≡ most) s.first (spent s.events s.made h)) ends;
-  opened = open_at run.terms.config e' s.in_range;
-  failed = failed;
-}
+  ended : Ends (kept_at e s.out run.output.pending.items) e
+  ended = s.ends (λ h. subst (λ (n : ℕ). n + length s.events ≡ most) s.called.first (spent s.events s.called.made h))
 
--- a write has failed before
-pub served_cut : (r r' : Reads) (w w' : Writes) (run : Run) (e : ServeEnd) → e ≡ end.Output → IsStopped r r' w w' run e → AllLegal run → AllSpent run → IsServed run.terms.format run.terms.config r r' w w' end.Output
-served_cut r r' w w' run e is s legal spent =
-    let s' : IsStopped r r' w w' run end.Output = subst (IsStopped r r' w w' run) is s in
-    served r r' w w' w' s'.out run end.Output end.Output s' legal spent s'.wrote s'.failed s'.ends
+  served : (w'' : Writes) (output : List ℕ) (e' : ServeEnd) → w''.taken ≡ w.taken ++ output → FailsBy e' r w r' w'' → Ends output e' → IsServed run.terms.format run.terms.config r r' w w'' e'
+  served w'' output e' wrote failed ends = record {
+    events = s.events;
+    history = subst (λ (n : ℕ). IsHistory n s.events) s.called.first (legal s.events s.called.made);
+    input = input;
+    read = s.called.read;
+    output = output;
+    wrote = wrote;
+    begins = begin_with run.terms.format run.terms.config.seats input s.rest r'.ended (calls_of s.events) (few_seats run.terms.config s.called.in_range.0) s.called.calls refl;
+    ends = ends;
+    opened = open_at run.terms.config e' s.called.in_range;
+    failed = failed;
+  }
 
--- what was left is written, with the line of the end
-pub served_whole : (r r' : Reads) (w w' w'' : Writes) (last : List ℕ) (run : Run) (e : ServeEnd) → e ≢ end.Output → last ≡ last_line e → HasTaken w'.taken w''.taken (run.output.pending.items ++ last) [] → w''.failures ≡ w'.failures → IsStopped r r' w w' run e → AllLegal run → AllSpent run → IsServed run.terms.format run.terms.config r r' w w'' e
-served_whole r r' w w' w'' last run e ne is t same s legal spent =
-    let left = run.output.pending.items ++ last_line e in
-    let all : left ≡ t.part = ap (λ (xs : List ℕ). run.output.pending.items ++ xs) (sym is) ∙ (t.left ∙ append-nil t.part) in
-    served r r' w w' w'' (s.out ++ left) run e e s legal spent
-    (t.took ∙ (ap (λ (xs : List ℕ). xs ++ t.part) s.wrote ∙ (append_assoc w.taken s.out t.part ∙ ap (λ (xs : List ℕ). w.taken ++ (s.out ++ xs)) (sym all))))
-    (fails_whole e r r' w w' w'' ne same s.failed)
-    (subst (λ (xs : List ℕ). EndsBy run.terms.format (HasSpent run.callers.seats.items) run.terms.config s.input r'.ended s.events xs e) (kept_else e s.out run.output.pending.items ne) s.ends)
+  -- a write has failed before
+  pub served_cut : e ≡ end.Output → IsServed run.terms.format run.terms.config r r' w w' end.Output
+  served_cut is = served w' s.out end.Output s.wrote (subst (λ (x : ServeEnd). FailsBy x r w r' w') is s.failed) (subst (λ (x : ServeEnd). Ends (kept_at x s.out run.output.pending.items) x) is ended)
 
--- what was left can't be written
-pub served_part : (r r' : Reads) (w w' w'' : Writes) (last : List ℕ) (run : Run) (e : ServeEnd) → e ≢ end.Output → last ≡ last_line e → HasBegun w'.taken w''.taken (run.output.pending.items ++ last) → w''.failures ≡ w'.failures + 1 → IsStopped r r' w w' run e → AllLegal run → AllSpent run → IsServed run.terms.format run.terms.config r r' w w'' end.Output
-served_part r r' w w' w'' last run e ne is begun failed s legal spent =
-    let rest = begun.0 in let t = begun.1 in
-    let left = run.output.pending.items ++ last_line e in
-    let all : left ≡ t.part ++ rest = ap (λ (xs : List ℕ). run.output.pending.items ++ xs) (sym is) ∙ t.left in
-    served r r' w w' w'' (s.out ++ t.part) run e end.Output s legal spent
-    (t.took ∙ (ap (λ (xs : List ℕ). xs ++ t.part) s.wrote ∙ append_assoc w.taken s.out t.part))
-    (fails_part e r r' w w' w'' ne failed s.failed)
-    (cut_off run.terms.format (HasSpent run.callers.seats.items) run.terms.config s.input r'.ended s.events e (s.out ++ left) (s.out ++ t.part)
-    (subst (λ (xs : List ℕ). EndsBy run.terms.format (HasSpent run.callers.seats.items) run.terms.config s.input r'.ended s.events xs e) (kept_else e s.out run.output.pending.items ne) s.ends)
-    (rest, ap (λ (xs : List ℕ). s.out ++ xs) all ∙ sym (append_assoc s.out t.part rest)))
+  module _ (last : List ℕ) (w'' : Writes) (ne : e ≢ end.Output) (is : last ≡ last_line e) where
+    abbrev left : List ℕ
+    left = run.output.pending.items ++ last
+
+    owed : Ends (s.out ++ left) e
+    owed = subst (λ (xs : List ℕ). Ends xs e) (kept_else e s.out run.output.pending.items ne ∙ ap (λ (xs : List ℕ). s.out ++ (run.output.pending.items ++ xs)) (sym is)) ended
+
+    -- what was left is written, with the line of the end
+    pub served_whole : HasTaken w'.taken w''.taken left [] → w''.failures ≡ w'.failures → IsServed run.terms.format run.terms.config r r' w w'' e
+    served_whole t same = served w'' (s.out ++ left) e
+        (t.took ∙ (ap (λ (xs : List ℕ). xs ++ t.part) s.wrote ∙ (append_assoc w.taken s.out t.part ∙ ap (λ (xs : List ℕ). w.taken ++ (s.out ++ xs)) (sym (t.left ∙ append-nil t.part)))))
+        (fails_whole e r r' w w' w'' ne same s.failed) owed
+
+    -- what was left can't be written
+    pub served_part : HasBegun w'.taken w''.taken left → w''.failures ≡ w'.failures + 1 → IsServed run.terms.format run.terms.config r r' w w'' end.Output
+    served_part begun failed =
+        let rest = begun.0 in let t = begun.1 in
+        served w'' (s.out ++ t.part) end.Output (t.took ∙ (ap (λ (xs : List ℕ). xs ++ t.part) s.wrote ∙ append_assoc w.taken s.out t.part)) (fails_part e r r' w w' w'' ne failed s.failed)
+        (cut_off run.terms.format (run.terms.config.first + length s.events ≡ most) run.terms.config input r'.ended s.events e (s.out ++ left) (s.out ++ t.part) owed (rest, ap (λ (xs : List ℕ). s.out ++ xs) t.left ∙ sym (append_assoc s.out t.part rest)))
 
 -- nothing was begun
 unbegun : (format : Format) (config : Config) (r : Reads) (w : Writes) (e : ServeEnd) → EndsBy format (config.first + 0 ≡ most) config [] r.ended [] [] e → IsOpenAt config e → FailsBy e r w r w → IsServed format config r r w w e

@@ -101,6 +101,14 @@ pub newline_none : (bytes : List ℕ) (n : ℕ) (known : Option ℕ) → is_some
 newline_none bytes n known none is lacks =
     newline_lacks (take n bytes) (drop n bytes) (none_known known none ∙ is) (lacks ∙ ap (position is_newline) (end_is n bytes)) ∙ ap (position is_newline) (take-append-drop n bytes)
 
+-- it is the first too of the bytes up to it
+pub newline_front : (bytes : List ℕ) (at n : ℕ) → Some at ≡ position is_newline bytes → n ≡ at + 1 → n ≤ length bytes → Some at ≡ position is_newline (take n bytes)
+newline_front bytes at n is next within =
+    let long = length-take-le n bytes within in
+    let whole : before (take n bytes ++ drop n bytes) ≡ at = ap before (take-append-drop n bytes) ∙ (some_before bytes at is).0 in
+    let here : before (take n bytes) ≡ at = grind (arith, before_kept (take n bytes) (drop n bytes), before_behind (take n bytes) (drop n bytes), whole, long, next) in
+    found_at (take n bytes) at here (omega arith)
+
 -- bytes that have none don't end in one
 pub no_last : (xs : List ℕ) → None ≡ position is_newline xs → 0 < length xs → has_newline xs ≡ false
 no_last xs none some = fails_before_first is_newline xs (length xs - 1) 0 (omega (arith, some, none_before xs none, before_is xs))

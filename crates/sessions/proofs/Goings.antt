@@ -3,7 +3,7 @@ use Rattle.std.proofs.Common.{◌≡◌, ℕ, Bool, List, [], ◌∷◌, ◌++�
 use Rattle.sessions.proofs.Common.{Config, Event, Format, StartsWith, event_text, events_text, fault_line, header, spent_line, transcript_text}
 use Rattle.sessions.specs.declared.ending.ServeEnd.{ServeEnd}
 use Rattle.sessions.specs.declared.ending.ServeEnd.TheVariants as end
-use Rattle.sessions.specs.Runs.{calls_of, IsLast, IsPart, IsSpentAt, IsWanting, EndsBy}
+use Rattle.sessions.specs.Runs.{calls_of, IsPart, IsWanting, EndsBy}
 
 -- ---- lists
 
@@ -62,22 +62,3 @@ module _ (format : Format) (used : Type 0) (config : Config) (input : List ℕ) 
   cut_off end.Input whole output h s = begun whole output (sym h.1) s
   cut_off end.Output whole output h s = record { last = h.last; is_last = h.is_last; begins = starts_trans (transcript_text format events ++ h.last) whole output h.begins s }
   cut_off end.Memory whole output h s = wanted whole output h s
-
--- ---- what was known of the seats is known of the positions
-
-module _ {used used' : Type 0} (format : Format) (knows : used → used') (seats : ℕ) (input : List ℕ) (ended : Bool) where
-  spent_known : (calls : List _) (line : ℕ) → IsSpentAt format used seats input ended calls line → IsSpentAt format used' seats input ended calls line
-  spent_known calls line s = record { all = knows s.all; numbered = s.numbered; call = s.call; next = s.next }
-
-  last_known : (calls : List _) (last : List ℕ) → IsLast format used seats input ended calls last → IsLast format used' seats input ended calls last
-  last_known calls last (inl none) = inl none
-  last_known calls last (inr (inl fault)) = inr (inl fault)
-  last_known calls last (inr (inr spent)) = inr (inr (spent.0, spent_known calls spent.0 spent.1, spent.2))
-
-  part_known : (events : List Event) (output : List ℕ) → IsPart format used seats input ended events output → IsPart format used' seats input ended events output
-  part_known events output p = record { last = p.last; is_last = last_known (calls_of events) p.last p.is_last; begins = p.begins }
-
-pub ends_known : (format : Format) (used used' : Type 0) (config : Config) (input : List ℕ) (ended : Bool) (events : List Event) (output : List ℕ) (e : ServeEnd) → (used → used') → EndsBy format used config input ended events output e → EndsBy format used' config input ended events output e
-ends_known format used used' config input ended events output (end.Spent line) knows h = (spent_known format knows config.seats input ended (calls_of events) line h.0, h.1)
-ends_known format used used' config input ended events output end.Output knows h = part_known format knows config.seats input ended events output h
-ends_known format used used' config input ended events output _ knows h = h

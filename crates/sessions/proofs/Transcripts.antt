@@ -1,5 +1,5 @@
 -- A transcript written event by event.
-use Rattle.std.proofs.Common.{◌≡◌, ◌<◌, ℕ, suc, List, [], ◌∷◌, ◌++◌, drop, length, get_or, refl, sym, ap, ◌∙◌, append-nil, append_assoc}
+use Rattle.std.proofs.Common.{◌≡◌, ◌<◌, ◌+◌, ℕ, suc, List, [], ◌∷◌, ◌++◌, drop, length, get_or, refl, sym, ap, ◌∙◌, append-nil, append_assoc, arith}
 use Rattle.sessions.proofs.Common.{Event, drop-cons, event_text, events_text}
 use Rattle.sessions.specs.Writing.{HasTaken, HasBegun}
 
@@ -7,34 +7,25 @@ use Rattle.sessions.specs.Writing.{HasTaken, HasBegun}
 pub nothing_taken : (taken bytes : List ℕ) → HasTaken taken taken bytes bytes
 nothing_taken taken bytes = record { part = []; took = sym (append-nil taken); left = refl }
 
--- the text of one event more is kept
-pub one_kept : (whole taken taken' : List ℕ) (events : List Event) (at next : ℕ) (event : Event) (pending pending' : List ℕ) → at < length events → event ≡ get_or events at event → next ≡ suc at → pending' ≡ pending ++ event_text event
-    → HasTaken taken taken' whole (pending ++ events_text (drop at events)) → HasTaken taken taken' whole (pending' ++ events_text (drop next events))
-one_kept whole taken taken' events at next event pending pending' low there is grown h =
-    let rest = events_text (drop (suc at) events) in record {
-      part = h.part;
-      took = h.took;
-      left = h.left ∙ ap (λ (xs : List ℕ). h.part ++ xs)
-          (ap (λ (es : List Event). pending ++ events_text es) (drop-cons events at event low ∙ ap (λ x. x ∷ drop (suc at) events) (sym there))
-          ∙ (sym (append_assoc pending (event_text event) rest)
-          ∙ (ap (λ (p : List ℕ). p ++ rest) (sym grown) ∙ ap (λ (n : ℕ). pending' ++ events_text (drop n events)) (sym is))));
-    }
-
--- a part of what is kept is written
-pub more_taken : (taken taken' taken'' bytes pending rest more : List ℕ) → HasTaken taken taken' bytes (pending ++ more) → HasTaken taken' taken'' pending rest → HasTaken taken taken'' bytes (rest ++ more)
-more_taken taken taken' taken'' bytes pending rest more a b = record {
+-- a part of what was left is taken too
+pub taken_on : (taken taken' taken'' bytes kept rest : List ℕ) → HasTaken taken taken' bytes kept → HasTaken taken' taken'' kept rest → HasTaken taken taken'' bytes rest
+taken_on taken taken' taken'' bytes kept rest a b = record {
   part = a.part ++ b.part;
   took = b.took ∙ (ap (λ (xs : List ℕ). xs ++ b.part) a.took ∙ append_assoc taken a.part b.part);
-  left = a.left ∙ (ap (λ (xs : List ℕ). a.part ++ (xs ++ more)) b.left ∙ (ap (λ (xs : List ℕ). a.part ++ xs) (append_assoc b.part rest more) ∙ sym (append_assoc a.part b.part (rest ++ more))));
+  left = a.left ∙ (ap (λ (xs : List ℕ). a.part ++ xs) b.left ∙ sym (append_assoc a.part b.part rest));
 }
 
--- of what was left a part is written
-pub begun_on : (taken taken' taken'' bytes pending : List ℕ) → HasTaken taken taken' bytes pending → HasBegun taken' taken'' pending → HasBegun taken taken'' bytes
-begun_on taken taken' taken'' bytes pending a b = (
-  b.0,
-  record {
-    part = a.part ++ b.1.part;
-    took = b.1.took ∙ (ap (λ (xs : List ℕ). xs ++ b.1.part) a.took ∙ append_assoc taken a.part b.1.part);
-    left = a.left ∙ (ap (λ (xs : List ℕ). a.part ++ xs) b.1.left ∙ sym (append_assoc a.part b.1.part b.0));
-  },
-)
+pub begun_on : (taken taken' taken'' bytes kept : List ℕ) → HasTaken taken taken' bytes kept → HasBegun taken' taken'' kept → HasBegun taken taken'' bytes
+begun_on taken taken' taken'' bytes kept a b = (b.0, taken_on taken taken' taken'' bytes kept b.0 a b.1)
+
+-- more stands behind the bytes
+pub taken_before : (taken taken' bytes rest more : List ℕ) → HasTaken taken taken' bytes rest → HasTaken taken taken' (bytes ++ more) (rest ++ more)
+taken_before taken taken' bytes rest more t = record { part = t.part; took = t.took; left = ap (λ (xs : List ℕ). xs ++ more) t.left ∙ append_assoc t.part rest more }
+
+-- the text of one event more is kept
+pub one_kept : (events : List Event) (at : ℕ) (event : Event) (pending pending' : List ℕ) → at < length events → event ≡ get_or events at event → pending' ≡ pending ++ event_text event
+    → pending ++ events_text (drop at events) ≡ pending' ++ events_text (drop (at + 1) events)
+one_kept events at event pending pending' low there grown =
+    let next : suc at ≡ at + 1 = omega arith in
+    ap (λ (es : List Event). pending ++ events_text es) (drop-cons events at event low ∙ ap (λ x. x ∷ drop (suc at) events) (sym there))
+    ∙ (sym (append_assoc pending (event_text event) (events_text (drop (suc at) events))) ∙ λ i. sym grown i ++ events_text (drop (next i) events))

@@ -1,49 +1,48 @@
 -- A run between two lines, and where it stops.
 use Rattle.std.specs.Prelude.{◌≡◌, ℕ, ◌+◌, true, false, List, [], ◌∷◌, ◌++◌, length, vec_len, Result, Ok, Err}
-use Rattle.sessions.specs.Prelude.{All, Config, Event, IsCall, IsReason, RingInRange, SeatsInRange, fault_line, first_of, header, script_text, spent_line, transcript_text}
+use Rattle.sessions.specs.Prelude.{All, Config, Event, IsCall, IsReason, RingInRange, SeatsInRange, first_of, header, most, script_text, transcript_text}
 use Rattle.sessions.specs.declared.ending.ServeEnd.{ServeEnd}
 use Rattle.sessions.specs.declared.ending.ServeEnd.TheVariants as end
+use Rattle.sessions.specs.declared.callers.Callers.{Callers}
 use Rattle.sessions.specs.declared.serving.Run.{Run}
+use Rattle.sessions.specs.declared.serving.Terms.{Terms}
 use Rattle.sessions.specs.Devices.{Reads, Writes}
 use Rattle.sessions.specs.Waiting.{waiting}
+use Rattle.sessions.specs.Writing.{HasTaken}
 use Rattle.sessions.specs.Made.{HasMade, HasSpent}
-use Rattle.sessions.specs.Runs.{calls_of, BeginWith, EndsBy, FailsBy, IsServed}
+use Rattle.sessions.specs.Runs.{calls_of, EndsBy, FailsBy, IsServed, last_line}
 
--- What was read is the lines of the calls made, and what waits. What was written and what waits to be is
--- the transcript of the events. No read and no write has failed.
+-- The calls of these events were made, and what was read is their lines, with this rest behind them.
+pub record HasCalled (r r' : Reads) (terms : Terms) (callers : Callers) (events : List Event) (rest : List ℕ) : Type 0 where
+  pub made : HasMade callers.latest callers.seats.items events
+  pub first : first_of callers.db ≡ terms.config.first
+  pub in_range : SeatsInRange terms.config × RingInRange terms.config
+  pub read : r'.given ≡ r.given ++ (script_text (calls_of events) ++ rest)
+  pub calls : All (IsCall terms.format terms.config.seats) (calls_of events)
+
+-- Their lines were taken. What was written and what waits to be is the transcript of the events. No read and no write has failed.
 pub record IsGoing (r r' : Reads) (w w' : Writes) (run : Run) (events : List Event) : Type 0 where
-  pub made : HasMade run.callers.latest run.callers.seats.items events
-  pub first : first_of run.callers.db ≡ run.terms.config.first
+  pub called : HasCalled r r' run.terms run.callers events (waiting run.lines)
   pub seats : vec_len run.callers.seats ≡ run.terms.config.seats
-  pub in_range : SeatsInRange run.terms.config × RingInRange run.terms.config
   pub formatted : run.lines.format ≡ run.terms.format
-  pub read : r'.given ≡ r.given ++ (script_text (calls_of events) ++ waiting run.lines)
   pub found : run.lines.ended ≡ true → r'.ended ≡ true
-  pub calls : All (IsCall run.terms.format run.terms.config.seats) (calls_of events)
-  pub out : List ℕ
-  pub wrote : w'.taken ≡ w.taken ++ out
-  pub keeps : out ++ run.output.pending.items ≡ transcript_text run.terms.format events
+  pub wrote : HasTaken w.taken w'.taken (transcript_text run.terms.format events) run.output.pending.items
   pub worked : (r'.failures ≡ r.failures) × (w'.failures ≡ w.failures)
 
 -- what was written and what will be: what waits, and the line of the end, but nothing more once a write has failed
 abbrev pub kept_at : ServeEnd → List ℕ → List ℕ → List ℕ
 kept_at end.Output out pending = out
-kept_at (end.Fault line fault) out pending = out ++ (pending ++ fault_line line fault)
-kept_at (end.Spent line) out pending = out ++ (pending ++ spent_line line)
-kept_at _ out pending = out ++ pending
+kept_at e out pending = out ++ (pending ++ last_line e)
 
--- why no call follows, before the database is finished
+-- why no call follows, before the database is finished, which then knows of the positions what a seat was told
 pub record IsStopped (r r' : Reads) (w w' : Writes) (run : Run) (e : ServeEnd) : Type 0 where
   pub events : List Event
-  pub made : HasMade run.callers.latest run.callers.seats.items events
-  pub first : first_of run.callers.db ≡ run.terms.config.first
-  pub in_range : SeatsInRange run.terms.config × RingInRange run.terms.config
-  pub input : List ℕ
-  pub read : r'.given ≡ r.given ++ input
+  pub rest : List ℕ
+  pub called : HasCalled r r' run.terms run.callers events rest
   pub out : List ℕ
   pub wrote : w'.taken ≡ w.taken ++ out
-  pub begins : BeginWith run.terms.format run.terms.config.seats input r'.ended (calls_of events)
-  pub ends : EndsBy run.terms.format (HasSpent run.callers.seats.items) run.terms.config input r'.ended events (kept_at e out run.output.pending.items) e
+  pub ends : (HasSpent run.callers.seats.items → run.terms.config.first + length events ≡ most)
+      → EndsBy run.terms.format (run.terms.config.first + length events ≡ most) run.terms.config (script_text (calls_of events) ++ rest) r'.ended events (kept_at e out run.output.pending.items) e
   pub failed : FailsBy e r w r' w'
 
 -- the end that the loop over all lines comes to

@@ -20,6 +20,6 @@ returns-in-Ok g c = let K = g.K.Sink in record {
 pub returns-in-Err : goal.returns-in-Err
 returns-in-Err g c = let K = g.K.Sink in record {
   followed = λ o r r' w s.
-      followed_unlined o r r' w (K.writes c.args.output.now) (K.writes c.written-in-Err.new.output) (pending_of c.args.kept) (pending_of c.keep_last.new.kept) c.args.end c.written-in-Err.result c.in-Err.ensures.line c.in-Err.ensures.err c.written-in-Err.ensures s;
+      followed_unlined o r r' w (K.writes c.args.output.now) (pending_of c.args.kept) c.args.end s (pending_of c.keep_last.new.kept) (K.writes c.written-in-Err.new.output) c.written-in-Err.result c.in-Err.ensures.line c.in-Err.ensures.err c.written-in-Err.ensures;
   begun = λ o r could. could_written o r (K.writes c.args.output.now) ends.Memory c.written-in-Err.result (K.writes c.args.output.now) (K.writes c.written-in-Err.new.output) (pending_of c.keep_last.new.kept) c.written-in-Err.ensures (inl refl);
 }

@@ -1,4 +1,4 @@
-use Rattle.std.proofs.Common.{◌≡◌, List, [], length}
+use Rattle.std.proofs.Common.{◌≡◌, List, length}
 use Rattle.spans.specs.declared.calls.events.Event.{Event}
 use Rattle.sessions.specs.Going.{IsGoing}
 use Rattle.sessions.proofs.serving.Run.calls.Given as goal
