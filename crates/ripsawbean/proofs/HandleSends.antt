@@ -1,5 +1,4 @@
 -- A handle may go to another thread, with what it keeps: nothing in it names the thread that made it.
-use Rattle.std.proofs.Common.{Bool, true, false}
 use Rattle.std.specs.Prelude.{Option, Some, None}
 use mir.Raw.{raw as bare}
 use base.Fraction.{full_share}
@@ -18,8 +17,6 @@ behind : (R : RattleType) → IsSend R → (at : Ptr) (x : R.Denot) → Keyless 
 behind R send (block_ptr b o) x = (part_keyless R send full_share x b o, frees.frees _ (bare (lone R.mir)) (block_ptr b o))
 behind R send null_ptr x = (tt, frees.frees _ (bare (lone R.mir)) null_ptr)
 
-pub kept : (R : RattleType) → IsSend R → (at : Ptr) (is_open : Bool) (x : Option R.Denot) → Keyless (keeps R at is_open x)
-kept R send at true (Some x) = behind R send at x
-kept R send at true None = tt
-kept R send at false (Some x) = tt
-kept R send at false None = tt
+pub kept : (R : RattleType) → IsSend R → (at : Ptr) (x : Option R.Denot) → Keyless (keeps R at x)
+kept R send at (Some x) = behind R send at x
+kept R send at None = tt

@@ -38,7 +38,7 @@ pub extern "C" fn ripsawbean_replica_begin(
     // 12 is told only of a line that may want memory to be read, or opens a feed.
     ensures memory { result ≡ 12 → IsUnseeded line.now rows.now NoMemory }
 {
-    if handle.is_open() {
+    if handle.is_open(alloc) {
         return OPEN;
     }
     let consumer = match Consumer::begin(alloc, line, rows) {

@@ -187,8 +187,7 @@ fn low_of(alloc: Global, low: &[u8]) -> Result<Option<Bound>, BoundError>
     if low.is_empty() {
         return Ok(None);
     }
-    let bound = Bound::new(alloc, low)?;
-    Ok(Some(bound))
+    Ok(Some(Bound::new(alloc, low)?))
 }
 
 fn high_of(alloc: Global, has_high: u8, high: &[u8]) -> Result<Option<Bound>, BoundError>
@@ -197,8 +196,7 @@ fn high_of(alloc: Global, has_high: u8, high: &[u8]) -> Result<Option<Bound>, Bo
     if has_high == 0 {
         return Ok(None);
     }
-    let bound = Bound::new(alloc, high)?;
-    Ok(Some(bound))
+    Ok(Some(Bound::new(alloc, high)?))
 }
 
 /// The call of a command on a handle's database, or why there is none, by its number; and the bytes of its answer.
@@ -215,14 +213,11 @@ fn show(
     ensures answer { Answered result handle.new.database answer.new }
     ensures bytes { ShownBytes result handle.new.database out.old out.new length.new }
 {
+    *length = 0;
+    *answer = no_answer();
     match handle.take(alloc) {
-        None => {
-            *length = 0;
-            *answer = no_answer();
-            CLOSED
-        }
-        Some(database) => {
-            let mut database = database;
+        None => CLOSED,
+        Some(mut database) => {
             let number = call_shown(&mut database, seat, cmd, out, length, answer);
             handle.put(database);
             number

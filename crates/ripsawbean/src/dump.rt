@@ -46,11 +46,9 @@ pub extern "C" fn ripsawbean_dump(
     ensures same { handle.new.database ≡ handle.old.database }
     ensures dump { ToldDump handle.old.database at through place.old place.new key.old key.new out.old out.new result length.new }
 {
+    *length = 0;
     match handle.take(alloc) {
-        None => {
-            *length = 0;
-            CLOSED
-        }
+        None => CLOSED,
         Some(database) => {
             let number = dump(alloc, &database, at, through, place, key, out, length);
             handle.put(database);

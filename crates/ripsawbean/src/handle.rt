@@ -1,16 +1,16 @@
 //! What a program holds of its database.
 
-ghost use Rattle.std.specs.Prelude.{◌≡◌, Option, Some, None, true, is_some, option_map};
+ghost use Rattle.std.specs.Prelude.{◌≡◌, Option, Some, None, is_some, option_map};
+ghost use Rattle.std.specs.Coded.{coded_option};
 ghost use Rattle.embedded.specs.declared.database.Database.{Database};
 ghost use Rattle.embedded.specs.contracts.database.Database.{the_row};
-ghost use Rattle.ripsawbean.specs.Handles.{keeps, held_code};
+ghost use Rattle.ripsawbean.specs.Handles.{flagged};
 
 use crate::loose::Loose;
 use embedded::Database;
 use std::alloc::Global;
 use std::marker::Model;
 use std::mem::replace;
-use std::ptr::null_mut;
 
 /// A program's database, or none: a handle is closed where it is all zero bytes.
 #[repr(C)]
@@ -18,11 +18,11 @@ use std::ptr::null_mut;
 pub struct Handle {
     at: *mut u8,
     is_open: bool,
-    pub ghost database: { Option Database } by { held_code the_row },
+    pub ghost database: { Option Database } by { coded_option the_row.coded },
 }
 
 impl Model for Handle {
-    ghost also_owns = { λ h. keeps the_row h.at h.is_open h.database };
+    ghost also_owns = { λ h. flagged the_row h.at h.is_open h.database };
 }
 
 // A program may hand it to another thread between two calls.
@@ -30,10 +30,16 @@ unsafe impl Send for Handle {}
 
 impl Handle {
     /// Whether it has a database.
-    pub(crate) fn is_open(&mut self) -> bool
-        ensures { (result ≡ is_some self.old.database) × (self.new ≡ self.old) }
+    pub(crate) fn is_open(&mut self, alloc: Global) -> bool
+        ensures { (result ≡ is_some self.old.database) × (self.new.database ≡ self.old.database) }
     {
-        self.is_open
+        match self.take(alloc) {
+            None => false,
+            Some(database) => {
+                self.put(database);
+                true
+            }
+        }
     }
 
     /// The database, after which the handle is closed.
@@ -41,8 +47,9 @@ impl Handle {
         ensures taken { option_map (λ b. b.value) result ≡ self.old.database }
         ensures closed { self.new.database ≡ None }
     {
-        if self.is_open() {
-            Some(replace(self, Handle::closed()).into_loose().into_box(alloc))
+        let (is_open, loose) = replace(self, Handle::of(false, Loose::none())).into_parts();
+        if is_open {
+            Some(loose.into_box(alloc))
         } else {
             None
         }
@@ -53,35 +60,31 @@ impl Handle {
         requires { self.old.database ≡ None }
         ensures { self.new.database ≡ Some database.value }
     {
-        *self = Handle::of(Loose::of(database));
+        *self = Handle::of(true, Loose::of(database));
     }
 
-    fn closed() -> Handle
-        ensures { result.database ≡ None }
-    {
-        Handle {
-            at: null_mut(),
-            is_open: false,
-        }
-    }
-
-    fn of(loose: Loose<Database>) -> Handle
-        ensures { result.database ≡ Some loose.value }
+    /// The handle of a box's pointer, if it is open.
+    fn of(is_open: bool, loose: Loose<Database>) -> Handle
+        requires { is_open ≡ is_some loose.value }
+        ensures { result.database ≡ loose.value }
     {
         let Loose { at } = loose;
         Handle {
             at: at as *mut u8,
-            is_open: true,
+            is_open,
         }
     }
 
-    fn into_loose(self) -> Loose<Database>
-        requires { is_some self.database ≡ true }
-        ensures { Some result.value ≡ self.database }
+    /// Whether it is open, and its box's pointer.
+    fn into_parts(self) -> (bool, Loose<Database>)
+        ensures { (result.0 ≡ is_some self.database) × (result.1.value ≡ self.database) }
     {
-        let Handle { at, is_open: _ } = self;
-        Loose {
-            at: at as *mut Database,
-        }
+        let Handle { at, is_open } = self;
+        (
+            is_open,
+            Loose {
+                at: at as *mut Database,
+            },
+        )
     }
 }

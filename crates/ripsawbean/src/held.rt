@@ -24,11 +24,9 @@ pub extern "C" fn ripsawbean_held_by(
     ensures same { handle.new.database ≡ handle.old.database }
     ensures held { ToldHeld handle.old.database seat result out.old out.new count.new }
 {
+    *count = 0;
     match handle.take(alloc) {
-        None => {
-            *count = 0;
-            CLOSED
-        }
+        None => CLOSED,
         Some(database) => {
             let number = held_by(&database, seat, out, count);
             handle.put(database);
@@ -41,15 +39,13 @@ pub extern "C" fn ripsawbean_held_by(
 fn held_by(database: &Database, seat: u8, out: &mut [HeldRecord], count: &mut usize) -> u8
     ensures { ToldHeld (Some database.now) seat result out.old out.new count.new }
 {
+    *count = 0;
     match database.held_by(seat) {
         Ok(held) => {
             *count = copy_held(held.as_slice(), out);
             0
         }
-        Err(_) => {
-            *count = 0;
-            NO_MEMORY
-        }
+        Err(_) => NO_MEMORY,
     }
 }
 

@@ -17,11 +17,9 @@ pub extern "C" fn ripsawbean_last(alloc: Global, handle: &mut Handle, told: &mut
     ensures same { handle.new.database ≡ handle.old.database }
     ensures last { ToldLast handle.old.database result told.new }
 {
+    *told = EventRecord::none();
     match handle.take(alloc) {
-        None => {
-            *told = EventRecord::none();
-            CLOSED
-        }
+        None => CLOSED,
         Some(database) => {
             *told = database.last();
             handle.put(database);

@@ -129,7 +129,7 @@ pub extern "C" fn ripsawbean_open(alloc: Global, handle: &mut Handle, ring: u32)
     if ring == 0 || ring > MAX_RING {
         return RING;
     }
-    if handle.is_open() {
+    if handle.is_open(alloc) {
         return OPEN;
     }
     match Box::new(alloc, Database::new(alloc, ring)) {
@@ -159,13 +159,10 @@ pub extern "C" fn ripsawbean_call(
     ensures memory { result ≡ 12 → WantsMemory (byte_words_at Two table 64 line.now) }
     ensures text { Told result handle.old.database handle.new.database out.old out.new length.new }
 {
+    *length = 0;
     match handle.take(alloc) {
-        None => {
-            *length = 0;
-            CLOSED
-        }
-        Some(database) => {
-            let mut database = database;
+        None => CLOSED,
+        Some(mut database) => {
             let number = call(&mut database, line, out, length);
             handle.put(database);
             number
@@ -188,13 +185,10 @@ pub extern "C" fn ripsawbean_text(
     ensures asked { Asked handle.old.database result handle.new.database }
     ensures text { Told result handle.old.database handle.new.database out.old out.new length.new }
 {
+    *length = 0;
     match handle.take(alloc) {
-        None => {
-            *length = 0;
-            CLOSED
-        }
-        Some(database) => {
-            let mut database = database;
+        None => CLOSED,
+        Some(mut database) => {
             let number = text(&mut database, out, length);
             handle.put(database);
             number
@@ -218,15 +212,13 @@ fn call(database: &mut Database, line: &[u8], out: &mut [u8], length: &mut usize
     ensures memory { result ≡ 12 → WantsMemory (byte_words_at Two table 64 line.now) }
     ensures text { ToldOf result database.old database.new out.old out.new length.new }
 {
+    *length = 0;
     match database.call(line) {
         Ok(()) => {
             *length = database.copy_text(out);
             0
         }
-        Err(error) => {
-            *length = 0;
-            number(error)
-        }
+        Err(error) => number(error),
     }
 }
 
@@ -235,15 +227,13 @@ fn text(database: &mut Database, out: &mut [u8], length: &mut usize) -> u8
     ensures asked { Rewritten database.old result database.new }
     ensures text { ToldOf result database.old database.new out.old out.new length.new }
 {
+    *length = 0;
     match database.write() {
         Ok(()) => {
             *length = database.copy_text(out);
             0
         }
-        Err(_) => {
-            *length = 0;
-            UNWRITTEN
-        }
+        Err(_) => UNWRITTEN,
     }
 }
 

@@ -40,11 +40,9 @@ pub extern "C" fn ripsawbean_places(
     ensures same { handle.new.database ≡ handle.old.database }
     ensures places { ToldPlaces handle.old.database feed result told.new }
 {
+    *told = no_places();
     match handle.take(alloc) {
-        None => {
-            *told = no_places();
-            CLOSED
-        }
+        None => CLOSED,
         Some(database) => {
             *told = places_record(database.places(), database.floor(feed));
             handle.put(database);

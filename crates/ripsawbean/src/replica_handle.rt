@@ -1,16 +1,16 @@
 //! What a program holds of its consumer.
 
-ghost use Rattle.std.specs.Prelude.{◌≡◌, Option, Some, None, true, is_some, option_map};
+ghost use Rattle.std.specs.Prelude.{◌≡◌, Option, Some, None, is_some, option_map};
+ghost use Rattle.std.specs.Coded.{coded_option};
 ghost use Rattle.embedded_replica.specs.declared.consumer.Consumer.{Consumer};
 ghost use Rattle.embedded_replica.specs.contracts.consumer.Consumer.{the_row};
-ghost use Rattle.ripsawbean.specs.Handles.{keeps, held_code};
+ghost use Rattle.ripsawbean.specs.Handles.{flagged};
 
 use crate::loose::Loose;
 use embedded_replica::Consumer;
 use std::alloc::Global;
 use std::marker::Model;
 use std::mem::replace;
-use std::ptr::null_mut;
 
 /// A program's consumer, or none: a handle is closed where it is all zero bytes.
 #[repr(C)]
@@ -18,11 +18,11 @@ use std::ptr::null_mut;
 pub struct ReplicaHandle {
     at: *mut u8,
     is_open: bool,
-    pub ghost consumer: { Option Consumer } by { held_code the_row },
+    pub ghost consumer: { Option Consumer } by { coded_option the_row.coded },
 }
 
 impl Model for ReplicaHandle {
-    ghost also_owns = { λ h. keeps the_row h.at h.is_open h.consumer };
+    ghost also_owns = { λ h. flagged the_row h.at h.is_open h.consumer };
 }
 
 // A program may hand it to another thread between two calls.
@@ -30,10 +30,16 @@ unsafe impl Send for ReplicaHandle {}
 
 impl ReplicaHandle {
     /// Whether it has a consumer.
-    pub(crate) fn is_open(&mut self) -> bool
-        ensures { (result ≡ is_some self.old.consumer) × (self.new ≡ self.old) }
+    pub(crate) fn is_open(&mut self, alloc: Global) -> bool
+        ensures { (result ≡ is_some self.old.consumer) × (self.new.consumer ≡ self.old.consumer) }
     {
-        self.is_open
+        match self.take(alloc) {
+            None => false,
+            Some(consumer) => {
+                self.put(consumer);
+                true
+            }
+        }
     }
 
     /// The consumer, after which the handle is closed.
@@ -41,12 +47,9 @@ impl ReplicaHandle {
         ensures taken { option_map (λ b. b.value) result ≡ self.old.consumer }
         ensures closed { self.new.consumer ≡ None }
     {
-        if self.is_open() {
-            Some(
-                replace(self, ReplicaHandle::closed())
-                    .into_loose()
-                    .into_box(alloc),
-            )
+        let (is_open, loose) = replace(self, ReplicaHandle::of(false, Loose::none())).into_parts();
+        if is_open {
+            Some(loose.into_box(alloc))
         } else {
             None
         }
@@ -57,35 +60,31 @@ impl ReplicaHandle {
         requires { self.old.consumer ≡ None }
         ensures { self.new.consumer ≡ Some consumer.value }
     {
-        *self = ReplicaHandle::of(Loose::of(consumer));
+        *self = ReplicaHandle::of(true, Loose::of(consumer));
     }
 
-    fn closed() -> ReplicaHandle
-        ensures { result.consumer ≡ None }
-    {
-        ReplicaHandle {
-            at: null_mut(),
-            is_open: false,
-        }
-    }
-
-    fn of(loose: Loose<Consumer>) -> ReplicaHandle
-        ensures { result.consumer ≡ Some loose.value }
+    /// The handle of a box's pointer, if it is open.
+    fn of(is_open: bool, loose: Loose<Consumer>) -> ReplicaHandle
+        requires { is_open ≡ is_some loose.value }
+        ensures { result.consumer ≡ loose.value }
     {
         let Loose { at } = loose;
         ReplicaHandle {
             at: at as *mut u8,
-            is_open: true,
+            is_open,
         }
     }
 
-    fn into_loose(self) -> Loose<Consumer>
-        requires { is_some self.consumer ≡ true }
-        ensures { Some result.value ≡ self.consumer }
+    /// Whether it is open, and its box's pointer.
+    fn into_parts(self) -> (bool, Loose<Consumer>)
+        ensures { (result.0 ≡ is_some self.consumer) × (result.1.value ≡ self.consumer) }
     {
-        let ReplicaHandle { at, is_open: _ } = self;
-        Loose {
-            at: at as *mut Consumer,
-        }
+        let ReplicaHandle { at, is_open } = self;
+        (
+            is_open,
+            Loose {
+                at: at as *mut Consumer,
+            },
+        )
     }
 }

@@ -73,7 +73,7 @@ pub extern "C" fn ripsawbean_replica_open(
     // 12 is told only of a line that may want memory to be read, or opens a feed.
     ensures memory { result ≡ 12 → IsUnopened line.now NoMemory }
 {
-    if handle.is_open() {
+    if handle.is_open(alloc) {
         return OPEN;
     }
     let consumer = match Consumer::open(alloc, line) {
@@ -104,8 +104,7 @@ pub extern "C" fn ripsawbean_replica_take(
 {
     match handle.take(alloc) {
         None => CLOSED,
-        Some(consumer) => {
-            let mut consumer = consumer;
+        Some(mut consumer) => {
             let number = take(&mut consumer, line);
             handle.put(consumer);
             number
@@ -128,11 +127,9 @@ pub extern "C" fn ripsawbean_replica_ready(
     ensures ready { Told (ReadyBy line.now at.new) handle.old.consumer result handle.new.consumer }
     ensures none { NoTime result at.new }
 {
+    *at = NONE;
     match handle.take(alloc) {
-        None => {
-            *at = NONE;
-            CLOSED
-        }
+        None => CLOSED,
         Some(consumer) => {
             let number = ready(&consumer, line, at);
             handle.put(consumer);
@@ -157,12 +154,10 @@ pub extern "C" fn ripsawbean_replica_complete(
     ensures through { NoTime result through.new }
     ensures at { NoTime result at.new }
 {
+    *through = NONE;
+    *at = NONE;
     match handle.take(alloc) {
-        None => {
-            *through = NONE;
-            *at = NONE;
-            CLOSED
-        }
+        None => CLOSED,
         Some(consumer) => {
             *through = number_or_none(consumer.complete_through());
             *at = number_or_none(consumer.at_resolved());
@@ -188,11 +183,9 @@ pub extern "C" fn ripsawbean_replica_get(
     ensures got { Told (GotBy key.now out.old out.new length.new) handle.old.consumer result handle.new.consumer }
     ensures hidden { Hidden result out.old out.new length.new }
 {
+    *length = 0;
     match handle.take(alloc) {
-        None => {
-            *length = 0;
-            CLOSED
-        }
+        None => CLOSED,
         Some(consumer) => {
             let number = get(&consumer, key, out, length);
             handle.put(consumer);
@@ -215,11 +208,9 @@ pub extern "C" fn ripsawbean_replica_rows(
     ensures rows { Told (RowsBy out.old out.new length.new) handle.old.consumer result handle.new.consumer }
     ensures hidden { Hidden result out.old out.new length.new }
 {
+    *length = 0;
     match handle.take(alloc) {
-        None => {
-            *length = 0;
-            CLOSED
-        }
+        None => CLOSED,
         Some(consumer) => {
             let number = rows(&consumer, out, length);
             handle.put(consumer);
@@ -253,15 +244,13 @@ fn ready(consumer: &Consumer, line: &[u8], at: &mut u64) -> u8
     ensures ready { ReadyBy line.now at.new consumer.now result }
     ensures none { NoTime result at.new }
 {
+    *at = NONE;
     match consumer.ready(line) {
         Ok(time) => {
             *at = number_or_none(time);
             0
         }
-        Err(fault) => {
-            *at = NONE;
-            line_number(fault)
-        }
+        Err(fault) => line_number(fault),
     }
 }
 
@@ -270,19 +259,14 @@ fn get(consumer: &Consumer, key: &[u8], out: &mut [u8], length: &mut usize) -> u
     ensures got { GotBy key.now out.old out.new length.new consumer.now result }
     ensures hidden { Hidden result out.old out.new length.new }
 {
+    *length = 0;
     match consumer.get(key, out) {
         Ok(Some(whole)) => {
             *length = whole;
             0
         }
-        Ok(None) => {
-            *length = 0;
-            NO_VALUE
-        }
-        Err(error) => {
-            *length = 0;
-            key_number(error)
-        }
+        Ok(None) => NO_VALUE,
+        Err(error) => key_number(error),
     }
 }
 
@@ -291,15 +275,13 @@ fn rows(consumer: &Consumer, out: &mut [u8], length: &mut usize) -> u8
     ensures rows { RowsBy out.old out.new length.new consumer.now result }
     ensures hidden { Hidden result out.old out.new length.new }
 {
+    *length = 0;
     match consumer.rows(out) {
         Ok(whole) => {
             *length = whole;
             0
         }
-        Err(_) => {
-            *length = 0;
-            NO_MEMORY
-        }
+        Err(_) => NO_MEMORY,
     }
 }
 

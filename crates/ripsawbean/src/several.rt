@@ -30,17 +30,14 @@ pub extern "C" fn ripsawbean_calls(
 ) -> u8
     ensures { Called lines.now most handle.old.database out.old out.new notes.old notes.new taken.new result handle.new.database }
 {
+    *taken = Taken {
+        lines: 0,
+        bytes: 0,
+        length: 0,
+    };
     match handle.take(alloc) {
-        None => {
-            *taken = Taken {
-                lines: 0,
-                bytes: 0,
-                length: 0,
-            };
-            CLOSED
-        }
-        Some(database) => {
-            let mut database = database;
+        None => CLOSED,
+        Some(mut database) => {
             let number = calls(&mut database, lines, out, notes, most, taken);
             handle.put(database);
             number

@@ -25,11 +25,9 @@ pub extern "C" fn ripsawbean_state(
     ensures number { IsStateNumber handle.old.database result }
     ensures text { ToldState result handle.old.database out.old out.new length.new }
 {
+    *length = 0;
     match handle.take(alloc) {
-        None => {
-            *length = 0;
-            CLOSED
-        }
+        None => CLOSED,
         Some(database) => {
             let number = state(&database, out, length);
             handle.put(database);
@@ -43,14 +41,12 @@ fn state(database: &Database, out: &mut [u8], length: &mut usize) -> u8
     ensures number { IsStateNumber (Some database.now) result }
     ensures text { ToldState result (Some database.now) out.old out.new length.new }
 {
+    *length = 0;
     match database.state() {
         Ok(text) => {
             *length = copy_front(text.as_slice(), out);
             0
         }
-        Err(_) => {
-            *length = 0;
-            UNWRITTEN
-        }
+        Err(_) => UNWRITTEN,
     }
 }

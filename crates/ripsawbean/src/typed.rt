@@ -56,13 +56,8 @@ pub extern "C" fn ripsawbean_begin(
     ensures made { MadeAlone seat (Begin timestamp) handle.old.database result handle.new.database }
     ensures answer { Answered result handle.new.database answer.new }
 {
-    make(
-        alloc,
-        handle,
-        seat,
-        Ok(Cmd::Begin { ts: timestamp }),
-        answer,
-    )
+    let cmd = Ok(Cmd::Begin { ts: timestamp });
+    make(alloc, handle, seat, cmd, answer)
 }
 
 /// Reads a key in a transaction, and shows its value: as much of it as there is room for, and its whole length.
@@ -133,13 +128,8 @@ pub extern "C" fn ripsawbean_commit(
     ensures made { MadeAlone seat (Commit timestamp) handle.old.database result handle.new.database }
     ensures answer { Answered result handle.new.database answer.new }
 {
-    make(
-        alloc,
-        handle,
-        seat,
-        Ok(Cmd::Commit { ts: timestamp }),
-        answer,
-    )
+    let cmd = Ok(Cmd::Commit { ts: timestamp });
+    make(alloc, handle, seat, cmd, answer)
 }
 
 /// Aborts a transaction.
@@ -154,13 +144,8 @@ pub extern "C" fn ripsawbean_abort(
     ensures made { MadeAlone seat (Abort timestamp) handle.old.database result handle.new.database }
     ensures answer { Answered result handle.new.database answer.new }
 {
-    make(
-        alloc,
-        handle,
-        seat,
-        Ok(Cmd::Abort { ts: timestamp }),
-        answer,
-    )
+    let cmd = Ok(Cmd::Abort { ts: timestamp });
+    make(alloc, handle, seat, cmd, answer)
 }
 
 /// Moves the closed timestamp up, to just below the oldest undecided transaction at most.
@@ -175,13 +160,8 @@ pub extern "C" fn ripsawbean_close_to(
     ensures made { MadeAlone seat (Close timestamp) handle.old.database result handle.new.database }
     ensures answer { Answered result handle.new.database answer.new }
 {
-    make(
-        alloc,
-        handle,
-        seat,
-        Ok(Cmd::Close { to: timestamp }),
-        answer,
-    )
+    let cmd = Ok(Cmd::Close { to: timestamp });
+    make(alloc, handle, seat, cmd, answer)
 }
 
 /// Reads the committed value of a key at a closed timestamp, and shows it as [`ripsawbean_get`] does.
@@ -240,11 +220,9 @@ pub extern "C" fn ripsawbean_bytes(
     ensures asked { AskedBytes handle.old.database result }
     ensures bytes { ShownBytes result handle.old.database out.old out.new length.new }
 {
+    *length = 0;
     match handle.take(alloc) {
-        None => {
-            *length = 0;
-            CLOSED
-        }
+        None => CLOSED,
         Some(database) => {
             let number = bytes(&database, out, length);
             handle.put(database);
@@ -330,13 +308,10 @@ fn make(
     ensures made { OfHandle (MadeOf seat cmd) handle.old.database result handle.new.database }
     ensures answer { Answered result handle.new.database answer.new }
 {
+    *answer = no_answer();
     match handle.take(alloc) {
-        None => {
-            *answer = no_answer();
-            CLOSED
-        }
-        Some(database) => {
-            let mut database = database;
+        None => CLOSED,
+        Some(mut database) => {
             let number = call(&mut database, seat, cmd, answer);
             handle.put(database);
             number
@@ -359,14 +334,11 @@ fn show(
     ensures answer { Answered result handle.new.database answer.new }
     ensures bytes { ShownBytes result handle.new.database out.old out.new length.new }
 {
+    *length = 0;
+    *answer = no_answer();
     match handle.take(alloc) {
-        None => {
-            *length = 0;
-            *answer = no_answer();
-            CLOSED
-        }
-        Some(database) => {
-            let mut database = database;
+        None => CLOSED,
+        Some(mut database) => {
             let number = call_shown(&mut database, seat, cmd, out, length, answer);
             handle.put(database);
             number
@@ -422,15 +394,13 @@ pub(crate) fn bytes(database: &Database, out: &mut [u8], length: &mut usize) -> 
     ensures asked { AskedBytes (Some database.now) result }
     ensures bytes { ShownBytes result (Some database.now) out.old out.new length.new }
 {
+    *length = 0;
     match database.copy_bytes(out) {
         Ok(whole) => {
             *length = whole;
             0
         }
-        Err(_) => {
-            *length = 0;
-            UNWRITTEN
-        }
+        Err(_) => UNWRITTEN,
     }
 }
 

@@ -30,11 +30,9 @@ pub extern "C" fn ripsawbean_versions_at(
     ensures same { handle.new.database ≡ handle.old.database }
     ensures told { ToldVersions handle.old.database timestamp keys.now result versions.old versions.new count.new }
 {
+    *count = 0;
     match handle.take(alloc) {
-        None => {
-            *count = 0;
-            CLOSED
-        }
+        None => CLOSED,
         Some(database) => {
             let number = versions_at(&database, timestamp, keys, versions, count);
             handle.put(database);

@@ -1,11 +1,10 @@
-use Rattle.std.proofs.Common.{◌≡◌, ℕ, false, List, Option, Some, None, refl, sym, ap, ◌∙◌}
+use Rattle.std.proofs.Common.{◌≡◌, ℕ, false, List, Option, Some, None, refl, sym, ◌∙◌}
 use Rattle.std.specs.Prelude.{is_some}
 use Rattle.ripsawbean.proofs.Common.{Consumer, replica_of}
 use Rattle.embedded_replica.specs.declared.consumer.SeedingError.TheVariants.{NoMemory}
 use Rattle.embedded_replica.specs.Seeds.{IsUnseeded}
 use Rattle.embedded_replica.proofs.Seeding.{begins_wants}
 use Rattle.ripsawbean.specs.ReplicaExports.{Begun}
-use Rattle.ripsawbean.specs.declared.replica_handle.ReplicaHandle.{ReplicaHandle}
 use Rattle.ripsawbean.proofs.beginning.ripsawbean_replica_begin.Goals as goal
 
 -- a closed handle stays closed where there is no memory
@@ -15,7 +14,7 @@ stays_closed line rows (Some d) new closed same wants = absurd cc
 
 pub returns-clause-begun : goal.returns-clause-begun
 returns-clause-begun c =
-    stays_closed c.args.line.now c.args.rows.now c.args.handle.now.consumer c.is_open.new.self.consumer (sym c.is_open.ensures.0 ∙ c.if-is_open.false) (ap (λ (h : ReplicaHandle). h.consumer) c.is_open.ensures.1)
+    stays_closed c.args.line.now c.args.rows.now c.args.handle.now.consumer c.is_open.new.self.consumer (sym c.is_open.ensures.0 ∙ c.if-is_open.false) c.is_open.ensures.1
     (begins_wants c.args.line.now c.args.rows.now (replica_of c.in-Ok.consumer) c.in-Ok.ensures.ok)
 
 pub returns-clause-memory : goal.returns-clause-memory

@@ -1,10 +1,9 @@
-use Rattle.std.proofs.Common.{◌≡◌, ℕ, false, List, Option, Some, None, refl, sym, ap, ◌∙◌}
+use Rattle.std.proofs.Common.{◌≡◌, ℕ, false, List, Option, Some, None, refl, sym, ◌∙◌}
 use Rattle.std.specs.Prelude.{is_some}
 use Rattle.ripsawbean.proofs.Common.{Consumer, IsUnopened, replica_of}
 use Rattle.embedded_replica.specs.declared.consumer.BeginError.TheVariants.{NoMemory}
 use Rattle.embedded_replica.proofs.Opening.{begins_wants}
 use Rattle.ripsawbean.specs.ReplicaExports.{Opened}
-use Rattle.ripsawbean.specs.declared.replica_handle.ReplicaHandle.{ReplicaHandle}
 use Rattle.ripsawbean.proofs.replicas.ripsawbean_replica_open.Goals as goal
 
 -- a closed handle stays closed where there is no memory
@@ -14,7 +13,7 @@ stays_closed line (Some d) new closed same wants = absurd cc
 
 pub returns-clause-opened : goal.returns-clause-opened
 returns-clause-opened c =
-    stays_closed c.args.line.now c.args.handle.now.consumer c.is_open.new.self.consumer (sym c.is_open.ensures.0 ∙ c.if-is_open.false) (ap (λ (h : ReplicaHandle). h.consumer) c.is_open.ensures.1)
+    stays_closed c.args.line.now c.args.handle.now.consumer c.is_open.new.self.consumer (sym c.is_open.ensures.0 ∙ c.if-is_open.false) c.is_open.ensures.1
     (begins_wants c.args.line.now (replica_of c.in-Ok.consumer) c.in-Ok.ensures.ok)
 
 pub returns-clause-memory : goal.returns-clause-memory

@@ -1,5 +1,6 @@
 -- `into_box` makes the box again, from its pointer and what it owned.
 use Rattle.std.proofs.Common.{◌≡◌, List, [], ◌∷◌, ◌++◌, refl, sym, ap, ◌∙◌, subst}
+use Rattle.std.specs.Prelude.{Some, is_some, true}
 use lib.Dec.{T}
 use mir.Syntax.{Args, Body, seq, a_type, dcons, dnil}
 use mir.Raw.{raw as bare}
@@ -39,7 +40,7 @@ use Rattle.std.proofs.boxed.Box.from_raw.Met.{met}
 use Rattle.ripsawbean.proofs.Destruct++none.drop.Code as drops
 use Rattle.ripsawbean.specs.Heap.{token}
 use Rattle.ripsawbean.proofs.Heap.{Z, LZ, lets_go, heap, boxed}
-use Rattle.ripsawbean.proofs.LooseValues.{pointer, loose_out}
+use Rattle.ripsawbean.proofs.LooseValues.{pointer, kept, loose_out}
 use Rattle.ripsawbean.specs.contracts.loose.Loose as loose
 use Rattle.ripsawbean.specs.contracts.loose.Loose.into_box.{ended, clauses}
 use Rattle.ripsawbean.specs.contracts.loose.Loose.into_box.Key.{name}
@@ -65,13 +66,13 @@ into_box_spec {M} 𝓤 𝓛 𝓜 𝓡 wired T' L dx glue =
     let κ = z.0.0.0 in let q = z.0.1.0 in let v = z.0.3.0 in let a = z.0.3.1.0 in let Post : Val → SProp 𝓤 = (walk_of 𝓛 End stayed c).post z in let Run : List Val → SProp 𝓤 = λ us. WpFn 𝓤 𝓛.H 𝓣.C 𝓣.Λ fn us Post in
     let κs : Lfts 2 = (κ, (κ, tt)) in let qs : Shares 2 = (left q, (right q, tt)) in let halves = ‵ (flft κ (left q)) ⊛ ‵ (flft κ (right q)) ⊛ ‵ ftrue in
     qed 𝓛 (((‵ (flft κ q) ⊛ ‵ ftrue) ⊛ ‵ (owns (types_at End.signature.params z.0.0) z.0.3 z.0.4)) ∷ raw ((c z.0.0 z.0.3).requires z.1) ∷ []) ∵
-    split ! $ move ! (2 ∷ []) $ use1 𝓛 (raw (fact 𝓤 (κ ⊑ T'.lives)) ⊛ ‵ ftrue) (id⊢ 𝓤 _) $ split ! $ heard ! (κ ⊑ T'.lives) (λ lives. drop ! $
+    split ! $ move ! (2 ∷ []) $ use1 𝓛 (raw (fact 𝓤 (κ ⊑ T'.lives)) ⊛ raw (fact 𝓤 (is_some v.value ≡ true))) (id⊢ 𝓤 _) $ split ! $ heard ! (κ ⊑ T'.lives) (λ lives. heard ! (is_some v.value ≡ true) (λ has.
     split ! $ use1 𝓛 (‵ (flft κ (left q)) ⊛ ‵ (flft κ (right q))) (𝓛.lfts.lft_split κ q) $ split ! $ move ! (3 ∷ []) $ fsplit ! $
-    loose_out R ! LR v z.0.4.0 (λ ws. in_a_block ! v.at (λ at. box_owns token R at v.value) (fst∗ 𝓤 (never 𝓤) (sem 𝓛 (token (bare (layout T')) null_ptr))) (λ b o e.
+    loose_out R ! LR v z.0.4.0 (λ ws. kept R ! v.at v.value has (λ x is_x. in_a_block ! v.at (λ at. box_owns token R at x) (fst∗ 𝓤 (never 𝓤) (sem 𝓛 (token (bare (layout T')) null_ptr))) (λ b o e.
     -- [what the box owned; the other parameter; the halves of the token; nothing]
     move ! (1 ∷ []) $ fsplit ! $ handle_tells heap ! a z.0.4.1.0 (λ h ea fits.
     let w : Val = pointer (block_ptr b o) in let is_w : z.0.4.0 ≡ w ∷ [] = ws ∙ ap (λ (at : Ptr). pointer at ∷ []) e in
-    let y : k.Ghost = ((κs, qs, tt, (a, (block_ptr b o, tt)), (h ∷ [], (vptr b o ∷ [], tt))), v.value) in
+    let y : k.Ghost = ((κs, qs, tt, (a, (block_ptr b o, tt)), (h ∷ [], (vptr b o ∷ [], tt))), x) in
     move ! (2 ∷ []) $ use0 𝓛 (raw (fact 𝓤 (κ ⊑ Z.lives))) (fact_i 𝓤 (κ ⊑ Z.lives) (emp 𝓤) (⊑_static κ)) $ join ! $ use0 𝓛 (raw (fact 𝓤 (κ ⊑ T'.lives))) (fact_i 𝓤 (κ ⊑ T'.lives) (emp 𝓤) lives) $ join ! $
     -- [what is required; the allocator; nothing; the halves; nothing]
     move ! (2 ∷ []) $ feq_i ! (List Val) (vptr b o ∷ []) (vptr b o ∷ []) refl $ fjoin ! $ move ! (2 ∷ 0 ∷ []) $ fjoin ! $
@@ -80,8 +81,8 @@ into_box_spec {M} 𝓤 𝓛 𝓜 𝓡 wired T' L dx glue =
     enter ! 𝓣.C 𝓣.Λ fn (w ∷ h ∷ []) Post $ alloc_all ! (λ l. let Ev = env fn.locals l in pass_all ! refl ((tt, (tt, tt)), (fits, tt)) $
     sets ! (of_opd ! (get_in ! (fld ! refl (stop !)) (sub ! 0 refl (whole !)))) refl (tt, tt) $ first ! $ blocks ! $
     calls_at_last ! (framed 𝓤 𝓛.H 𝓜 𝓣) k known y (and_then ! (get ! refl) (and_then ! (get ! refl) (no_more !))) (λ u.
-    use1 𝓛 (later (some (λ (r : B.Denot). (halves ⊛ ‵ (B.own_val r (u ∷ []))) ⊛ some (λ (ls : Lasts (callee.ended T' Z ghosts dict lets_go) κs (a, (block_ptr b o, tt))). ‵ (lasts (callee.ended T' Z ghosts dict lets_go) κs (a, (block_ptr b o, tt)) ls) ⊛ (raw (fact 𝓤 (r.value ≡ v.value)) ⊛ raw (fact 𝓤 (r.alloc ≡ a))))))) (id⊢ 𝓤 (k.post y u)) $
-    await ! tt $ pick ! (λ r. split ! $ move ! (1 ∷ []) $ pick ! (λ _. split ! $ drop ! $ split ! $ heard ! (r.value ≡ v.value) (λ same. drop ! $
+    use1 𝓛 (later (some (λ (r : B.Denot). (halves ⊛ ‵ (B.own_val r (u ∷ []))) ⊛ some (λ (ls : Lasts (callee.ended T' Z ghosts dict lets_go) κs (a, (block_ptr b o, tt))). ‵ (lasts (callee.ended T' Z ghosts dict lets_go) κs (a, (block_ptr b o, tt)) ls) ⊛ (raw (fact 𝓤 (r.value ≡ x)) ⊛ raw (fact 𝓤 (r.alloc ≡ a))))))) (id⊢ 𝓤 (k.post y u)) $
+    await ! tt $ pick ! (λ r. split ! $ move ! (1 ∷ []) $ pick ! (λ _. split ! $ drop ! $ split ! $ heard ! (r.value ≡ x) (λ same. drop ! $
     -- [the halves with the box; the locals]
     split ! $ move ! (1 ∷ []) $ box_out E ! r (u ∷ []) (λ b' o' h' e' us fits'. box_in E ! r b' o' r.value e' refl $ rewrite ! 0 (λ (xs : List Val). ‵ (B.own_val r xs)) (sym us) refl $
     let good : T (has_ty (form.box_ty E) u) × WT u = subst (λ (s : Val). T (has_ty (form.box_ty E) s) × WT s) (sym (ap only us)) (form.box_typed E h' b' o' fits') in
@@ -89,5 +90,5 @@ into_box_spec {M} 𝓤 𝓛 𝓜 𝓡 wired T' L dx glue =
     sets ! (of_opd ! (get ! refl)) refl good $ returns ! (look_at ! 0 refl) $ free_all ! refl $
     -- [the box; the halves]
     move ! (1 ∷ []) $ split ! $ move ! (1 ∷ []) $ split ! $ move ! (2 ∷ 0 ∷ []) $ use2 𝓛 (‵ (flft κ q)) (𝓛.lfts.lft_join κ q) $ join ! $
-    suffices ! _ (ends_at 𝓛 End stayed c z u r (tt, (tt, tt)) (tt, (tt, tt))) $ says ! same $
-    nothing ! $ nothing ! $ fjoin ! $ nothing ! $ fjoin ! $ move ! (1 ∷ 0 ∷ []) $ done !)))))))))))
+    suffices ! _ (ends_at 𝓛 End stayed c z u r (tt, (tt, tt)) (tt, (tt, tt))) $ says ! (ap Some same ∙ sym is_x) $
+    nothing ! $ nothing ! $ fjoin ! $ nothing ! $ fjoin ! $ move ! (1 ∷ 0 ∷ []) $ done !)))))))))))))

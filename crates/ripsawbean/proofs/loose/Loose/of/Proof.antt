@@ -1,5 +1,6 @@
 -- `of` lets a box go behind its pointer, and keeps what the box owned.
 use Rattle.std.proofs.Common.{List, [], ◌∷◌, ◌++◌, refl, sym, ap, ◌∙◌, subst}
+use Rattle.std.specs.Prelude.{Some}
 use mir.Syntax.{Args, a_type, dcons, dnil}
 use mir.Raw.{raw as bare}
 use mir.Val.{Val}
@@ -79,5 +80,5 @@ of_spec {M} 𝓤 𝓛 𝓜 𝓡 wired T L dx glue =
     returns ! (look_at ! 0 refl) $ free_all ! refl $
     split ! $ move ! (1 ∷ []) $ split ! $ move ! (2 ∷ 0 ∷ []) $ use2 𝓛 (‵ (flft κ q)) (𝓛.lfts.lft_join κ q) $ join ! $
     -- [the token; what the box owned]
-    suffices ! _ (ends_at 𝓛 End stayed c z (pointer (block_ptr b' o')) (record { at = block_ptr b' o'; value = v.value }) (tt, tt) (tt, tt)) $ says ! refl $
-    move ! (1 ∷ []) $ loose_in R ! (block_ptr b' o') v.value $ nothing ! $ nothing ! $ fjoin ! $ move ! (2 ∷ 0 ∷ []) $ done !)))))))))
+    suffices ! _ (ends_at 𝓛 End stayed c z (pointer (block_ptr b' o')) (record { at = block_ptr b' o'; value = Some v.value }) (tt, tt) (tt, tt)) $ says ! refl $
+    move ! (1 ∷ []) $ loose_in R ! (block_ptr b' o') (Some v.value) $ nothing ! $ nothing ! $ fjoin ! $ move ! (2 ∷ 0 ∷ []) $ done !)))))))))

@@ -9,4 +9,4 @@ words : AllSend (fields the_type)
 words = search sendable depth 20
 
 pub send : IsSend the_row
-send = owning_send the_type words (λ h. kept R the_send h.at h.is_open h.consumer) (λ k h w. tt)
+send = owning_send the_type words (λ h. (tt, kept R the_send h.at h.consumer)) (λ k h w. tt)
