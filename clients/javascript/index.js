@@ -1,5 +1,5 @@
 /**
- * A client of a Ripsawbean server, for Node 20 and browsers, by `fetch` alone.
+ * A client of a Ripsawbean server, for Node 18 and later, and browsers, by `fetch` alone.
  *
  *     import { connect } from "ripsawbean-client";
  *     const db = connect("http://127.0.0.1:7077");
@@ -36,6 +36,13 @@ const LEFT_BEHIND = "another database answers now, and the write may have commit
 const FIRST = 2000;
 const LONGEST_TIMER = 2 ** 31 - 1;
 const NOT_SENT = ["ECONNREFUSED", "ENOTFOUND", "EAI_AGAIN", "UND_ERR_CONNECT_TIMEOUT"];
+
+/**
+ * What draws random bytes. Node 18 has it in a module alone, whose name is no literal, so that a bundler for browsers
+ * doesn't look for it.
+ */
+const NODES = "node:crypto";
+const crypto = globalThis.crypto ?? (await import(NODES)).webcrypto;
 
 export class Client {
   constructor(url, options) {
@@ -248,7 +255,7 @@ function endLater(control, ms, before = () => {}) {
 
 function keyOfWrite() {
   // randomUUID isn't there in a page that came without TLS.
-  return Array.from(globalThis.crypto.getRandomValues(new Uint8Array(16)), (byte) => byte.toString(16).padStart(2, "0")).join("");
+  return Array.from(crypto.getRandomValues(new Uint8Array(16)), (byte) => byte.toString(16).padStart(2, "0")).join("");
 }
 
 /** Reads of one snapshot, and writes that are kept until the end. They commit where nothing that was read has changed. */

@@ -26,7 +26,7 @@ import sys
 import time
 
 sys.path.append(os.path.join(os.path.dirname(os.path.abspath(__file__)), "..", "..", "clients", "python"))
-from ripsawbean_client import Error, Gone, OtherDatabase, Outrun, Place, connect  # noqa: E402, F401  targets have Place from here
+from ripsawbean_client import Error, Gone, OtherDatabase, Outrun, Place, Unauthorized, connect  # noqa: E402, F401  targets have Place from here
 
 PAUSE = 0.1  # seconds before a target that failed is opened again
 LATER = 1.0  # seconds after which the same failure is told once more
@@ -71,6 +71,8 @@ def follow(given, make, failures=()):
                 sys.exit(OTHER)
             except (OSError, Error, *failures) as why:
                 words = "%s: %s" % (type(why).__name__, why)
+                if isinstance(why, Unauthorized) and token is None:
+                    words += "; --token FILE names the file with the server's token"
                 if words != said or time.monotonic() - began > LATER:  # what doesn't change is told of once
                     logging.error(words)
                 said = words

@@ -76,6 +76,8 @@ if __name__ == "__main__":
     if sys.argv[1:2] == ["--search"]:
         if len(sys.argv) != 4:
             sys.exit("search_index.py --search WORDS FILE")
+        if not os.path.exists(sys.argv[3]):
+            sys.exit("search_index.py: there is no %s" % sys.argv[3])
         for key, text in Index(sys.argv[3]).search(sys.argv[2]):
             print(os.fsdecode(key), text.replace("\n", " "))
     else:

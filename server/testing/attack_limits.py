@@ -257,12 +257,12 @@ def has_come(at_limit: threading.Event, writers: list[Writer]) -> bool:
     return at_limit.is_set()
 
 
-def go_on(writers: list[Writer]) -> None:
-    """Gives the writers some time, and on a busy machine some messages too."""
+def go_on(server: Server, writers: list[Writer]) -> None:
+    """Gives the writers some time, and on a busy machine some messages too, unless the server has ended."""
     before = messages_of(writers)
     time.sleep(SECONDS_AT_LIMIT)
     with contextlib.suppress(TimeoutError):
-        wait_for(lambda: messages_of(writers) >= before + MESSAGES_AT_LIMIT, "more messages")
+        wait_for(lambda: server.has_ended() or messages_of(writers) >= before + MESSAGES_AT_LIMIT, "more messages")
 
 
 def run_on(server: Server, has_own_limit: bool, crowd: Crowd = contextlib.nullcontext,
@@ -275,7 +275,7 @@ def run_on(server: Server, has_own_limit: bool, crowd: Crowd = contextlib.nullco
         one.start()
     is_reached = has_come(at_limit, writers)
     with crowd(server):
-        go_on(writers)
+        go_on(server, writers)
     over.set()
     for one in writers:
         one.join(LONGEST)

@@ -12,7 +12,7 @@
             print(message)                             # Row(key=b'apple', after=b'3', updated=10), then Resolved(timestamp=10)
         db.begin(20)                                   # the same calls as by `make`, with no text: an Answer is returned
         db.read_at(10, b"apple").value                 # b"3"
-        db.calls("0 abort 20\n0 stats\n")              # many lines at once: a list of their events' texts
+        db.calls("0 abort 20\\n0 stats\\n")              # many lines at once: a list of their events' texts
         db.versions_at(20, [b"apple", b"plum"])        # [10, None], who wrote them: no call is made
 
 It stands on ctypes and the shared library, and needs no package. `embed/build` makes the library, and docs/EMBEDDING.md says the
