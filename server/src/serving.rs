@@ -110,8 +110,8 @@ async fn run(mut options: Options) -> Result<(), Failure> {
     let address = listener.local_addr().map_err(Failure::System)?;
     let acceptor = options.tls.as_ref().map(Acceptor::read).transpose().map_err(Failure::Tls)?.map(Arc::new);
     let server = Arc::new(put_together(opened, options, address, log)?);
+    warn_of_open_tokens(&server);
     let place = format!("{}://{address}", if acceptor.is_some() { "https" } else { "http" });
-    warn_of_tokens(&server, &place);
     // Signals are caught before anyone is told that the server is there.
     let signals = Signals::caught().map_err(Failure::System)?;
     say_where(&server.identity, &place, &kept).map_err(Failure::System)?;
@@ -234,14 +234,9 @@ fn limit_memory(options: &mut Options, log: &Log) {
     }
 }
 
-/// Warns where whoever reaches the server may read and write all, and where others of the machine may read its tokens.
-fn warn_of_tokens(server: &Server, place: &str) {
-    match server.gate.tokens() {
-        None => server.log.warn("no_token_is_asked", &[("at", place.into())]),
-        Some(tokens) if tokens.is_open_to_others() => {
-            server.log.warn("tokens_open_to_others", &[("file", tokens.path().display().to_string().into())]);
-        }
-        Some(_) => {}
+fn warn_of_open_tokens(server: &Server) {
+    if let Some(tokens) = server.gate.tokens().filter(|tokens| tokens.is_open_to_others()) {
+        server.log.warn("tokens_open_to_others", &[("file", tokens.path().display().to_string().into())]);
     }
 }
 
