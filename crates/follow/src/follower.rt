@@ -1,4 +1,4 @@
-//! A follower: a replica, with the input that changes it and what is told of it. `IsFollowing` in
+//! A follower: a replica, with the input that changes it and what is told of it. `IsGoing` in
 //! `specs/Steps.antt` says what holds between two lines.
 ghost use Rattle.std.specs.Prelude.{◌≡◌, ◌≤◌, [], length, IfOk, IfErr, OnOk, OnErr};
 ghost use Rattle.follow.specs.Prelude.{Follows, format_of};

@@ -1,4 +1,4 @@
--- The machine value of a handle, and how one is made and taken apart. Assumes `Logic`.
+-- The machine value of a handle: its shape and its type. Assumes `Logic`.
 use Rattle.std.proofs.Common.{Bool, List, [], ◌∷◌, refl, lit<}
 use Rattle.std.specs.Prelude.{true, ◌&&◌}
 use lib.Dec.{T}

@@ -34,7 +34,7 @@ abbrev pub kept_at : ServeEnd → List ℕ → List ℕ → List ℕ
 kept_at end.Output out pending = out
 kept_at e out pending = out ++ (pending ++ last_line e)
 
--- why no call follows, before the database is finished, which then knows of the positions what a seat was told
+-- why no call follows, before the database is finished; its history then begins with the events that a seat was told
 pub record IsStopped (r r' : Reads) (w w' : Writes) (run : Run) (e : ServeEnd) : Type 0 where
   pub events : List Event
   pub rest : List ℕ

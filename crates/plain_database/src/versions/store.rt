@@ -1,8 +1,8 @@
 //! The checker's transactions with the versions that they wrote, and how far they are closed.
 //!
-//! Nothing is ever dropped. A transaction is aborted where its state says so, or where it is undecided at or below
-//! closed, because a hard closing ended it. So an abort and a closing change one word, and a version of an aborted
-//! transaction is passed over.
+//! No transaction, read or key is ever dropped. A transaction is aborted where its state says so, or where it is
+//! undecided at or below closed, because a hard closing ended it. So an abort and a closing change one word, and a
+//! version of an aborted transaction is passed over.
 ghost use Rattle.std.specs.Prelude.{◌≡◌, ◌++◌, ◌∷◌, [], OnErr, OnOk, Some};
 ghost use Rattle.std.specs.Option.{option_copied};
 ghost use Rattle.spans.specs.Newest.{newest};
@@ -138,7 +138,7 @@ impl VersionStore {
         }
     }
 
-    /// Takes in a transaction that begins. It would replace one of this timestamp, so its caller looks first.
+    /// Takes in a transaction that begins. It would replace one of this timestamp, which no begin that was answered has.
     pub fn begin(&mut self, ts: u64, seat: u8) -> Result<(), AllocError>
         ensures ok { OnOk result (self.new ≡ record self.old { table = with_begun ts seat self.old.table }) }
         ensures err { OnErr result (self.new ≡ self.old) }

@@ -47,7 +47,7 @@ impl TimeTable {
         self.map.get(&TsKey(ts))
     }
 
-    /// Takes in a transaction that begins. It would replace one of this timestamp, so its caller looks first.
+    /// Takes in a transaction that begins. It would replace one of this timestamp, which no begin that was answered has.
     pub fn begin(&mut self, ts: u64, seat: u8) -> Result<(), AllocError>
         ensures ok { OnOk result (self.new ≡ with_begun ts seat self.old) }
         ensures err { OnErr result (self.new ≡ self.old) }

@@ -1,6 +1,5 @@
 -- `into_parts` gives the pointer of a handle back, and whether it is open.
-use Rattle.std.proofs.Common.{◌≡◌, Bool, List, [], ◌∷◌, ◌++◌, refl, sym, subst}
-use Rattle.std.specs.Prelude.{is_some}
+use Rattle.std.proofs.Common.{List, [], ◌∷◌, ◌++◌, refl, sym, subst}
 use mir.Val.{Val, vbool}
 use base.Logic.{SProp, ent, id⊢}
 use base.Fml.{ftrue}
@@ -12,7 +11,7 @@ use types.Part.{agg, sub, whole}
 use contract.Running.{tables}
 use denote.Exit.{yes}
 use denote.Laws.{Is, shows}
-use denote.RattleType.{RattleType, owns}
+use denote.RattleType.{owns}
 use denote.Signature.{plain, types_at}
 use denote.Steps.{nothing, peeks}
 use denote.Triple.Walked.{Stays, stay_dropped, Goes-dropped, walk_of, says, ends_at}
