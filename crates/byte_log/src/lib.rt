@@ -14,14 +14,7 @@
 //! let log = log.and(&Growth { bytes: b"c" });         bytes: [97, 98, 99]
 //! ```
 //!
-//! Costs, at run time:
-//!
-//! - `new`: nothing
-//! - `and`: nothing
-//!
-//! Neither takes memory.
-//!
-//! Tests: none, because none of it runs.
+//! Costs: nothing at run time, and no memory. Tests: none, because none of it runs.
 #![tactic(auto)]
 
 ghost use Rattle.std.specs.Prelude.{◌≡◌, ◌++◌, [], List, ℕ};

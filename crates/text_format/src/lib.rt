@@ -14,14 +14,7 @@
 //! Format::Two     1..=256  0..=65536 1..=257   200000    the line "mvfeed 2"
 //! ```
 //!
-//! Costs:
-//!
-//! - `of_transcript`: O(1), a comparison with the header of format two
-//! - all other calls: O(1)
-//!
-//! No call takes memory.
-//!
-//! Tests: `unit_tests`.
+//! Costs: each call is O(1), and takes no memory. Tests: `unit_tests`.
 #![tactic(auto)]
 
 ghost use Rattle.std.specs.Prelude.{◌≡◌, ◌≤◌, ◌+◌};
@@ -31,7 +24,6 @@ ghost use Rattle.timestamps.specs.declared.value.TheConstants.{MAX_VALUE_BYTES};
 ghost use Rattle.spans.specs.declared.bound.TheConstants.{MAX_BOUND_BYTES};
 ghost use Rattle.text_format.specs.Limits.{key_limit, value_limit, bound_limit, line_limit, header, header_lines, format_of};
 
-use spans::bound::MAX_BOUND_BYTES;
 use timestamps::key::MAX_KEY_BYTES;
 use timestamps::value::MAX_VALUE_BYTES;
 
@@ -51,10 +43,9 @@ impl Format {
         ensures { result ≡ format_of text.now }
     {
         if text.starts_with(Format::Two.header()) {
-            Format::Two
-        } else {
-            Format::One
+            return Format::Two;
         }
+        Format::One
     }
 
     /// The most bytes that a key has.
@@ -87,10 +78,7 @@ impl Format {
         ensures fits { result ≤ MAX_BOUND_BYTES }
         ensures next { result ≡ key_limit self + 1 }
     {
-        match self {
-            Format::One => 65,
-            Format::Two => MAX_BOUND_BYTES,
-        }
+        self.key_limit() + 1
     }
 
     /// The most bytes that a line has before its newline.
@@ -118,9 +106,6 @@ impl Format {
         ensures lines { result ≡ header_lines self }
         ensures few { result ≤ 1 }
     {
-        match self {
-            Format::One => 0,
-            Format::Two => 1,
-        }
+        u64::from(self == Format::Two)
     }
 }
