@@ -14,7 +14,7 @@ use Rattle.plain_database.specs.FeedTie.{IsRecordOf}
 use Rattle.plain_database.specs.Places.{key_above, row_ts, tells_snapshot, told_through}
 use Rattle.plain_database.specs.Records.{feed_part}
 use Rattle.plain_database.specs.declared.feeds.record.FeedRecord.{FeedRecord}
-use Rattle.plain_database.specs.declared.feeds.told.Told.{Told}
+use Rattle.plain_database.specs.declared.feeds.record.Told.{Told}
 use Rattle.plain_database.specs.declared.database.PlainDatabase.{PlainDatabase}
 use Rattle.plain_database.specs.Tied.{StandsFor}
 use Rattle.plain_database.proofs.ClosedRange.{closed_in_range}

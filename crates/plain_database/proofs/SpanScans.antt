@@ -1,8 +1,8 @@
 -- What the store finds in a span is what the definitions say of it. The index may have keys that no one wrote: they give
 -- nothing.
 use Rattle.plain_database.proofs.Common.{Blocked, Effect, IsIn, Refusal, RisingKeys, Span, Writes, below_high, blocked_in, by_test, common_steps, filter_in, filter_rises, filtered_same, first_refusal, in_span, is_blocked, is_eq-slice_cmp, key_itself, key_lt, keys_of, keys_rise, nat_list_cmp_total, newest, newest_only, only_in, pairs_of, pairs_of_some, same_key, visible, visible_in, write_of, written_keys}
-use Rattle.std.proofs.Common.{◌≡◌, ℕ, Bool, true, false, cond, ◌&&◌, List, [], ◌∷◌, map, Option, Some, None, refl, sym, ◌∙◌, ap, inl, inr, arith, rules}
-use Rattle.std.specs.Prelude.{bytes_eq, filter, is_some}
+use Rattle.std.proofs.Common.{◌≡◌, ℕ, Bool, true, false, ◌&&◌, List, [], ◌∷◌, map, Option, Some, None, refl, sym, ◌∙◌, ap, inl, inr, arith, rules}
+use Rattle.std.specs.Prelude.{filter, is_some}
 use Rattle.std.proofs.lemmas.Map.Lookups.{exact_bytes}
 use Rattle.spans.specs.KeyOrder.{from_low}
 use Rattle.spans.proofs.KeyOrder.{above_low, less_is}
@@ -102,7 +102,3 @@ AreGiven h span t xs sources = (x : List ℕ) → in_span span x ≡ true → (I
 
 pub given_starts : (h : Held) (ws : Listed) → IsIndexed h.table ws → (span : Span) (t : ℕ) → AreGiven h span t (filter (in_span span) (keys_of ws)) []
 given_starts h ws indexed span t x inside out = sym (none_seen h ws indexed x t (λ i. out ((filter_in (in_span span) x (keys_of ws)).1 (inside, i))))
-
-pub given_more : (h : Held) (span : Span) (t k : ℕ) (y : List ℕ) (xs : List (List ℕ)) (sources sources' : List (List ℕ × ℕ)) → AreGiven h span t (y ∷ xs) sources → k ≡ (newest (version_in h y) t).ts
-    → ((x : List ℕ) → source_found sources' x ≡ cond (bytes_eq y x) k (source_found sources x)) → AreGiven h span t xs sources'
-given_more h span t k y xs sources sources' given is put x inside out = grind (arith, common_steps, by_test, put x, given x, same_key, key_itself)

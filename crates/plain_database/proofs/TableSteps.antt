@@ -6,7 +6,7 @@ use Rattle.plain_database.proofs.Common.{Excluded, Unbounded, common_steps, is_a
 use Rattle.plain_database.specs.declared.versions.begun.Begun.{Begun}
 use Rattle.plain_database.specs.declared.versions.reads.Read.{Read}
 use Rattle.plain_database.specs.ReadBy.{is_across}
-use Rattle.plain_database.specs.Table.{AllBegun, begun_at, changed, in_begun, is_crossed, new_begun, reading, with_begun}
+use Rattle.plain_database.specs.Table.{AllBegun, begun_at, changed, is_crossed, new_begun, reading, with_begun}
 
 -- ---- one of them changed
 
@@ -23,14 +23,6 @@ changed_none f (e ∷ es) t none = grind (arith, common_steps, changed_none f es
 pub lookup_changed : (f : Begun → Begun) (es : AllBegun) (t i : ℕ) → begun_at (changed f es t) i ≡ cond (t == i) (option_map f (begun_at es i)) (begun_at es i)
 lookup_changed f [] t i = grind (arith, common_steps)
 lookup_changed f (e ∷ es) t i = grind (arith, common_steps, nat_tests, lookup_changed f es t i)
-
--- what f leaves alone is asked of the one of i as before
-pub kept_in : {A : Type 0} (d : A) (g : Begun → A) (f : Begun → Begun) → ((b : Begun) → g (f b) ≡ g b) → (es : AllBegun) (t i : ℕ) → in_begun d g (begun_at (changed f es t) i) ≡ in_begun d g (begun_at es i)
-kept_in d g f same es t i = grind (arith, common_steps, same, lookup_changed f es t i)
-
--- and what it doesn't, of t alone
-pub changed_in : {A : Type 0} (d : A) (g : Begun → A) (f : Begun → Begun) (es : AllBegun) (t i : ℕ) → in_begun d g (begun_at (changed f es t) i) ≡ cond (t == i) (in_begun d (λ b. g (f b)) (begun_at es i)) (in_begun d g (begun_at es i))
-changed_in d g f es t i = grind (arith, common_steps, lookup_changed f es t i)
 
 -- ---- the reads across a key
 

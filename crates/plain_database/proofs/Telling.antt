@@ -5,7 +5,7 @@ use Rattle.std.specs.Option.{option_to_list}
 use Rattle.spans.specs.declared.calls.messages.Message.TheVariants as messages
 use Rattle.std.proofs.lemmas.List.{take-map}
 use Rattle.spans.proofs.Feeding.{last_join, resolved_join}
-use Rattle.plain_database.specs.declared.feeds.told.Told.{Told}
+use Rattle.plain_database.specs.declared.feeds.record.Told.{Told}
 use Rattle.plain_database.specs.declared.feeds.record.FeedRecord.{FeedRecord}
 use Rattle.plain_database.specs.FeedTie.{IsRecordOf}
 use Rattle.plain_database.specs.Records.{due_in, feed_part, told_more}

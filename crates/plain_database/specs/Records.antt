@@ -3,9 +3,8 @@ use Rattle.std.specs.Prelude.{ℕ, List, [], ◌∷◌, ◌==◌, max, if◌then
 use Rattle.plain_database.specs.Prelude.{Feed, Message, floor_after, is_due, last_name, last_resolved, last_told, start_at}
 use Rattle.spans.specs.declared.kind.Kind.{Kind}
 use Rattle.spans.specs.declared.span.Span.{Span}
-use Rattle.spans.specs.declared.calls.messages.Message.TheVariants as messages
 use Rattle.plain_database.specs.declared.feeds.record.FeedRecord.{FeedRecord}
-use Rattle.plain_database.specs.declared.feeds.told.Told.{Told}
+use Rattle.plain_database.specs.declared.feeds.record.Told.{Told}
 
 -- a feed of this kind and cursor was told nothing
 abbrev pub fresh_told : Kind → ℕ → Told

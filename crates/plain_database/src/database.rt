@@ -1,7 +1,6 @@
 //! The checker's database: the transactions, the feeds and the protections, the horizon, and two numbers of versions.
 ghost use Rattle.std.specs.Prelude.{◌≡◌, IfOk, OnErr, OnOk, [], true};
 
-use crate::feed_calls::kind_of;
 use crate::feeds::book::FeedBook;
 use crate::feeds::protections::Protections;
 use crate::versions::store::VersionStore;
@@ -51,7 +50,7 @@ impl PlainDatabase {
             Cmd::Begin { ts } => Ok(self.answer_begin(*ts)),
             Cmd::Get { ts, key } => self.answer_get(seat, *ts, key),
             Cmd::Scan { ts, span } => self.answer_scan(seat, *ts, span),
-            Cmd::Put { ts, key, value: _ } => Ok(self.answer_write(seat, *ts, key)),
+            Cmd::Put { ts, key, .. } => Ok(self.answer_write(seat, *ts, key)),
             Cmd::Del { ts, key } => Ok(self.answer_write(seat, *ts, key)),
             Cmd::Commit { ts } => Ok(self.answer_commit(seat, *ts)),
             Cmd::Abort { ts } => Ok(self.answer_abort(seat, *ts)),
@@ -61,20 +60,12 @@ impl PlainDatabase {
             Cmd::ScanAt { t, span } => self.answer_scan_at(*t, span),
             Cmd::Protect { t } => Ok(self.answer_protect(*t)),
             Cmd::Release { id } => Ok(self.answer_release(*id)),
-            Cmd::Open { span: _, cursor } => Ok(self.answer_open(kind_of(false, None), *cursor)),
-            Cmd::OpenInitial { span: _, cursor } => {
-                Ok(self.answer_open(kind_of(true, None), *cursor))
+            Cmd::Open { cursor, .. } => Ok(self.answer_open(false, None, *cursor)),
+            Cmd::OpenInitial { cursor, .. } => Ok(self.answer_open(true, None, *cursor)),
+            Cmd::OpenEvery { cursor, gap, .. } => Ok(self.answer_open(false, Some(*gap), *cursor)),
+            Cmd::OpenInitialEvery { cursor, gap, .. } => {
+                Ok(self.answer_open(true, Some(*gap), *cursor))
             }
-            Cmd::OpenEvery {
-                span: _,
-                cursor,
-                gap,
-            } => Ok(self.answer_open(kind_of(false, Some(*gap)), *cursor)),
-            Cmd::OpenInitialEvery {
-                span: _,
-                cursor,
-                gap,
-            } => Ok(self.answer_open(kind_of(true, Some(*gap)), *cursor)),
             Cmd::Cancel { feed } => Ok(self.answer_cancel(*feed)),
             Cmd::Collect { to } => Ok(self.answer_collect(*to)),
             Cmd::Poll { feed, max } => self.answer_poll(seat, *feed, *max),
@@ -96,27 +87,27 @@ impl PlainDatabase {
             Cmd::Del { ts, key } => self.record_write(*ts, key, None, reply)?,
             Cmd::Commit { ts } => self.record_commit(*ts, reply),
             Cmd::Abort { ts } => self.record_abort(*ts, reply),
-            Cmd::Close { to: _ } => self.record_close(reply),
-            Cmd::CloseHard { to: _ } => self.record_close(reply),
-            Cmd::ReadAt { t: _, key: _ } => {}
-            Cmd::ScanAt { t: _, span: _ } => {}
+            Cmd::Close { .. } => self.record_close(reply),
+            Cmd::CloseHard { .. } => self.record_close(reply),
+            Cmd::ReadAt { .. } => {}
+            Cmd::ScanAt { .. } => {}
             Cmd::Protect { t } => self.record_protect(*t, reply)?,
             Cmd::Release { id } => self.record_release(*id, reply),
             Cmd::Open { span, cursor } => {
-                self.record_open(seat, kind_of(false, None), span, *cursor, reply)?
+                self.record_open(seat, false, None, span, *cursor, reply)?
             }
             Cmd::OpenInitial { span, cursor } => {
-                self.record_open(seat, kind_of(true, None), span, *cursor, reply)?
+                self.record_open(seat, true, None, span, *cursor, reply)?
             }
             Cmd::OpenEvery { span, cursor, gap } => {
-                self.record_open(seat, kind_of(false, Some(*gap)), span, *cursor, reply)?
+                self.record_open(seat, false, Some(*gap), span, *cursor, reply)?
             }
             Cmd::OpenInitialEvery { span, cursor, gap } => {
-                self.record_open(seat, kind_of(true, Some(*gap)), span, *cursor, reply)?
+                self.record_open(seat, true, Some(*gap), span, *cursor, reply)?
             }
             Cmd::Cancel { feed } => self.record_cancel(*feed, reply),
             Cmd::Collect { to } => self.record_collect(*to, reply),
-            Cmd::Poll { feed, max: _ } => self.record_poll(*feed, reply)?,
+            Cmd::Poll { feed, .. } => self.record_poll(*feed, reply)?,
             Cmd::Stats => {}
         }
         Ok(())

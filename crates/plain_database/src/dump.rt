@@ -5,6 +5,7 @@ ghost use Rattle.restarts.specs.Dump.{mark_of};
 ghost use Rattle.plain_database.specs.Answering.{AfterEach};
 ghost use Rattle.plain_database.specs.Dumps.{IsDump, is_kept};
 
+use crate::Allocated;
 use crate::database::PlainDatabase;
 use spans::span::Span;
 use std::alloc::AllocError;
@@ -30,30 +31,22 @@ impl PlainDatabase {
         ensures { IfOk result (λ dump. AfterEach self.now (λ p. IsDump p (mark_of p at) dump)) }
     {
         let to = at.max(self.versions.closed()).max(self.versions.latest());
-        let rows = self.left_rows(to)?;
-        Ok(Dump {
-            rows,
-            to,
-            horizon: self.horizon,
-        })
+        let (rows, horizon) = (self.left_rows(to)?, self.horizon);
+        Ok(Dump { rows, to, horizon })
     }
 
     /// The rows of the versions through a timestamp that are left.
-    fn left_rows(&self, through: u64) -> Result<Vec<Row>, AllocError>
+    fn left_rows(&self, through: u64) -> Allocated<Vec<Row>>
         ensures { IfOk result (λ rows. AfterEach self.now (λ p. through ≤ MAX → rows.items ≡ left_rows p through)) }
     {
-        match Ts::new(through) {
+        let Some(through) = Ts::new(through) else {
             // no version lies at 0
-            None => Ok(Vec::new(self.alloc)),
-            Some(through) => {
-                let span = Span { lo: None, hi: None };
-                let mut rows = self
-                    .versions
-                    .rows_after(self.alloc, &span, 0, None, through, u64::MAX)?;
-                rows.retain(|row| self.is_left(row));
-                Ok(rows)
-            }
-        }
+            return Ok(Vec::new(self.alloc));
+        };
+        let (versions, span) = (&self.versions, Span { lo: None, hi: None });
+        let mut rows = versions.rows_after(self.alloc, &span, 0, None, through, u64::MAX)?;
+        rows.retain(|row| self.is_left(row));
+        Ok(rows)
     }
 
     /// Whether a committed version isn't dead, by its row.

@@ -1,5 +1,4 @@
-//! The checker's feeds that live (`book`, `record`, `told`, `place`, `report`), its protections, and the horizon that
-//! both hold back.
+//! The checker's feeds that live (`book`, `record`, `place`), its protections, and the horizon that both hold back.
 //!
 //! 1. Both lists have the newest first, as the definitions say them.
 //! 2. A number up to how many were opened without a record is that of a feed that was cancelled.
@@ -18,5 +17,3 @@ pub mod horizon;
 pub mod place;
 pub mod protections;
 pub mod record;
-pub mod report;
-pub mod told;

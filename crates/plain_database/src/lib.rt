@@ -51,17 +51,17 @@
 #![tactic(auto)]
 
 mod closings;
-mod collections;
 pub mod database;
 pub mod dump;
 mod feed_calls;
 pub mod feeds;
 pub mod limit_law;
-mod protections;
+mod reads;
 mod report;
-mod scans;
-mod snapshots;
-mod statistics;
-mod streams;
 mod transactions;
 pub mod versions;
+
+use std::alloc::AllocError;
+
+/// What takes memory, or the error that there is none.
+type Allocated<T> = Result<T, AllocError>;

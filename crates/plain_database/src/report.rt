@@ -1,15 +1,31 @@
-//! What an operator may ask of the database.
-ghost use Rattle.std.specs.Prelude.{◌≡◌, IfOk};
-ghost use Rattle.plain_database.specs.Prelude.{AreFeeds, IsReport, in_whole, removable_of};
-ghost use Rattle.plain_database.specs.Answering.{AfterCounted, AfterEach};
+//! What an operator may ask of the database: the statistics, and the report.
+ghost use Rattle.std.specs.Prelude.{◌≡◌, ◌-◌, IfOk, length, ℕ};
+ghost use Rattle.plain_database.specs.Prelude.{AreFeeds, IsReport, Stats, dead_of, in_whole, removable_of, versions_of};
+ghost use Rattle.plain_database.specs.Answering.{AfterCounted, AfterEach, AnswersCounted, any_seat};
 ghost use Rattle.plain_database.specs.Reports.{IsUntoldIn};
 
+use crate::Allocated;
 use crate::database::PlainDatabase;
 use crate::feeds::record::FeedRecord;
+use spans::calls::Reply;
 use spans::report::{FeedReport, Report};
 use std::alloc::AllocError;
 
 impl PlainDatabase {
+    /// The versions are counted without the dead ones.
+    #[tactic(auto, using(spans::proofs::Legal::legal_allowed))]
+    pub(crate) fn answer_stats(&self) -> Reply
+        ensures { AnswersCounted self.now any_seat Stats result }
+    {
+        Reply::Stats {
+            versions: self.kept_versions(),
+            undecided: self.versions.open_count(),
+            feeds: self.feeds.live_count(),
+            closed: self.versions.closed(),
+            horizon: self.horizon,
+        }
+    }
+
     /// The report that an operator may ask for: whole, or live, without the two counts that need a walk.
     /// It changes nothing.
     #[tactic(auto, using(spans::proofs::Legal::legal_allowed))]
@@ -27,18 +43,25 @@ impl PlainDatabase {
         })
     }
 
+    /// How many versions aren't dead.
+    #[tactic(auto, using(crate::proofs::Counting::counting))]
+    fn kept_versions(&self) -> u64
+        ensures { AfterCounted self.now (λ p. result ≡ length (versions_of p) - length (dead_of p)) }
+    {
+        let (versions, closed) = (&self.versions, self.versions.closed());
+        let above = versions.count_between(closed, u64::MAX);
+        self.passed.saturating_add(above).saturating_sub(self.dead)
+    }
+
     /// How many versions a collection up to closed would drop now, where the report is a whole one.
     fn removable_in(&self, whole: bool) -> Option<u64>
         ensures { AfterCounted self.now (λ p. result ≡ in_whole whole (removable_of p)) }
     {
-        if !whole {
-            return None;
-        }
-        Some(self.collection(self.versions.closed()).1)
+        whole.then(|| self.collection(self.versions.closed()).1)
     }
 
     /// The feeds that live, numbers rising.
-    fn feed_reports(&self, whole: bool) -> Result<Vec<FeedReport>, AllocError>
+    fn feed_reports(&self, whole: bool) -> Allocated<Vec<FeedReport>>
         ensures { IfOk result (λ ns. AfterEach self.now (λ p. AreFeeds whole p ns.items)) }
     {
         let mut reports = Vec::new(self.alloc);
@@ -52,7 +75,7 @@ impl PlainDatabase {
     }
 
     /// How many rows a feed has still to tell, where the report is a whole one.
-    fn untold_in(&self, whole: bool, feed: &FeedRecord) -> Result<Option<u64>, AllocError>
+    fn untold_in(&self, whole: bool, feed: &FeedRecord) -> Allocated<Option<u64>>
         ensures { IfOk result (IsUntoldIn self.now whole feed.now) }
     {
         if !whole {

@@ -7,7 +7,7 @@ ghost use Rattle.plain_database.specs.declared.feeds.record.FeedRecord.{FeedReco
 ghost use Rattle.plain_database.specs.Records.{floor_in, telling_in};
 ghost use Rattle.plain_database.specs.FeedTie.{FeedsTied, IsRecordOf, Says, LeadsTo, refusal_of_poll, refusal_of_cancel};
 
-use crate::feeds::record::FeedRecord;
+use crate::feeds::record::{FeedRecord, Told};
 use spans::calls::{Message, Messages, Refusal};
 use spans::kind::Kind;
 use spans::span::Span;
@@ -69,7 +69,14 @@ impl FeedBook {
         ensures err { OnErr result (self.new ≡ self.old) }
     {
         let number = self.opened + 1;
-        let record = FeedRecord::new(number, seat, kind, span, cursor)?;
+        let record = FeedRecord {
+            number,
+            seat,
+            kind,
+            span: span.copy()?,
+            cursor,
+            told: Told::new(kind, cursor),
+        };
         self.live.insert(0, record)?;
         self.opened = number;
         Ok(number)

@@ -1,13 +1,15 @@
-//! One of the checker's feeds: whose it is, what it watches, what it was told, and its next messages.
-ghost use Rattle.std.specs.Prelude.{◌≡◌, ◌≤◌, ◌++◌, length, map, IfOk};
+//! One of the checker's feeds: whose it is, what it watches, what it was told, its next messages, and its report.
+ghost use Rattle.std.specs.Prelude.{◌≡◌, ◌≤◌, ◌++◌, length, map, IfOk, OnErr, OnOk};
 ghost use Rattle.std.specs.Option.{option_to_list};
 ghost use Rattle.timestamps.specs.declared.ts.TheConstants.{MAX};
-ghost use Rattle.plain_database.specs.Records.{new_record, floor_in, due_in};
+ghost use Rattle.plain_database.specs.FeedReports.{record_report};
+ghost use Rattle.plain_database.specs.Records.{due_in, floor_in, fresh_told, told_more};
 ghost use Rattle.plain_database.specs.FeedTie.{AreNext};
 
-use crate::feeds::told::Told;
+use crate::Allocated;
 use spans::calls::{Message, Messages};
 use spans::kind::Kind;
+use spans::report::{FeedReport, ToldRow};
 use spans::span::Span;
 use std::alloc::{AllocError, Global};
 use timestamps::row::Row;
@@ -26,27 +28,20 @@ pub struct FeedRecord {
     pub(crate) told: Told,
 }
 
-impl FeedRecord {
-    /// A feed that was told nothing.
-    pub(crate) fn new(
-        number: u64,
-        seat: u8,
-        kind: Kind,
-        span: &Span,
-        cursor: u64,
-    ) -> Result<FeedRecord, AllocError>
-        ensures { IfOk result (λ feed. feed ≡ new_record number seat kind span.now cursor) }
-    {
-        Ok(FeedRecord {
-            number,
-            seat,
-            kind,
-            span: span.copy()?,
-            cursor,
-            told: Told::new(kind, cursor),
-        })
-    }
+/// The traces that a feed's messages leave, however many they were.
+#[derive(Drop)]
+pub(crate) struct Told {
+    /// The row that was told last.
+    pub(crate) row: Option<ToldRow>,
+    /// The greatest of the start and the resolved timestamps.
+    pub(crate) resolved: u64,
+    /// The timestamp that was resolved last, if one was.
+    pub(crate) latest: Option<u64>,
+    /// Up to where the last message says that all is told; the start before the first.
+    pub(crate) floor: u64,
+}
 
+impl FeedRecord {
     /// Up to where all is told, and never below the cursor.
     pub(crate) fn floor(&self) -> u64
         ensures { result ≡ floor_in self.now }
@@ -83,14 +78,89 @@ impl FeedRecord {
         }
         None
     }
+
+    /// How far it has come, and how many rows it has still to tell, where that is known.
+    pub fn report(&self, untold: Option<u64>) -> Result<FeedReport, AllocError>
+        ensures { IfOk result (λ n. n ≡ record_report untold self.now) }
+    {
+        Ok(FeedReport {
+            number: self.number,
+            seat: self.seat,
+            kind: self.kind,
+            span: self.span.copy()?,
+            cursor: self.cursor,
+            row: row_copy(&self.told.row)?,
+            resolved: self.told.latest,
+            complete: (self.told.floor >= self.cursor).then_some(self.told.floor),
+            floor: self.floor(),
+            untold,
+        })
+    }
+}
+
+impl Told {
+    /// Nothing yet, by a feed of this kind and cursor.
+    pub(crate) fn new(kind: Kind, cursor: u64) -> Told
+        ensures { result ≡ fresh_told kind cursor }
+    {
+        Told {
+            row: None,
+            resolved: kind.start(cursor),
+            latest: None,
+            floor: kind.start(cursor),
+        }
+    }
+
+    /// More messages are told.
+    pub(crate) fn add(&mut self, messages: &[Message]) -> Allocated<()>
+        ensures ok { OnOk result (self.new ≡ told_more messages.now self.old) }
+        ensures err { OnErr result (self.new ≡ self.old) }
+    {
+        let mut last = None;
+        let (mut resolved, mut latest, mut floor) = (self.resolved, self.latest, self.floor);
+        for message in messages {
+            match message {
+                Message::Row(row) => {
+                    last = Some(row);
+                    // another row of the same timestamp may be told yet
+                    floor = row.ts.get() - 1;
+                }
+                Message::Resolved(t) => {
+                    resolved = resolved.max(t.get());
+                    latest = Some(t.get());
+                    floor = t.get();
+                }
+            }
+        }
+        // the key is copied before anything changes, so that a refusal leaves what was told
+        if let Some(row) = last {
+            let (ts, key) = (row.ts.get(), row.key.copy()?);
+            self.row = Some(ToldRow { ts, key });
+        }
+        self.resolved = resolved;
+        self.latest = latest;
+        self.floor = floor;
+        Ok(())
+    }
 }
 
 /// The rows and then what is due, as messages.
-fn all_messages(alloc: Global, rows: Vec<Row>, due: Option<Ts>) -> Result<Vec<Message>, AllocError>
+fn all_messages(alloc: Global, rows: Vec<Row>, due: Option<Ts>) -> Allocated<Vec<Message>>
     ensures { IfOk result (λ messages.
         messages.items ≡ map Message.Row rows.items ++ map Message.Resolved (option_to_list due)) }
 {
     let rows = rows.into_iter().map(|row| Message::Row(row));
     let due = due.into_iter().map(|at| Message::Resolved(at));
     rows.chain(due).collect(alloc)
+}
+
+/// The row that was told last, once more.
+fn row_copy(row: &Option<ToldRow>) -> Allocated<Option<ToldRow>>
+    ensures { IfOk result (λ told. told ≡ row.now) }
+{
+    let Some(row) = row else {
+        return Ok(None);
+    };
+    let (ts, key) = (row.ts, row.key.copy()?);
+    Ok(Some(ToldRow { ts, key }))
 }

@@ -77,8 +77,7 @@ impl FoundKeys {
         ensures { OnOk result ((x : List ℕ) →
             source_found self.new x ≡ (if bytes_eq key.now x then ts else source_found self.old x)) }
     {
-        let key = key.copy()?;
-        self.map.insert(key, ts)?;
+        self.map.insert(key.copy()?, ts)?;
         Ok(())
     }
 
@@ -86,10 +85,7 @@ impl FoundKeys {
     pub fn of(&self, key: &Key) -> u64
         ensures { result ≡ source_found self.now key.now }
     {
-        match self.map.get(key) {
-            None => 0,
-            Some(ts) => *ts,
-        }
+        self.map.get(key).map_or(0, |ts| *ts)
     }
 }
 
@@ -116,11 +112,6 @@ impl ReadList {
     pub fn any_across(&self, key: &Key, ts: u64) -> bool
         ensures { result ≡ list_any (is_across key.now ts) self.now }
     {
-        for read in &self.list {
-            if read.is_across(key, ts) {
-                return true;
-            }
-        }
-        false
+        self.list.iter().any(|read| read.is_across(key, ts))
     }
 }

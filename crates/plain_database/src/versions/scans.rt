@@ -1,22 +1,32 @@
-//! What the checker's store says of a span: who stops a scan, the keys that one finds, and what they hold.
+//! What the checker's store says of a span: who stops a scan, the keys that one finds, what they hold, and the committed
+//! rows behind a place.
 ghost use Rattle.std.specs.Prelude.{◌≡◌, ◌≤◌, ◌&&◌, ◌++◌, ◌∷◌, [], ℕ, List, IfOk, OnOk, length, option_map, take, true};
 ghost use Rattle.std.specs.Option.{option_copied};
 ghost use Rattle.spans.specs.Answer.{first_refusal};
 ghost use Rattle.spans.specs.Keys.{in_span, with_value};
 ghost use Rattle.spans.specs.Newest.{newest};
+ghost use Rattle.spans.specs.Streams.{stream_of};
 ghost use Rattle.spans.specs.Versions.{is_blocked, visible};
 ghost use Rattle.spans.specs.declared.calls.replies.Refusal.TheVariants.{Blocked};
-ghost use Rattle.plain_database.specs.Behind.{is_past};
+ghost use Rattle.plain_database.specs.Behind.{beside, is_past};
+ghost use Rattle.plain_database.specs.Filling.{filled, write_rows};
 ghost use Rattle.plain_database.specs.ReadBy.{source_found};
 ghost use Rattle.plain_database.specs.Replies.{block_tests, rows_past};
 ghost use Rattle.plain_database.specs.VersionsTied.{Says, version_in};
 
+use crate::Allocated;
 use crate::versions::reads::FoundKeys;
 use crate::versions::store::VersionStore;
 use spans::bound::{Bound, copy_bound, is_from};
 use spans::span::Span;
+use spans::state::State;
 use std::alloc::{AllocError, Global};
+use std::collections::btree_map::Range;
+use std::ops;
 use timestamps::key::Key;
+use timestamps::row::{Row, copy_after};
+use timestamps::ts::Ts;
+use timestamps::ts_key::TsKey;
 use timestamps::value::Value;
 
 impl VersionStore {
@@ -86,15 +96,50 @@ impl VersionStore {
     pub(crate) fn value_at(&self, key: &Key, ts: u64) -> Option<&Value>
         ensures { Says self.now (λ p. option_copied result ≡ (visible p key.now ts).after) }
     {
-        match self.newest(key, ts) {
-            None => None,
-            Some(version) => version.after.as_ref(),
+        self.newest(key, ts)?.after.as_ref()
+    }
+
+    /// The first `max` committed rows of a span behind a place and at or below `through`, by timestamp and then
+    /// by key. The place is that of `key` at `ts`; without a key it is behind all keys of `ts`.
+    pub fn rows_after(
+        &self,
+        alloc: Global,
+        span: &Span,
+        ts: u64,
+        key: Option<&Key>,
+        through: Ts,
+        max: u64,
+    ) -> Result<Vec<Row>, AllocError>
+        ensures few { IfOk result (λ rows. length rows.items ≤ max) }
+        ensures rows { IfOk result (λ rows. Says self.now (λ p. rows.items
+            ≡ take max (beside p span.now ts (option_copied key.entry) through ++ stream_of p span.now ts through))) }
+    {
+        let mut rows = Vec::new(alloc);
+        if through.get() < ts {
+            return Ok(rows);
         }
+        let last = TsKey(through.get());
+        let ahead = (ops::Bound::Included(TsKey(ts)), ops::Bound::Included(last));
+        for (writer, begun) in self.table.map.range(ahead) {
+            if rows.len() as u64 >= max {
+                return Ok(rows);
+            }
+            let above = match key {
+                _ if writer.0 > ts => ops::Bound::Unbounded,
+                Some(key) => ops::Bound::Excluded(key),
+                None => continue,
+            };
+            if let (Some(at), State::Committed) = (Ts::new(writer.0), begun.state) {
+                let writes = begun.writes.map.range((above, ops::Bound::Unbounded));
+                add_writes(&mut rows, span, at, writes, max)?;
+            }
+        }
+        Ok(rows)
     }
 }
 
 /// A span that holds, of the keys of this one, exactly those above `after`.
-fn rest_of(alloc: Global, span: &Span, after: Option<&Key>) -> Result<Span, AllocError>
+fn rest_of(alloc: Global, span: &Span, after: Option<&Key>) -> Allocated<Span>
     ensures { IfOk result (λ rest. (x : List ℕ)
         → in_span rest x ≡ (in_span span.now x && is_past (option_copied after.entry) x)) }
 {
@@ -110,17 +155,35 @@ fn rest_of(alloc: Global, span: &Span, after: Option<&Key>) -> Result<Span, Allo
 }
 
 /// Adds the pair of a key, where it has a value.
-fn add_pair(
-    pairs: &mut Vec<(Key, Value)>,
-    key: &Key,
-    value: Option<&Value>,
-) -> Result<(), AllocError>
+fn add_pair(pairs: &mut Vec<(Key, Value)>, key: &Key, value: Option<&Value>) -> Allocated<()>
     ensures { OnOk result (pairs.new.items ≡ pairs.old.items ++ with_value key.now (option_copied value.entry) []) }
 {
     if let Some(value) = value {
-        let key = key.copy()?;
-        let value = value.copy()?;
-        pairs.push((key, value))?;
+        pairs.push((key.copy()?, value.copy()?))?;
+    }
+    Ok(())
+}
+
+/// Adds writes of a transaction whose key the span holds, up to `max` rows.
+#[tactic(auto, using(crate::proofs::Streaming::filled_one))]
+fn add_writes(
+    rows: &mut Vec<Row>,
+    span: &Span,
+    ts: Ts,
+    writes: Range<'_, Key, Option<Value>>,
+    max: u64,
+) -> Allocated<()>
+    ensures { OnOk result (rows.new.items ≡ filled max rows.old.items (write_rows span.now ts writes.entry)) }
+{
+    for (key, after) in writes {
+        if rows.len() as u64 >= max {
+            return Ok(());
+        }
+        if span.contains(key) {
+            let key = key.copy()?;
+            let after = copy_after(after)?;
+            rows.push(Row { ts, key, after })?;
+        }
     }
     Ok(())
 }

@@ -1,8 +1,5 @@
-//! The checker's transactions with the versions that they wrote, and how far they are closed.
-//!
-//! No transaction, read or key is ever dropped. A transaction is aborted where its state says so, or where it is
-//! undecided at or below closed, because a hard closing ended it. So an abort and a closing change one word, and a
-//! version of an aborted transaction is passed over.
+//! The checker's transactions with the versions that they wrote, and how far they are closed. A transaction is aborted
+//! where its state says so, or where it is undecided at or below closed, because a hard closing ended it.
 ghost use Rattle.std.specs.Prelude.{◌≡◌, ◌++◌, ◌∷◌, [], OnErr, OnOk, Some};
 ghost use Rattle.std.specs.Option.{option_copied};
 ghost use Rattle.spans.specs.Newest.{newest};
@@ -76,10 +73,8 @@ impl VersionStore {
     pub fn is_committed(&self, ts: u64) -> bool
         ensures { result ≡ committed_at (begun_at self.now.table ts) }
     {
-        match self.find(ts) {
-            None => false,
-            Some(begun) => begun.state == State::Committed,
-        }
+        let begun = self.find(ts);
+        begun.is_some_and(|begun| begun.state == State::Committed)
     }
 
     /// Whether a transaction above `ts` was given a version of the key from below it.
@@ -132,10 +127,7 @@ impl VersionStore {
     pub fn source(&self, key: &Key, ts: u64) -> u64
         ensures { result ≡ (newest (version_in self.now key.now) ts).ts }
     {
-        match self.newest(key, ts) {
-            None => 0,
-            Some(version) => version.ts,
-        }
+        self.newest(key, ts).map_or(0, |version| version.ts)
     }
 
     /// Takes in a transaction that begins. It would replace one of this timestamp, which no begin that was answered has.

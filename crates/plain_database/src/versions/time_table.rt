@@ -96,11 +96,7 @@ impl TimeTable {
         ensures { result ≡ is_crossed self.now key.now ts }
     {
         let above = (Bound::Excluded(TsKey(ts)), Bound::Unbounded);
-        for (_, begun) in self.map.range(above) {
-            if begun.reads.any_across(key, ts) {
-                return true;
-            }
-        }
-        false
+        let mut readers = self.map.range(above);
+        readers.any(|(_, begun)| begun.reads.any_across(key, ts))
     }
 }

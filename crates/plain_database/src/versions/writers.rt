@@ -1,20 +1,32 @@
-//! Who may have written each key: the checker's index over its transactions. Nothing is ever taken out of it, so a
-//! writer that ran out of memory stays, as one does that was aborted, and whoever asks looks the write up.
-ghost use Rattle.std.specs.Prelude.{◌≡◌, ℕ, List, [], OnOk, true};
+//! Who may have written each key: the checker's index over its transactions, and the keys of a span in it. Nothing is
+//! ever taken out of it, so a writer that ran out of memory stays, as one does that was aborted, and whoever asks looks
+//! the write up.
+ghost use Rattle.std.specs.Prelude.{◌≡◌, ◌≤◌, ℕ, List, [], OnOk, filter, length, true};
+ghost use Rattle.std.specs.Iterator.{at_most};
+ghost use Rattle.std.specs.Map.{keys_of};
+ghost use Rattle.std.specs.Map.Iter.{TakesFirst, deref};
+ghost use Rattle.std.specs.Range.Bound.{bound_map};
+ghost use Rattle.spans.proofs.Keyed.{RisingKeys};
+ghost use Rattle.spans.specs.Keys.{in_span};
+ghost use Rattle.spans.specs.Starting.{start_of};
 ghost use Rattle.plain_database.specs.Indexed.{IsLast, is_listed};
 
+use spans::bound::{Bound, is_below};
+use spans::span::Span;
 use std::alloc::{AllocError, Global};
+use std::collections::btree_map::Range;
 use std::collections::{BTreeMap, BTreeSet};
-use std::iter::DoubleEndedIterator;
+use std::iter::{DoubleEndedIterator, Iterator};
 use std::marker::Model;
-use timestamps::key::Key;
+use std::ops;
+use timestamps::key::{Key, MAX_KEY_BYTES};
 use timestamps::ts_key::TsKey;
 
 /// Each key that a transaction may have written, with the timestamps of these.
 #[derive(Drop)]
 pub struct Writers {
     alloc: Global,
-    pub(crate) map: BTreeMap<Key, BTreeSet<TsKey>>,
+    map: BTreeMap<Key, BTreeSet<TsKey>>,
 }
 
 impl Model for Writers {
@@ -55,4 +67,59 @@ impl Writers {
         let writer = self.map.get(key)?.range(..=TsKey(ts)).next_back()?;
         Some(writer.0)
     }
+
+    /// The keys of a span, rising. It goes straight to the first.
+    pub(crate) fn keys_in<'a>(&'a self, span: &'a Span) -> KeysIn<'a>
+        ensures those { result ≡ filter (in_span span.now) (keys_of self.now) }
+        ensures rising { RisingKeys (keys_of self.now) }
+    {
+        let ahead = self.map.range((start_at(&span.lo), ops::Bound::Unbounded));
+        KeysIn { span, ahead }
+    }
+}
+
+/// The listed keys of a span, rising. It ends at the first key above the span.
+#[derive(Drop)]
+pub(crate) struct KeysIn<'a> {
+    span: &'a Span,
+    ahead: Range<'a, Key, BTreeSet<TsKey>>,
+}
+
+impl<'a> Model for KeysIn<'a> {
+    ghost use Rattle.std.specs.Prelude.{ℕ, List, filter};
+    ghost use Rattle.std.specs.Map.{keys_of};
+    ghost use Rattle.spans.specs.Keys.{in_span};
+    ghost use Rattle.plain_database.specs.KeysIn.{AreAhead};
+
+    ghost Value = { List (List ℕ) };
+
+    ghost view = { λ s. filter (in_span s.span.now) (keys_of s.ahead) };
+
+    ghost invariant = { λ s. AreAhead s.span.now.lo (keys_of s.ahead) };
+}
+
+impl<'a> Iterator for KeysIn<'a> {
+    type Item = &'a Key;
+
+    ghost next_gives = { TakesFirst deref };
+
+    ghost remaining = { λ s. at_most (length s) };
+
+    fn next(&mut self) -> Option<&'a Key> {
+        let (key, _) = self.ahead.next()?;
+        // so it isn't below the span: a longer one might be, where the span's beginning is longer too
+        prove!(key.bytes().len() <= MAX_KEY_BYTES);
+        if !is_below(&self.span.hi, key) {
+            return None;
+        }
+        Some(key)
+    }
+}
+
+/// The bound from which keys are asked for, where there is one.
+fn start_at(low: &Option<Bound>) -> ops::Bound<&Key>
+    ensures { bound_map (λ k. k.now) result ≡ start_of low.now }
+{
+    low.as_ref()
+        .map_or(ops::Bound::Unbounded, |low| low.start())
 }

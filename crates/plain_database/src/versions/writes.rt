@@ -55,8 +55,7 @@ impl Writes {
         ensures ok { OnOk result (self.new ≡ insert_entry key_cmp self.old key.now after) }
         ensures err { OnErr result (self.new ≡ self.old) }
     {
-        let key = key.copy()?;
-        self.map.insert(key, after)?;
+        self.map.insert(key.copy()?, after)?;
         Ok(())
     }
 }

@@ -7,11 +7,11 @@ use Rattle.plain_database.proofs.Dumping.{left_are}
 use Rattle.plain_database.proofs.Taken.{all_taken}
 use Rattle.plain_database.proofs.database.PlainDatabase.left_rows.Goals as goal
 
-pub returns-in_ok-rows-in-Some : goal.returns-in_ok-rows-in-Some
-returns-in_ok-rows-in-Some c = λ h stands low.
+pub returns : goal.returns
+returns c = λ h stands low.
     let p = effects_of h in
-    let rows = c.in_ok-rows-in-Some.rows in
-    let given = c.in_ok-rows-in-Some.ensures.rows p (legal_allowed h stands.legal) stands.tied.versions in
+    let rows = c.in_ok-rows.rows in
+    let given = c.in_ok-rows.ensures.rows p (legal_allowed h stands.legal) stands.tied.versions in
     filter_same _ _ _ (λ x b f' k. search rules) _ _ c.retain.ensures.filtered
     ∙ ap (filter (is_kept c.args.self.now)) (all_taken 18446744073709551615 rows.items (stream_of p all_keys 0 c.in-Some.through) given (omega (arith, rows.ok, rows.small)) ∙ ap (stream_of p all_keys 0) c.in-Some.ensures.number)
     ∙ left_are c.args.self.now h stands c.args.through

@@ -43,16 +43,16 @@ pub returns-in-Release-clause-ok : goal.returns-in-Release-clause-ok
 returns-in-Release-clause-ok c = λ h n. rw c.in-Release.is (c.record_release.ensures c.args.seat h n)
 
 pub returns-in_ok-record_open-in-Open-clause-ok : goal.returns-in_ok-record_open-in-Open-clause-ok
-returns-in_ok-record_open-in-Open-clause-ok c = λ h n. rw c.in-Open.is (rw c.kind_of.ensures at (c.in_ok-record_open-in-Open.ensures.ok h n))
+returns-in_ok-record_open-in-Open-clause-ok c = λ h n. rw c.in-Open.is (c.in_ok-record_open-in-Open.ensures.ok h n)
 
 pub returns-in_ok-record_open-in-OpenInitial-clause-ok : goal.returns-in_ok-record_open-in-OpenInitial-clause-ok
-returns-in_ok-record_open-in-OpenInitial-clause-ok c = λ h n. rw c.in-OpenInitial.is (rw c.kind_of-in-OpenInitial.ensures at (c.in_ok-record_open-in-OpenInitial.ensures.ok h n))
+returns-in_ok-record_open-in-OpenInitial-clause-ok c = λ h n. rw c.in-OpenInitial.is (c.in_ok-record_open-in-OpenInitial.ensures.ok h n)
 
 pub returns-in_ok-record_open-in-OpenEvery-clause-ok : goal.returns-in_ok-record_open-in-OpenEvery-clause-ok
-returns-in_ok-record_open-in-OpenEvery-clause-ok c = λ h n. rw c.in-OpenEvery.is (rw c.kind_of-in-OpenEvery.ensures at (c.in_ok-record_open-in-OpenEvery.ensures.ok h n))
+returns-in_ok-record_open-in-OpenEvery-clause-ok c = λ h n. rw c.in-OpenEvery.is (c.in_ok-record_open-in-OpenEvery.ensures.ok h n)
 
 pub returns-in_ok-record_open-in-OpenInitialEvery-clause-ok : goal.returns-in_ok-record_open-in-OpenInitialEvery-clause-ok
-returns-in_ok-record_open-in-OpenInitialEvery-clause-ok c = λ h n. rw c.in-OpenInitialEvery.is (rw c.kind_of-in-OpenInitialEvery.ensures at (c.in_ok-record_open-in-OpenInitialEvery.ensures.ok h n))
+returns-in_ok-record_open-in-OpenInitialEvery-clause-ok c = λ h n. rw c.in-OpenInitialEvery.is (c.in_ok-record_open-in-OpenInitialEvery.ensures.ok h n)
 
 pub returns-in-Cancel-clause-ok : goal.returns-in-Cancel-clause-ok
 returns-in-Cancel-clause-ok c = λ h n. rw c.in-Cancel.is (c.record_cancel.ensures c.args.seat h n)

@@ -3,7 +3,7 @@ use Rattle.std.specs.Prelude.{option_map}
 use Rattle.std.specs.Option.{option_copied, option_or}
 use Rattle.plain_database.proofs.Common.{name_of}
 use Rattle.plain_database.specs.Records.{told_more}
-use Rattle.plain_database.proofs.feeds.told.Told.add.Given as goal
+use Rattle.plain_database.proofs.feeds.record.Told.add.Given as goal
 
 -- what is left gives the whole answer
 abbrev pub invariant-loop-message : goal.invariant-loop-message

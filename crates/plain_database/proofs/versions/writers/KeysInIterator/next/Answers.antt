@@ -2,7 +2,7 @@ use Rattle.std.proofs.Common.{filter, sym, ◌∙◌, ap, subst, rules}
 use Rattle.plain_database.proofs.Common.{in_span, keys_of}
 use Rattle.plain_database.specs.KeysIn.{AreAhead}
 use Rattle.plain_database.proofs.KeysIn.{step_inside, step_past}
-use Rattle.plain_database.proofs.versions.keys_in.KeysInIterator.next.Goals as goal
+use Rattle.plain_database.proofs.versions.writers.KeysInIterator.next.Goals as goal
 
 pub returns-then-not-is_below-clause-steps : goal.returns-then-not-is_below-clause-steps
 returns-then-not-is_below-clause-steps c =
