@@ -12,20 +12,11 @@ use spans::report::Report;
 use std::alloc::{AllocError, Global};
 
 /// The events that were taken so far are legal and have no gap. It holds what they left, and not the events.
+#[derive(Drop)]
 pub struct Checker {
     database: PlainDatabase,
     /// The latest event's position, if there was one.
     last: Option<u64>,
-}
-
-// for the proof, which has no case for each part of it where a checker is dropped
-impl Drop for Checker {
-    fn drop(self) {
-        let Checker {
-            database: _,
-            last: _,
-        } = self;
-    }
 }
 
 impl Checker {

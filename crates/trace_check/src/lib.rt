@@ -1,9 +1,9 @@
 //! The independent checker: whether a list of events is one that the definitions allow.
 //!
-//! `jobs` hands a [`Checker`](checker::Checker) the events one by one, the oldest first, and `races` calls [`check`]. A
-//! checker asks the [`PlainDatabase`](plain_database::database::PlainDatabase), which is the definitions as one plain
-//! program, for the one right answer after the events so far, and compares the reply with it exactly. [`check`] hands
-//! over a list of events, and names the first that isn't right.
+//! `jobs` hands a [`Checker`](checker::Checker) the events one by one, the oldest first, and `races` calls [`check`],
+//! which names the first that isn't right. A checker asks the
+//! [`PlainDatabase`](plain_database::database::PlainDatabase), which is the definitions as one plain program, for the one
+//! right answer after the events so far, and compares the reply with it exactly.
 //!
 //! 1. The database stands for the events taken so far, which are legal and have no gap.
 //! 2. An event has to stand one place further than the event before. It is right where its reply is the answer.
@@ -28,14 +28,13 @@
 //! - `Checker::report`, `Checker::dump`: `report` and `dump` of `plain_database`
 //! - `check`: a `take` for each event, up to the first that isn't right
 //!
-//! `take` takes memory for one answer at a time, and for the event's trace in the database; `report` and `dump` for what they answer. A
-//! checker keeps no event.
+//! `take` takes memory for one answer at a time, and for the event's trace in the database; `report` and `dump` for what
+//! they answer. A checker keeps no event.
 //!
 //! Tests: `job_tests`, `session_tests`.
 #![tactic(auto)]
 
 pub mod checker;
-mod same;
 mod taking;
 
 ghost use Rattle.std.specs.Prelude.{◌≡◌, ◌↔◌, ℕ, IfOk, OnErr};
@@ -64,9 +63,8 @@ pub fn check(alloc: Global, events: &[Event]) -> Result<Verdict, AllocError>
     let mut checker = Checker::new(alloc);
     for event in events {
         if !checker.take(event)? {
-            return Ok(Verdict::No {
-                position: event.position,
-            });
+            let position = event.position;
+            return Ok(Verdict::No { position });
         }
     }
     Ok(Verdict::Yes)

@@ -1,13 +1,12 @@
-//! How the database is asked about one event, and takes it in.
+//! How the database is asked about one event, compares the answer, and takes it in.
 ghost use Rattle.std.specs.Prelude.{◌≡◌, ◌↔◌, true, false, IfOk, OnErr};
 ghost use Rattle.spans.specs.declared.calls.replies.Reply.TheVariants.{Refused};
 ghost use Rattle.spans.specs.declared.calls.replies.Refusal.TheVariants.{NoMemory};
 ghost use Rattle.spans.specs.Legal.{is_accepted, may_lack_memory};
 ghost use Rattle.trace_check.specs.Traces.{Judges, MayLack, TakesIn};
 
-use crate::same::same_reply;
 use plain_database::database::PlainDatabase;
-use spans::calls::{Cmd, Event, Refusal, Reply};
+use spans::calls::{Cmd, Event, Messages, Refusal, Reply, Rows};
 use std::alloc::AllocError;
 
 /// Whether an event is right after those that the database took in. Where it is, it is taken in too.
@@ -32,15 +31,8 @@ fn is_want_of_memory(event: &Event, answer: &Reply) -> bool
     ensures { (result ≡ true) ↔ ((event.now.reply ≡ Refused NoMemory) × (is_accepted answer.now ≡ true) × (may_lack_memory event.now.cmd ≡ true)) }
 {
     matches!(&event.reply, Reply::Refused(Refusal::NoMemory))
-        && is_no_refusal(answer)
+        && !matches!(answer, Reply::Refused(_))
         && may_want_memory(&event.cmd)
-}
-
-/// Whether the reply is no refusal.
-fn is_no_refusal(reply: &Reply) -> bool
-    ensures { result ≡ is_accepted reply.now }
-{
-    !matches!(reply, Reply::Refused(_))
 }
 
 /// Whether the command may want memory, and find none.
@@ -48,14 +40,58 @@ fn may_want_memory(cmd: &Cmd) -> bool
     ensures { result ≡ may_lack_memory cmd.now }
 {
     match cmd {
-        Cmd::Commit { ts: _ } => false,
-        Cmd::Abort { ts: _ } => false,
-        Cmd::Close { to: _ } => false,
-        Cmd::CloseHard { to: _ } => false,
-        Cmd::Release { id: _ } => false,
-        Cmd::Collect { to: _ } => false,
-        Cmd::Cancel { feed: _ } => false,
-        Cmd::Stats => false,
+        Cmd::Commit { .. } | Cmd::Abort { .. } | Cmd::Close { .. } | Cmd::CloseHard { .. } => false,
+        Cmd::Release { .. } | Cmd::Collect { .. } | Cmd::Cancel { .. } | Cmd::Stats => false,
         _ => true,
     }
+}
+
+/// Whether two replies are the same, row by row and message by message.
+fn same_reply(a: &Reply, b: &Reply) -> bool
+    ensures { (result ≡ true) ↔ (a.now ≡ b.now) }
+{
+    match a {
+        Reply::Started => matches!(b, Reply::Started),
+        Reply::Found(value) => matches!(b, Reply::Found(other) if other == value),
+        Reply::Rows(rows) => matches!(b, Reply::Rows(other) if same_rows(other, rows)),
+        Reply::Written => matches!(b, Reply::Written),
+        Reply::Committed { keys } => matches!(b, Reply::Committed { keys: other } if other == keys),
+        Reply::Aborted => matches!(b, Reply::Aborted),
+        Reply::Closed { at, aborted } => {
+            matches!(b, Reply::Closed { at: stands, aborted: count } if stands == at && count == aborted)
+        }
+        Reply::Protected { id } => matches!(b, Reply::Protected { id: other } if other == id),
+        Reply::Released => matches!(b, Reply::Released),
+        Reply::Collected { horizon, removed } => {
+            matches!(b, Reply::Collected { horizon: stands, removed: count } if stands == horizon && count == removed)
+        }
+        Reply::Opened { feed } => matches!(b, Reply::Opened { feed: other } if other == feed),
+        Reply::Messages(list) => matches!(b, Reply::Messages(other) if same_messages(other, list)),
+        Reply::Cancelled => matches!(b, Reply::Cancelled),
+        Reply::Stats {
+            versions,
+            undecided,
+            feeds,
+            closed,
+            horizon,
+        } => {
+            matches!(b, Reply::Stats { versions: all, undecided: open, feeds: live, closed: stands, horizon: reached }
+                if all == versions && open == undecided && live == feeds && stands == closed && reached == horizon)
+        }
+        Reply::Refused(refusal) => matches!(b, Reply::Refused(other) if other == refusal),
+    }
+}
+
+/// Whether two lists of rows are the same.
+fn same_rows(a: &Rows, b: &Rows) -> bool
+    ensures { (result ≡ true) ↔ (a.now ≡ b.now) }
+{
+    a.as_slice() == b.as_slice()
+}
+
+/// Whether two lists of messages are the same.
+fn same_messages(a: &Messages, b: &Messages) -> bool
+    ensures { (result ≡ true) ↔ (a.now ≡ b.now) }
+{
+    a.as_slice() == b.as_slice()
 }

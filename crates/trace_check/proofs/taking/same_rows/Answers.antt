@@ -1,6 +1,6 @@
 use Rattle.std.proofs.lemmas.Slice.Eq.{slice_eq-Decides}
 use Rattle.trace_check.proofs.Sameness.{pairs_decide}
-use Rattle.trace_check.proofs.same.same_rows.Goals as goal
+use Rattle.trace_check.proofs.taking.same_rows.Goals as goal
 
 pub returns : goal.returns
 returns c = rw (← c.as_slice.ensures, ← c.as_slice-2.ensures) (slice_eq-Decides pairs_decide c.as_slice.result.now c.as_slice-2.result.now c.eq.result c.eq.ensures)
