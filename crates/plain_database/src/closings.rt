@@ -1,5 +1,4 @@
-//! How closed and the horizon move: the checker's closings, protections and collections, and the counts of versions
-//! that a closing and a collection leave.
+//! How closed and the horizon move: the checker's closings, protections and collections.
 ghost use Rattle.std.specs.Prelude.{◌≡◌, ◌+◌, ◌-◌, ◌^◌, OnErr, OnOk, min, true, ℕ};
 ghost use Rattle.spans.specs.declared.calls.commands.Cmd.TheVariants.{Close, CloseHard, Collect};
 ghost use Rattle.spans.specs.Collection.{collection_horizon};

@@ -23,8 +23,7 @@ pub struct Dump {
 }
 
 impl PlainDatabase {
-    /// The dump that closes at `at`, or at the greatest of closed and all that began where that is above. It
-    /// changes nothing.
+    /// The dump that closes at `at`, or at the greatest of closed and all that began. It changes nothing.
     #[tactic(auto, using(spans::proofs::Legal::legal_allowed, restarts::proofs::InRange::has_mark, crate::proofs::Dumping::greatest_more))]
     pub fn dump(&self, at: u64) -> Result<Dump, AllocError>
         requires { at ≤ MAX }

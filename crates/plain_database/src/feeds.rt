@@ -2,8 +2,7 @@
 //!
 //! 1. Both lists have the newest first, as the definitions say them.
 //! 2. A number up to how many were opened without a record is that of a feed that was cancelled.
-//! 3. Of the messages that it was told a feed keeps the name of the last row, the greatest and the latest resolved
-//!    timestamp, and the floor. They say at which place its next rows begin.
+//! 3. What a feed keeps of the messages that it was told says at which place its next rows begin.
 //!
 //! ```text
 //! open from 5                    told nothing           place: above 5        floor 5

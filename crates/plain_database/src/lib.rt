@@ -2,9 +2,8 @@
 //! command. `trace_check` is the caller.
 //!
 //! `answer` computes the reply to a command, and changes nothing. `record` takes in a command with its right reply. So
-//! a checker can ask and compare before it goes on. [`versions`] has the transactions, each with what it wrote and what
-//! it read, and [`feeds`] the feeds that live and the protections that stand. The files beside them answer and record
-//! each command from both. [`limit_law::law_of_limits`] states that the limit of a report is how far a collection goes.
+//! a checker can ask and compare before it goes on. [`versions`] has the transactions, and [`feeds`] the feeds that live
+//! and the protections that stand. [`limit_law::law_of_limits`] states that a report's limit is how far a collection goes.
 //!
 //! 1. What is kept is the definitions' own data: of each transaction its seat, state, writes and reads, and then closed
 //!    and the horizon. Beside it stand an index of who may have written each key, and the numbers of versions that are
@@ -40,9 +39,6 @@
 //! - `report`: c, the protections and the feeds; a whole one also a `collect` up to closed, and for each feed a `poll`
 //!   of all its rows
 //! - `dump`: P for each committed version, and a copy of each
-//!
-//! So a transcript is slow to check that has many reads above a transaction which writes on, many aborted writers of
-//! one key, or a long tail that is never closed.
 //!
 //! `answer` takes memory for rows, values, spans and messages, and `report` and `dump` for their lists. `record` takes
 //! it for a begin, get, scan, put, del, protect, opening or poll that is accepted, and none for other commands.

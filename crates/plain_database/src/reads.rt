@@ -33,14 +33,12 @@ impl PlainDatabase {
         ensures err { OnErr result (self.new ≡ self.old) }
         ensures memory { OnErr result (is_accepted reply.now ≡ true) }
     {
-        match reply {
-            Reply::Found(_) => {
-                let source = self.versions.source(key, ts);
-                let key = key.copy()?;
-                self.versions.read(ts, Read::Key { key, source })
-            }
-            _ => Ok(()),
-        }
+        let Reply::Found(_) = reply else {
+            return Ok(());
+        };
+        let source = self.versions.source(key, ts);
+        let key = key.copy()?;
+        self.versions.read(ts, Read::Key { key, source })
     }
 
     #[tactic(auto, using(crate::proofs::Common::legal_allowed, crate::proofs::Common::tests_past, crate::proofs::Common::first_met, crate::proofs::Common::none_met))]
@@ -63,14 +61,12 @@ impl PlainDatabase {
         ensures err { OnErr result (self.new ≡ self.old) }
         ensures memory { OnErr result (is_accepted reply.now ≡ true) }
     {
-        match reply {
-            Reply::Rows(_) => {
-                let sources = self.versions.sources(self.alloc, span, ts)?;
-                let span = span.copy()?;
-                self.versions.read(ts, Read::Span { span, sources })
-            }
-            _ => Ok(()),
-        }
+        let Reply::Rows(_) = reply else {
+            return Ok(());
+        };
+        let sources = self.versions.sources(self.alloc, span, ts)?;
+        let span = span.copy()?;
+        self.versions.read(ts, Read::Span { span, sources })
     }
 
     #[tactic(auto, using(std::proofs::lemmas::Bool::Decides::nat_tests, spans::proofs::Legal::legal_allowed, spans::proofs::Closed::closed_value))]

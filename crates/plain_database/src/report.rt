@@ -1,6 +1,6 @@
 //! What an operator may ask of the database: the statistics, and the report.
 ghost use Rattle.std.specs.Prelude.{◌≡◌, ◌-◌, IfOk, length, ℕ};
-ghost use Rattle.plain_database.specs.Prelude.{AreFeeds, IsReport, Stats, dead_of, in_whole, removable_of, versions_of};
+ghost use Rattle.plain_database.specs.Prelude.{AreFeeds, IsReport, Stats, dead_of, versions_of};
 ghost use Rattle.plain_database.specs.Answering.{AfterCounted, AfterEach, AnswersCounted, any_seat};
 ghost use Rattle.plain_database.specs.Reports.{IsUntoldIn};
 
@@ -26,8 +26,7 @@ impl PlainDatabase {
         }
     }
 
-    /// The report that an operator may ask for: whole, or live, without the two counts that need a walk.
-    /// It changes nothing.
+    /// The report: whole, or live, without the two counts that need a walk. It changes nothing.
     #[tactic(auto, using(spans::proofs::Legal::legal_allowed))]
     pub fn report(&self, whole: bool) -> Result<Report, AllocError>
         ensures report { IfOk result (λ report. AfterCounted self.now (λ p. IsReport whole p report)) }
@@ -36,7 +35,7 @@ impl PlainDatabase {
             closed: self.versions.closed(),
             horizon: self.horizon,
             versions: self.kept_versions(),
-            removable: self.removable_in(whole),
+            removable: whole.then(|| self.collection(self.versions.closed()).1),
             transactions: self.versions.open_reports(self.alloc)?,
             protections: self.protections.report(self.alloc)?,
             feeds: self.feed_reports(whole)?,
@@ -51,13 +50,6 @@ impl PlainDatabase {
         let (versions, closed) = (&self.versions, self.versions.closed());
         let above = versions.count_between(closed, u64::MAX);
         self.passed.saturating_add(above).saturating_sub(self.dead)
-    }
-
-    /// How many versions a collection up to closed would drop now, where the report is a whole one.
-    fn removable_in(&self, whole: bool) -> Option<u64>
-        ensures { AfterCounted self.now (λ p. result ≡ in_whole whole (removable_of p)) }
-    {
-        whole.then(|| self.collection(self.versions.closed()).1)
     }
 
     /// The feeds that live, numbers rising.

@@ -64,8 +64,7 @@ impl FeedBook {
     ) -> Result<u64, AllocError>
         requires room { self.old.opened < u64.MAX }
         ensures number { IfOk result (λ number. Says self.old (λ p. number ≡ suc (feeds_opened p))) }
-        ensures opened { IfOk result (λ number.
-            LeadsTo self.old (Opens number seat kind span.now cursor) self.new) }
+        ensures opened { IfOk result (λ number. LeadsTo self.old (Opens number seat kind span.now cursor) self.new) }
         ensures err { OnErr result (self.new ≡ self.old) }
     {
         let number = self.opened + 1;

@@ -54,8 +54,6 @@ fn ts_of(row: Option<&ToldRow>) -> u64
 fn key_above(row: Option<&ToldRow>, ts: u64) -> Option<&Key>
     ensures { option_copied result ≡ key_above ts (option_copied row.entry) }
 {
-    match row {
-        Some(row) if ts < row.ts => Some(&row.key),
-        _ => None,
-    }
+    let row = row?;
+    (ts < row.ts).then_some(&row.key)
 }

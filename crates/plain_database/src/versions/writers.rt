@@ -1,6 +1,5 @@
-//! Who may have written each key: the checker's index over its transactions, and the keys of a span in it. Nothing is
-//! ever taken out of it, so a writer that ran out of memory stays, as one does that was aborted, and whoever asks looks
-//! the write up.
+//! Who may have written each key: the checker's index over its transactions. Nothing is ever taken out of it, so a
+//! writer that ran out of memory stays, as one does that was aborted, and whoever asks looks the write up.
 ghost use Rattle.std.specs.Prelude.{◌≡◌, ◌≤◌, ℕ, List, [], OnOk, filter, length, true};
 ghost use Rattle.std.specs.Iterator.{at_most};
 ghost use Rattle.std.specs.Map.{keys_of};
