@@ -59,5 +59,5 @@ pub mod versions;
 
 use std::alloc::AllocError;
 
-/// What takes memory, or the error that there is none.
+/// A value that took memory, or the error that there was none.
 type Allocated<T> = Result<T, AllocError>;

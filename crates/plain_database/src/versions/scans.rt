@@ -1,5 +1,4 @@
-//! What the checker's store says of a span: who stops a scan, the keys that one finds, what they hold, and the committed
-//! rows behind a place.
+//! What the checker's store says of a span: who stops a scan, what one finds, and the committed rows behind a place.
 ghost use Rattle.std.specs.Prelude.{◌≡◌, ◌≤◌, ◌&&◌, ◌++◌, ◌∷◌, [], ℕ, List, IfOk, OnOk, length, option_map, take, true};
 ghost use Rattle.std.specs.Option.{option_copied};
 ghost use Rattle.spans.specs.Answer.{first_refusal};
@@ -67,8 +66,7 @@ impl VersionStore {
         Ok(sources)
     }
 
-    /// The first `max` keys of a span above `after` whose version at or below `ts` has a value, each with it, by
-    /// rising key.
+    /// The first `max` keys of a span above `after` that have a value at or below `ts`, each with it, by rising key.
     pub fn pairs(
         &self,
         alloc: Global,

@@ -1,5 +1,4 @@
-//! Walks over the checker's transactions: those above closed, as none at or below it is undecided, and those between
-//! two timestamps, of which the versions are counted.
+//! Walks over the checker's transactions: those above closed, and those between two timestamps.
 //!
 //! A delete is dead as soon as a horizon reaches it, and a value as soon as one reaches the next version of its
 //! key. So only the versions between the old horizon and the new one are looked at, and the one below each.
@@ -84,7 +83,7 @@ impl VersionStore {
         oldest.map(|(ts, _)| ts.0)
     }
 
-    /// The transactions above closed, timestamps rising.
+    /// The transactions above closed, timestamps rising. None at or below it is undecided.
     fn above_closed(&self) -> Range<'_, TsKey, Begun>
         ensures those { result ≡ above_closed self.now }
         ensures rising { IsRising self.now.table }
