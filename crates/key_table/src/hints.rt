@@ -1,6 +1,5 @@
-//! Numbers that are tried before a map is searched.
 use slab::Slab;
-use std::alloc::Global;
+use std::alloc::{AllocError, Global};
 use timestamps::key::Key;
 
 /// How many places of a hash are tried. They lie side by side.
@@ -15,7 +14,8 @@ const LEAST: usize = 64;
 /// An odd number with ones and zeros in no order, so that a product by it has a part of each byte in its upper half.
 const FACTOR: usize = 0x9E37_79B9_7F4A_7C15;
 
-/// Numbers in places of hashes. There are a power of two of them, so a hash is cut to a place by its last digits.
+/// Numbers in places of hashes, tried before a map is searched. There are a power of two of them, so a hash is cut to a
+/// place by its last digits.
 #[derive(Drop)]
 pub(crate) struct Hints {
     numbers: Vec<u32>,
@@ -44,32 +44,18 @@ impl Hints {
         }
     }
 
-    /// Whether there is room for so many, half of it empty.
-    fn has_room_for(&self, count: usize) -> bool {
-        count <= self.numbers.len() / 2
-    }
-
-    /// Twice as many places, all empty, if there is memory for that.
-    fn widen(&mut self, alloc: Global) -> bool {
+    /// Twice as many places, all empty.
+    fn widen(&mut self, alloc: Global) -> Result<(), AllocError> {
         let count = self.numbers.len().saturating_mul(2).max(LEAST);
-        match vec![in alloc; NONE; count] {
-            Err(_) => false,
-            Ok(numbers) => {
-                self.numbers = numbers;
-                true
-            }
-        }
+        self.numbers = vec![in alloc; NONE; count]?;
+        Ok(())
     }
 
     /// The first place of a hash that has this in it.
     fn place_of(&self, hash: usize, wanted: u32) -> Option<usize> {
-        for which in 0..PLACES {
-            let place = self.place(hash, which);
-            if self.numbers.get(place) == Some(&wanted) {
-                return Some(place);
-            }
-        }
-        None
+        (0..PLACES)
+            .map(|which| self.place(hash, which))
+            .find(|place| self.numbers.get(*place) == Some(&wanted))
     }
 
     fn set(&mut self, place: usize, number: u32) {
@@ -81,19 +67,15 @@ impl Hints {
     /// Puts a number into the first empty place of a hash, or else over the one in its first place.
     fn put(&mut self, hash: usize, number: usize) {
         if number < NONE as usize {
-            let place = match self.place_of(hash, NONE) {
-                None => self.place(hash, 0),
-                Some(place) => place,
-            };
-            self.set(place, number as u32);
+            let empty = self.place_of(hash, NONE);
+            self.set(empty.unwrap_or(self.place(hash, 0)), number as u32);
         }
     }
 
-    /// Notes the number of a key. Where there are too few places, all keys are noted anew in more of them.
+    /// Notes the number of a key. Where half of the places are too few, all keys are noted anew in more of them.
     pub(crate) fn note(&mut self, alloc: Global, keys: &Slab<Key>, key: &Key, number: usize) {
-        if self.has_room_for(keys.len()) || !self.widen(alloc) {
-            self.put(hash_of(key), number);
-            return;
+        if keys.len() <= self.numbers.len() / 2 || self.widen(alloc).is_err() {
+            return self.put(hash_of(key), number);
         }
         for (number, key) in keys.iter() {
             self.put(hash_of(key), number);
@@ -102,10 +84,10 @@ impl Hints {
 
     /// Takes the number of a key out, where it is noted.
     pub(crate) fn take(&mut self, key: &Key, number: usize) {
-        if number < NONE as usize {
-            if let Some(place) = self.place_of(hash_of(key), number as u32) {
-                self.set(place, NONE);
-            }
+        if number < NONE as usize
+            && let Some(place) = self.place_of(hash_of(key), number as u32)
+        {
+            self.set(place, NONE);
         }
     }
 }

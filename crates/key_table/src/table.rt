@@ -1,4 +1,3 @@
-//! Keys and their numbers.
 ghost use Rattle.std.specs.Prelude.{◌≡◌, ◌↔◌, ◌≤◌, ℕ, List, [], Some, None, IfSome, IfOk, OnErr, true};
 ghost use Rattle.std.specs.Option.{option_copied};
 ghost use Rattle.std.specs.Map.{keys_of};
@@ -58,10 +57,8 @@ impl KeyTable {
         ensures own { IfSome result (λ n. IsOwn self.now key.now n) }
     {
         let numbers = &self.numbers;
-        match self.number_by_hints(key) {
-            Some(number) => Some(number),
-            None => numbers.get(key).copied(),
-        }
+        let hinted = self.number_by_hints(key);
+        hinted.or_else(|| numbers.get(key).copied())
     }
 
     /// The number of a key once more, where it has one, after it had the number `before`, or none. That is tried in place of the
@@ -70,10 +67,9 @@ impl KeyTable {
         ensures number { result ≡ number_in self.now key.now }
         ensures own { IfSome result (λ n. IsOwn self.now key.now n) }
     {
-        let numbers = &self.numbers;
         match before {
             Some(number) if self.is_at(key, number) => Some(number),
-            _ => numbers.get(key).copied(),
+            _ => self.numbers.get(key).copied(),
         }
     }
 
@@ -84,10 +80,10 @@ impl KeyTable {
     {
         let hash = hash_of(key);
         for which in 0..PLACES {
-            if let Some(number) = self.hints.at(hash, which) {
-                if self.is_at(key, number) {
-                    return Some(number);
-                }
+            if let Some(number) = self.hints.at(hash, which)
+                && self.is_at(key, number)
+            {
+                return Some(number);
             }
         }
         None
@@ -98,10 +94,7 @@ impl KeyTable {
     fn is_at(&self, key: &Key, number: usize) -> bool
         ensures { result ≡ true → number_in self.now key.now ≡ Some number }
     {
-        match self.keys.get(number) {
-            None => false,
-            Some(own) => own == key,
-        }
+        self.key_of(number).is_some_and(|own| own == key)
     }
 
     /// The key of a number, where it is one.
@@ -148,9 +141,7 @@ impl KeyTable {
         requires { number_in self.old key.now ≡ Some number }
         ensures { IsNumberedAt self.old self.new key.now None }
     {
-        self.hints.take(key, number);
-        self.numbers.remove(key);
-        self.keys.remove(number);
+        self.free_at(number);
     }
 
     /// Takes its number from the key that has it. It takes no memory.

@@ -1,6 +1,5 @@
-use Rattle.std.proofs.Common.{◌≡◌, ◌∙◌, refl, subst, sym, List, ℕ, Some, None}
-use Rattle.slab.specs.Slab as slab
-use Rattle.key_table.specs.Numbers.{number_in, IsNumberedAt}
+use Rattle.std.proofs.Common.{◌≡◌, ◌∙◌, refl, subst, sym, None}
+use Rattle.key_table.specs.Numbers.{IsNumberedAt}
 use Rattle.key_table.proofs.Numbering.{numbered_at, one_of, stands, tied_less}
 use Rattle.key_table.proofs.table.KeyTable.free_at.Goals as goal
 

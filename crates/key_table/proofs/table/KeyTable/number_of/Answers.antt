@@ -1,9 +1,6 @@
-use Rattle.std.proofs.Common.{rules, sym, Some}
+use Rattle.std.proofs.Common.{rules}
 use Rattle.key_table.proofs.Numbering.{own_found}
 use Rattle.key_table.proofs.table.KeyTable.number_of.Goals as goal
 
-pub returns-in-Some-clause-own : goal.returns-in-Some-clause-own
-returns-in-Some-clause-own c = own_found c.self.inside.numbers c.self.inside.keys c.args.self.now c.args.key.now (Some c.in-Some.number) c.self.invariant c.self.view_is (sym c.in-Some.ensures)
-
-pub returns-in-None-clause-own : goal.returns-in-None-clause-own
-returns-in-None-clause-own c = own_found c.self.inside.numbers c.self.inside.keys c.args.self.now c.args.key.now _ c.self.invariant c.self.view_is (search rules)
+pub returns-clause-own : goal.returns-clause-own
+returns-clause-own c = own_found c.self.inside.numbers c.self.inside.keys c.args.self.now c.args.key.now _ c.self.invariant c.self.view_is (search rules)
