@@ -31,8 +31,6 @@
 //! Tests: `layer_tests`.
 #![tactic(auto)]
 
-mod iter;
 mod set;
 
-pub use iter::Keys;
-pub use set::KeySet;
+pub use set::{KeySet, Keys};

@@ -1,21 +1,22 @@
-//! The keys of a set.
 ghost use Rattle.std.specs.Prelude.{◌≡◌, ◌∷◌, ◌↔◌, ◌<◌, ◌^◌, ℕ, List, [], IsTrue, IfOk, OnOk, OnErr, bytes_eq, true, false, filter, if◌then◌else◌, length, not};
 ghost use Rattle.std.specs.BTreeMap.{is_at};
 ghost use Rattle.std.specs.Fn.{CalledAt};
 ghost use Rattle.std.specs.List.Retain.{IsFiltered};
-ghost use Rattle.std.specs.Option.{option_copied};
+ghost use Rattle.std.specs.Iterator.{at_most};
+ghost use Rattle.std.specs.Map.Iter.{TakesFirst, deref};
 ghost use Rattle.std.specs.Set.{remove_key};
 ghost use Rattle.std.specs.declared.cmp.Ordering.TheVariants.{Less};
 ghost use Rattle.timestamps.specs.Bytes.{key_cmp};
 ghost use Rattle.key_set.specs.Prelude.{RisingKeys, key_lt};
 ghost use Rattle.spans.specs.Keys.{insert_key};
 ghost use Rattle.spans.proofs.WriteSets.{has};
-ghost use Rattle.key_set.specs.Sets.{AreInOrder, first_above, keys_in};
+ghost use Rattle.key_set.specs.Sets.{AreInOrder, keys_in};
 
-use crate::iter::Keys;
 use std::alloc::{AllocError, Global};
 use std::cmp::Ordering;
 use std::collections::BTreeSet;
+use std::collections::btree_set::Range;
+use std::iter::Iterator;
 use std::marker::Model;
 use std::mem;
 use std::ops::Bound;
@@ -115,16 +116,19 @@ impl KeySet {
                 put_next(&mut self.least, &mut self.others);
                 true
             }
-            Ordering::Greater => remove_from(&mut self.others, key),
+            Ordering::Greater => {
+                let found = self.others.remove(key);
+                free_empty(&mut self.others);
+                found
+            }
         }
     }
 
     /// Keeps the keys for which the test answers `true`. The test is asked once of each key, in rising order.
-    pub fn retain<F: FnMut(&Key) -> bool>(&mut self, test: F)
+    pub fn retain<F: FnMut(&Key) -> bool>(&mut self, mut test: F)
         requires { F.IsAlwaysCallable test }
         ensures { IsFiltered (CalledAt F.FnMut) test self.old self.new }
     {
-        let mut test = test;
         let Some(least) = &self.least else {
             return;
         };
@@ -142,7 +146,10 @@ impl KeySet {
         ensures rising { RisingKeys result }
         ensures fits { length result < 2 ^ 64 }
     {
-        Keys::of(self.least.as_ref(), self.others.range(..))
+        Keys {
+            least: self.least.as_ref(),
+            others: self.others.range(..),
+        }
     }
 
     /// The keys above this one, rising.
@@ -150,18 +157,42 @@ impl KeySet {
         ensures keys { result ≡ filter (key_lt key.now) self.now }
         ensures rising { RisingKeys result }
     {
-        let above = (Bound::Excluded(key), Bound::Unbounded);
-        Keys::of(least_above(&self.least, key), self.others.range(above))
+        let least = self.least.as_ref().filter(|least| key < *least);
+        let others = self.others.range((Bound::Excluded(key), Bound::Unbounded));
+        Keys { least, others }
     }
 }
 
-// The key that lies in place, where it is above another.
-fn least_above<'a>(least: &'a Option<Key>, key: &Key) -> Option<&'a Key>
-    ensures { option_copied result ≡ first_above key.now least.now }
-{
-    match least {
-        Some(least) if key < least => Some(least),
-        _ => None,
+/// Keys of a set, rising, each as it is asked for.
+#[derive(Drop)]
+pub struct Keys<'a> {
+    least: Option<&'a Key>,
+    others: Range<'a, Key>,
+}
+
+impl<'a> Model for Keys<'a> {
+    ghost use Rattle.std.specs.Prelude.{List, ℕ};
+    ghost use Rattle.std.specs.Option.{option_copied};
+    ghost use Rattle.key_set.specs.Sets.{keys_in};
+
+    ghost Value = { List (List ℕ) };
+
+    ghost view = { λ k. keys_in (option_copied k.least) k.others };
+}
+
+impl<'a> Iterator for Keys<'a> {
+    type Item = &'a Key;
+
+    ghost next_gives = { TakesFirst deref };
+
+    ghost remaining = { λ s. at_most (length s) };
+
+    #[inline]
+    fn next(&mut self) -> Option<&'a Key> {
+        match self.least.take() {
+            None => self.others.next(),
+            Some(key) => Some(key),
+        }
     }
 }
 
@@ -173,16 +204,6 @@ fn put_next(least: &mut Option<Key>, others: &mut BTreeSet<Key>)
 {
     *least = others.pop_first();
     free_empty(others);
-}
-
-// Takes a key out of a set of std, and answers whether it was there.
-fn remove_from(keys: &mut BTreeSet<Key>, key: &Key) -> bool
-    ensures keys { keys.new.keys ≡ remove_key (is_at (key_cmp key.now)) keys.old.keys }
-    ensures found { result ≡ has key.now keys.old.keys }
-{
-    let found = keys.remove(key);
-    free_empty(keys);
-    found
 }
 
 // Frees the node that a set of std keeps when its last key has gone.
