@@ -61,6 +61,12 @@ pub record Begins (line : List ℕ) (new : Replica) : Type 0 where
   pub read : command_at Two table 64 line ≡ Ok (seat, command)
   pub begins : BeginsBy command (Some new)
 
+-- why none begins by the command
+abbrev pub IsUnopenedBy : Cmd → BeginError → Type 0
+IsUnopenedBy command (errors.Fault f) = ⊥
+IsUnopenedBy command errors.NoFeed = BeginsBy command None
+IsUnopenedBy command errors.NoMemory = OpensFeed command
+
 -- the line's command opens a feed
 abbrev pub LineOpensFeed : List ℕ → Type 0
 LineOpensFeed line = (seat : ℕ) × (command : Cmd) × (command_at Two table 64 line ≡ Ok (seat, command)) × OpensFeed command

@@ -1,11 +1,9 @@
-//! The consumer of one feed.
-ghost use Rattle.std.specs.Prelude.{◌≡◌, [], IfOk, IfErr, OnErr};
-ghost use Rattle.embedded_replica.specs.Prelude.{Follows, complete_in, seeded_start, through_in};
-ghost use Rattle.embedded_replica.specs.Consumers.{replica_of, opening_of, OpensFeed, Begins, BeginsBy, IsUnopened, HasTaken, IsRefused, IsReady, IsNoMessage, IsNoKey, Shows, ShowsRows};
+ghost use Rattle.std.specs.Prelude.{◌≡◌, Some, IfOk, IfErr, OnErr};
+ghost use Rattle.embedded_replica.specs.Prelude.{complete_in, through_in};
+ghost use Rattle.embedded_replica.specs.Consumers.{replica_of, opening_of, Begins, BeginsBy, IsUnopened, HasTaken, IsRefused, IsReady, IsNoMessage, IsNoKey, Shows, ShowsRows, IsUnopenedBy};
 ghost use Rattle.embedded_replica.specs.Seeds.{seeded_of, BeginsWith, SeededBy, IsUnseeded, IsUnseededBy};
 
-use crate::reading::pairs_of;
-use crate::showing::text_of;
+use crate::rows::{pairs_of, text_of};
 use json_lines::buffer::copy_front;
 use json_lines::{MessageFault, read_message};
 use replica::{Fault, Replica};
@@ -19,20 +17,11 @@ use timestamps::ts::MAX;
 use word_lines::commands::read_command;
 use word_lines::fault::{LineFault, ReadError};
 
-/// A replica of a feed's span, with the program's heap.
+/// The consumer of one feed: a replica of its span, with the program's heap.
+#[derive(Drop)]
 pub struct Consumer {
     alloc: Global,
     pub(crate) replica: Replica,
-}
-
-// for the proof, which has no case for each part of it where a consumer is dropped
-impl Drop for Consumer {
-    fn drop(self) {
-        let Consumer {
-            alloc: _,
-            replica: _,
-        } = self;
-    }
 }
 
 /// Why no consumer begins by a line.
@@ -87,11 +76,8 @@ impl Consumer {
             Err(ReadError::Fault(fault)) => return Err(BeginError::Fault(fault)),
             Err(ReadError::NoMemory) => return Err(BeginError::NoMemory),
         };
-        match begun(alloc, cmd) {
-            Ok(Some(replica)) => Ok(Consumer { alloc, replica }),
-            Ok(None) => Err(BeginError::NoFeed),
-            Err(_) => Err(BeginError::NoMemory),
-        }
+        let replica = begun(alloc, cmd)?;
+        Ok(Consumer { alloc, replica })
     }
 
     /// The consumer of the feed, no initial one, that a line's command opens, from any seat: a line of format two, with
@@ -108,10 +94,8 @@ impl Consumer {
             Err(ReadError::Fault(fault)) => return Err(SeedingError::Fault(fault)),
             Err(ReadError::NoMemory) => return Err(SeedingError::NoMemory),
         };
-        match seeded(alloc, cmd, rows) {
-            Ok(replica) => Ok(Consumer { alloc, replica }),
-            Err(error) => Err(error),
-        }
+        let replica = seeded(alloc, cmd, rows)?;
+        Ok(Consumer { alloc, replica })
     }
 
     /// Takes the line of a message, with its newline.
@@ -120,14 +104,8 @@ impl Consumer {
         ensures err { OnErr result (self.new ≡ self.old) }
         ensures refused { IfErr result (IsRefused line.now (replica_of self.old)) }
     {
-        let message = match read_message(self.alloc, line, Format::Two) {
-            Ok(message) => message,
-            Err(fault) => return Err(TakeError::Line(fault)),
-        };
-        match self.replica.apply(message) {
-            Ok(()) => Ok(()),
-            Err(fault) => Err(TakeError::Message(fault)),
-        }
+        let message = read_message(self.alloc, line, Format::Two).map_err(TakeError::Line)?;
+        self.replica.apply(message).map_err(TakeError::Message)
     }
 
     /// The timestamp at which the rows are the map as they stand, where the line's message shows it, which comes next.
@@ -201,56 +179,32 @@ fn opening_of(cmd: Cmd) -> Option<Opening>
     })
 }
 
-/// The replica of the feed that a command opens, if it opens one at a timestamp.
-fn begun(alloc: Global, cmd: Cmd) -> Result<Option<Replica>, AllocError>
-    ensures ok { IfOk result (BeginsBy cmd) }
-    ensures memory { OnErr result (OpensFeed cmd) }
+/// The replica of the feed that a command opens, with no rows.
+fn begun(alloc: Global, cmd: Cmd) -> Result<Replica, BeginError>
+    ensures ok { IfOk result (λ r. BeginsBy cmd (Some r)) }
+    ensures err { IfErr result (IsUnopenedBy cmd) }
 {
-    let Some(
-        Opening {
-            span,
-            cursor,
-            initial,
-        },
-    ) = opening_of(cmd)
-    else {
-        return Ok(None);
-    };
-    if cursor > MAX {
-        return Ok(None);
+    let opening = opening_of(cmd).ok_or(BeginError::NoFeed)?;
+    if opening.cursor > MAX {
+        return Err(BeginError::NoFeed);
     }
-    if initial {
-        return Ok(Some(Replica::new_initial(alloc, span, cursor)));
+    let (span, cursor) = (opening.span, opening.cursor);
+    if opening.initial {
+        return Ok(Replica::new_initial(alloc, span, cursor));
     }
-    let replica = empty(alloc, span, cursor)?;
-    Ok(Some(replica))
-}
-
-/// A replica with no rows at a cursor.
-fn empty(alloc: Global, span: Span, cursor: u64) -> Result<Replica, AllocError>
-    ensures { IfOk result (λ r. Follows r (seeded_start span cursor []) []) }
-{
-    match Replica::new(alloc, span, cursor, Vec::new(alloc)) {
-        Ok(replica) => Ok(replica),
-        Err(Fault::NoMemory) => Err(AllocError),
-        // no rows are no fault
-        Err(Fault::NotAfter | Fault::OutsideSpan | Fault::ResolvedBack) => unreachable!(),
-    }
+    // no rows are no fault
+    Replica::new(alloc, span, cursor, Vec::new(alloc)).map_err(|_| BeginError::NoMemory)
 }
 
 /// The span and the cursor of the feed that a command opens, if it opens one at a timestamp that isn't initial.
 fn seeded_of(cmd: Cmd) -> Option<(Span, u64)>
     ensures { result ≡ seeded_of cmd }
 {
-    let Opening {
-        span,
-        cursor,
-        initial,
-    } = opening_of(cmd)?;
-    if initial || cursor > MAX {
+    let opening = opening_of(cmd)?;
+    if opening.initial || opening.cursor > MAX {
         return None;
     }
-    Some((span, cursor))
+    Some((opening.span, opening.cursor))
 }
 
 /// The replica that begins with the rows of a text, of the feed that a command opens.
@@ -258,9 +212,7 @@ fn seeded(alloc: Global, cmd: Cmd, rows: &[u8]) -> Result<Replica, SeedingError>
     ensures ok { IfOk result (SeededBy cmd rows.now) }
     ensures err { IfErr result (IsUnseededBy cmd rows.now) }
 {
-    let Some((span, cursor)) = seeded_of(cmd) else {
-        return Err(SeedingError::NoFeed);
-    };
+    let (span, cursor) = seeded_of(cmd).ok_or(SeedingError::NoFeed)?;
     let pairs = match pairs_of(alloc, rows) {
         Ok(pairs) => pairs,
         Err(ReadError::Fault(fault)) => return Err(SeedingError::Rows(fault)),

@@ -37,7 +37,6 @@
 #![tactic(auto)]
 
 mod consumer;
-mod reading;
-mod showing;
+mod rows;
 
 pub use consumer::{BeginError, Consumer, SeedingError, TakeError};

@@ -3,7 +3,7 @@ use Rattle.std.proofs.lemmas.Grind.{common_steps}
 use Rattle.std.proofs.lemmas.Result.{err_from_is_err_and}
 use Rattle.embedded_replica.specs.Seeds.{pairs_at}
 use Rattle.embedded_replica.proofs.PairLines.{goes_on, is_done, nothing_before, stops}
-use Rattle.embedded_replica.proofs.reading.pairs_of.Goals as goal
+use Rattle.embedded_replica.proofs.rows.pairs_of.Goals as goal
 
 pub loop-rest-init : goal.loop-rest-init
 loop-rest-init c = rw c.new-rows.ensures.items (nothing_before (pairs_at c.args.text.now))
