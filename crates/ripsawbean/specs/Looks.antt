@@ -9,7 +9,7 @@ use Rattle.embedded.specs.declared.held.HeldRecord.{HeldRecord}
 use Rattle.embedded.specs.declared.versions.VersionFault.{VersionFault}
 use Rattle.embedded.specs.declared.versions.VersionFault.TheVariants.{BelowHorizon, KeyLength, NoMemory}
 use Rattle.ripsawbean.specs.ReplicaExports.{number_or_none}
-use Rattle.ripsawbean.specs.declared.places.PlacesRecord.{PlacesRecord}
+use Rattle.ripsawbean.specs.declared.looks.PlacesRecord.{PlacesRecord}
 
 -- ---- versions
 

@@ -7,8 +7,6 @@
 //! ripsawbean_replica_rows                                 0        row a 1
 //! ripsawbean_replica_begin    0 open - - 5    row a 1     17
 //! ```
-//!
-//! Its numbers stand in the table of `replicas`.
 
 ghost use Rattle.std.specs.Prelude.{◌≡◌};
 ghost use Rattle.embedded_replica.specs.Seeds.{IsUnseeded};
@@ -45,13 +43,11 @@ pub extern "C" fn ripsawbean_replica_begin(
         Ok(consumer) => consumer,
         Err(error) => return begin_number(error),
     };
-    match Box::new(alloc, consumer) {
-        Ok(consumer) => {
-            handle.put(consumer);
-            0
-        }
-        Err(_) => NO_MEMORY,
-    }
+    let Ok(consumer) = Box::new(alloc, consumer) else {
+        return NO_MEMORY;
+    };
+    handle.put(consumer);
+    0
 }
 
 /// The number that tells of an error.

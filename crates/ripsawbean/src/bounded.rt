@@ -18,18 +18,18 @@
 //! | 14 | the call was made and its answer told; its bytes ran out of memory: `ripsawbean_bytes` tries again |
 //! | 16 | the handle is closed; nothing was done. It is tested before all else |
 
-ghost use Rattle.std.specs.Prelude.{◌≡◌, None, Some, IfOk, false, if◌then◌else◌};
+ghost use Rattle.std.specs.Prelude.{◌≡◌, None, Some, IfOk, IfErr, if◌then◌else◌};
 ghost use Rattle.embedded.specs.declared.bounded.Bounded.TheVariants.{Poll, Scan, ScanAt};
-ghost use Rattle.ripsawbean.specs.BoundedExports.{MadePollWithin, MadeScan, high_of, low_of, span_fault, span_of};
-ghost use Rattle.ripsawbean.specs.BoundedParts.{BoundedOf, IsUnfit};
-ghost use Rattle.ripsawbean.specs.TypedExports.{Answered, OfHandle, ShownBytes, is_made};
-ghost use Rattle.ripsawbean.specs.TypedParts.{IsOf};
+ghost use Rattle.ripsawbean.specs.BoundedExports.{MadePollWithin, MadeScan, low_of, span_fault, span_of};
+ghost use Rattle.ripsawbean.specs.BoundedParts.{BoundedOf};
+ghost use Rattle.ripsawbean.specs.TypedExports.{Answered, OfHandle, ShownBytes};
+ghost use Rattle.ripsawbean.specs.TypedParts.{IsOf, number_of};
 
 use crate::handle::Handle;
 use crate::typed::{Unfit, bytes, no_answer, number};
-use crate::{CLOSED, NO_MEMORY, SESSION, SPENT};
+use crate::{NO_MEMORY, SESSION, SPENT};
 use embedded::{Answer, Bounded, BoundedError, Database};
-use spans::bound::{Bound, BoundError, MAX_BOUND_BYTES};
+use spans::bound::{Bound, MAX_BOUND_BYTES};
 use spans::span::Span;
 use std::alloc::Global;
 
@@ -60,7 +60,12 @@ pub extern "C" fn ripsawbean_scan(
     ensures answer { Answered result handle.new.database answer.new }
     ensures rows { ShownBytes result handle.new.database out.old out.new length.new }
 {
-    let cmd = scan(alloc, timestamp, low, high, has_high, rows, bytes);
+    let cmd = span_of(alloc, low, has_high, high).map(|span| Bounded::Scan {
+        ts: timestamp,
+        span,
+        rows,
+        bytes,
+    });
     show(alloc, handle, seat, cmd, out, length, answer)
 }
 
@@ -84,7 +89,12 @@ pub extern "C" fn ripsawbean_scan_at(
     ensures answer { Answered result handle.new.database answer.new }
     ensures rows { ShownBytes result handle.new.database out.old out.new length.new }
 {
-    let cmd = scan_at(alloc, timestamp, low, high, has_high, rows, bytes);
+    let cmd = span_of(alloc, low, has_high, high).map(|span| Bounded::ScanAt {
+        t: timestamp,
+        span,
+        rows,
+        bytes,
+    });
     show(alloc, handle, seat, cmd, out, length, answer)
 }
 
@@ -114,47 +124,6 @@ pub extern "C" fn ripsawbean_poll_within(
     show(alloc, handle, seat, cmd, out, length, answer)
 }
 
-/// The command of a scan, or why there is none.
-fn scan(
-    alloc: Global,
-    ts: u64,
-    low: &[u8],
-    high: &[u8],
-    has_high: u8,
-    rows: u64,
-    bytes: u64,
-) -> Result<Bounded, Unfit>
-    ensures { IsOf (span_fault low.now has_high high.now) (Unit {0}) (Scan ts (span_of low.now has_high high.now) rows bytes) result }
-{
-    let span = span_of(alloc, low, has_high, high)?;
-    Ok(Bounded::Scan {
-        ts,
-        span,
-        rows,
-        bytes,
-    })
-}
-
-fn scan_at(
-    alloc: Global,
-    t: u64,
-    low: &[u8],
-    high: &[u8],
-    has_high: u8,
-    rows: u64,
-    bytes: u64,
-) -> Result<Bounded, Unfit>
-    ensures { IsOf (span_fault low.now has_high high.now) (Unit {0}) (ScanAt t (span_of low.now has_high high.now) rows bytes) result }
-{
-    let span = span_of(alloc, low, has_high, high)?;
-    Ok(Bounded::ScanAt {
-        t,
-        span,
-        rows,
-        bytes,
-    })
-}
-
 /// The span from the low bytes to the high ones. A fault is told before memory is asked for.
 fn span_of(alloc: Global, low: &[u8], has_high: u8, high: &[u8]) -> Result<Span, Unfit>
     ensures { IsOf (span_fault low.now has_high high.now) (Unit {0}) (span_of low.now has_high high.now) result }
@@ -162,12 +131,8 @@ fn span_of(alloc: Global, low: &[u8], has_high: u8, high: &[u8]) -> Result<Span,
     if has_fault(low, has_high, high) {
         return Err(Unfit::KeyLength);
     }
-    let Ok(lo) = low_of(alloc, low) else {
-        return Err(Unfit::NoMemory);
-    };
-    let Ok(hi) = high_of(alloc, has_high, high) else {
-        return Err(Unfit::NoMemory);
-    };
+    let lo = bound_of(alloc, low)?;
+    let hi = bound_of(alloc, if has_high == 0 { &[] } else { high })?;
     Ok(Span { lo, hi })
 }
 
@@ -175,28 +140,21 @@ fn span_of(alloc: Global, low: &[u8], has_high: u8, high: &[u8]) -> Result<Span,
 fn has_fault(low: &[u8], has_high: u8, high: &[u8]) -> bool
     ensures { span_fault low.now has_high high.now ≡ (if result then Some 4 else None) }
 {
-    if low.len() > MAX_BOUND_BYTES {
-        return true;
-    }
-    has_high != 0 && (high.is_empty() || high.len() > MAX_BOUND_BYTES)
+    low.len() > MAX_BOUND_BYTES
+        || has_high != 0 && (high.is_empty() || high.len() > MAX_BOUND_BYTES)
 }
 
-fn low_of(alloc: Global, low: &[u8]) -> Result<Option<Bound>, BoundError>
-    ensures { IfOk result (λ bound. bound ≡ low_of low.now) }
+/// The bound of bytes, of which there are not too many; none of no bytes.
+fn bound_of(alloc: Global, bytes: &[u8]) -> Result<Option<Bound>, Unfit>
+    ensures ok { IfOk result (λ bound. bound ≡ low_of bytes.now) }
+    ensures err { IfErr result (λ unfit. number_of unfit ≡ 12) }
 {
-    if low.is_empty() {
+    if bytes.is_empty() {
         return Ok(None);
     }
-    Ok(Some(Bound::new(alloc, low)?))
-}
-
-fn high_of(alloc: Global, has_high: u8, high: &[u8]) -> Result<Option<Bound>, BoundError>
-    ensures { IfOk result (λ bound. bound ≡ high_of has_high high.now) }
-{
-    if has_high == 0 {
-        return Ok(None);
-    }
-    Ok(Some(Bound::new(alloc, high)?))
+    Bound::new(alloc, bytes)
+        .map(Some)
+        .map_err(|_| Unfit::NoMemory)
 }
 
 /// The call of a command on a handle's database, or why there is none, by its number; and the bytes of its answer.
@@ -215,34 +173,10 @@ fn show(
 {
     *length = 0;
     *answer = no_answer();
-    match handle.take(alloc) {
-        None => CLOSED,
-        Some(mut database) => {
-            let number = call_shown(&mut database, seat, cmd, out, length, answer);
-            handle.put(database);
-            number
-        }
-    }
-}
-
-fn call_shown(
-    database: &mut Database,
-    seat: u8,
-    cmd: Result<Bounded, Unfit>,
-    out: &mut [u8],
-    length: &mut usize,
-    answer: &mut Answer,
-) -> u8
-    ensures made { BoundedOf seat cmd database.old result database.new }
-    ensures answer { Answered result (Some database.new) answer.new }
-    ensures bytes { ShownBytes result (Some database.new) out.old out.new length.new }
-{
-    let called = call(database, seat, cmd, answer);
-    if called != 0 {
-        *length = 0;
-        return called;
-    }
-    bytes(database, out, length)
+    with_open!(handle, alloc, database => match call(&mut database, seat, cmd, answer) {
+        0 => bytes(&database, out, length),
+        number => number,
+    })
 }
 
 /// The call of a command on a database, or why there is none, by its number.
@@ -256,7 +190,8 @@ fn call(database: &mut Database, seat: u8, cmd: Result<Bounded, Unfit>, answer: 
         return SESSION;
     }
     match cmd {
-        Err(unfit) => told(database, unfit),
+        Err(Unfit::NoMemory) if database.is_spent() => SPENT,
+        Err(unfit) => number(unfit),
         Ok(cmd) => match database.make_within(seat, cmd) {
             Err(BoundedError::NoMemory) => NO_MEMORY,
             Err(BoundedError::NoPosition) => SPENT,
@@ -265,22 +200,5 @@ fn call(database: &mut Database, seat: u8, cmd: Result<Bounded, Unfit>, answer: 
                 0
             }
         },
-    }
-}
-
-/// The status of parts that make no command.
-fn told(database: &Database, unfit: Unfit) -> u8
-    ensures told { IsUnfit unfit database.now result }
-    ensures unmade { is_made result ≡ false }
-{
-    match unfit {
-        Unfit::NoMemory => {
-            if database.is_spent() {
-                SPENT
-            } else {
-                NO_MEMORY
-            }
-        }
-        _ => number(unfit),
     }
 }

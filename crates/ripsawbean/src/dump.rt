@@ -5,11 +5,11 @@ ghost use Rattle.embedded.specs.declared.dumping.DumpPiece.{DumpPiece};
 ghost use Rattle.ripsawbean.specs.Dumps.{HasKeyRoom, IsShownOrNot, IsTold, IsToldPiece, ToldDump, dump_fault, in_front, key_bytes, key_of, next_key, place_record};
 
 use crate::handle::Handle;
-use crate::{CLOSED, KEY_LENGTH, NO_MEMORY, NUMBER, UNWRITTEN};
+use crate::{KEY_LENGTH, NO_MEMORY, NUMBER, UNWRITTEN};
 use embedded::{Database, DumpPiece, DumpPlace};
 use json_lines::buffer::copy_front;
-use std::alloc::{AllocError, Global};
-use timestamps::key::{Key, MAX_KEY_BYTES};
+use std::alloc::Global;
+use timestamps::key::{Key, KeyError, MAX_KEY_BYTES};
 use timestamps::ts::MAX;
 
 /// A place in a dump. A dump begins at a place that is all 0.
@@ -47,14 +47,7 @@ pub extern "C" fn ripsawbean_dump(
     ensures dump { ToldDump handle.old.database at through place.old place.new key.old key.new out.old out.new result length.new }
 {
     *length = 0;
-    match handle.take(alloc) {
-        None => CLOSED,
-        Some(database) => {
-            let number = dump(alloc, &database, at, through, place, key, out, length);
-            handle.put(database);
-            number
-        }
-    }
+    with_open!(handle, alloc, database => dump(alloc, &database, at, through, place, key, out, length))
 }
 
 /// A piece, with the number that tells of it.
@@ -110,17 +103,15 @@ fn dump_at(
 }
 
 /// The place behind the row of a key, or without a byte behind all rows of the timestamp.
-fn place_at(alloc: Global, ts: u64, key: &[u8]) -> Result<DumpPlace, AllocError>
+fn place_at(alloc: Global, ts: u64, key: &[u8]) -> Result<DumpPlace, KeyError>
     requires { length key.now ≤ 256 }
     ensures { IfOk result (λ place. place ≡ record { ts = ts; key = key_of key.now }) }
 {
     if key.is_empty() {
         return Ok(DumpPlace { ts, key: None });
     }
-    match Key::new(alloc, key) {
-        Ok(key) => Ok(DumpPlace { ts, key: Some(key) }),
-        Err(_) => Err(AllocError),
-    }
+    let key = Some(Key::new(alloc, key)?);
+    Ok(DumpPlace { ts, key })
 }
 
 /// Shows a piece where there is room for all of it, and tells how many bytes it has.
@@ -149,22 +140,15 @@ fn put_place(next: &Option<DumpPlace>, place: &mut DumpPlaceRecord, key: &mut [u
     ensures place { place.new ≡ place_record next.now }
     ensures key { key.new ≡ in_front (next_key next.now) key.old }
 {
-    match next {
-        None => {
-            *place = DumpPlaceRecord {
-                timestamp: 0,
-                key: 0,
-                ended: 1,
-            };
-        }
-        Some(next) => {
-            *place = DumpPlaceRecord {
-                timestamp: next.ts,
-                key: put_key(&next.key, key),
-                ended: 0,
-            };
-        }
-    }
+    let (timestamp, key, ended) = match next {
+        None => (0, 0, 1),
+        Some(next) => (next.ts, put_key(&next.key, key), 0),
+    };
+    *place = DumpPlaceRecord {
+        timestamp,
+        key,
+        ended,
+    };
 }
 
 /// Writes a key to the front, where there is one, and tells how many bytes it has.

@@ -1,5 +1,3 @@
-//! What a program holds of its database.
-
 ghost use Rattle.std.specs.Prelude.{◌≡◌, Option, Some, None, is_some, option_map};
 ghost use Rattle.std.specs.Coded.{coded_option};
 ghost use Rattle.embedded.specs.declared.database.Database.{Database};
@@ -33,13 +31,11 @@ impl Handle {
     pub(crate) fn is_open(&mut self, alloc: Global) -> bool
         ensures { (result ≡ is_some self.old.database) × (self.new.database ≡ self.old.database) }
     {
-        match self.take(alloc) {
-            None => false,
-            Some(database) => {
-                self.put(database);
-                true
-            }
-        }
+        let Some(database) = self.take(alloc) else {
+            return false;
+        };
+        self.put(database);
+        true
     }
 
     /// The database, after which the handle is closed.

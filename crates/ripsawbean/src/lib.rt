@@ -4,8 +4,8 @@
 //! `ripsawbean_close` frees that again. A call takes the line of a command, and shows the text of its event: all of it
 //! or its beginning, and its whole length. `ripsawbean_calls`, in `several`, makes the calls of several lines at once, and
 //! the calls in `typed` have a command's parts as arguments, in place of a line, as do those in `bounded`, whose answers
-//! are to find room. `versions`, `places`, `held` and `dump` tell what is asked without a call. The wrappers in `embed` call
-//! all of them, and any program that can call C. A handle of another kind owns the replica of a feed's span: its functions stand in
+//! are to find room. `looks` and `dump` tell what is asked without a call. The wrappers in `embed` call all of them, and
+//! any program that can call C. A handle of another kind owns the replica of a feed's span: its functions stand in
 //! `replicas`.
 //!
 //! 1. A handle that is open owns one database and the right to free it; a closed one owns nothing.
@@ -24,25 +24,6 @@
 //! ripsawbean_close                                                               none: it is closed
 //! ripsawbean_call   "0 begin 20\n"   room 64  16       0        (as before)      none
 //! ```
-//!
-//! | Number | What it says | By |
-//! |---|---|---|
-//! | 0 | done | open, call, calls, text, last, state, versions_at, places, held_by, dump |
-//! | 1 to 9 | the line's fault by its code; no call was made | call, a note of calls |
-//! | 12 | no memory for the line's key, value or span, or for the database; nothing was done | call, open |
-//! | 13 | no position is left; no call was made | call |
-//! | 12, 13 | the same of the next line; what was taken stands | calls |
-//! | 4, 12 | the next key is none, or ran out of memory; what was told stands | versions_at |
-//! | 3, 4 | a number is no timestamp, or a key has no room or is none; nothing is shown | dump |
-//! | 12 | no memory to find what is held, or for the piece; nothing is shown | held_by, dump |
-//! | 14 | no room for the next lines; nothing is shown | dump |
-//! | 14 | no memory for the text; the event stands, and `ripsawbean_text` tries again | call, text, state |
-//! | 14 | no room or no memory for the last text; the event stands, and `ripsawbean_text` shows it | calls and its note |
-//! | 15 | the ring is out of range; nothing was done | open |
-//! | 16 | the handle is closed; nothing was done | all but open, close and version |
-//! | 17 | the handle is open already; nothing was done | open |
-//! | 24 | the timestamp is below the horizon; nothing is told | versions_at |
-//! | 25 | the line's answer would be too long; no call was made | a note of calls |
 //!
 //! A program owes pointers that aren't null, also to no bytes, and slices that don't overlap. Its handle is all zero
 //! bytes or was left by these functions, isn't copied while it is open, and is used by one call at a time.
@@ -75,21 +56,31 @@ ghost use Rattle.word_lines.specs.Table.{table};
 ghost use Rattle.embedded.specs.declared.database.CallError.TheVariants.{NoMemory};
 ghost use Rattle.ripsawbean.specs.Exports.{refusal_of, Opened, Numbered, Called, Asked, Rewritten, Told, ToldOf, number_of};
 
+/// The number that is made of what an open handle keeps, which is put back behind it; a closed one tells that it is closed.
+macro_rules! with_open {
+    ($handle:ident, $alloc:ident, $kept:ident => $number:expr) => {
+        match $handle.take($alloc) {
+            None => $crate::CLOSED,
+            Some(mut $kept) => {
+                let number = $number;
+                $handle.put($kept);
+                number
+            }
+        }
+    };
+}
+
 mod beginning;
 mod bounded;
 mod dump;
 mod handle;
-mod held;
-mod last;
+mod looks;
 mod loose;
-mod places;
 mod replica_handle;
 mod replicas;
 mod several;
-mod state;
 mod typed;
 mod version;
-mod versions;
 
 use crate::handle::Handle;
 use embedded::{CallError, Database};
@@ -132,13 +123,11 @@ pub extern "C" fn ripsawbean_open(alloc: Global, handle: &mut Handle, ring: u32)
     if handle.is_open(alloc) {
         return OPEN;
     }
-    match Box::new(alloc, Database::new(alloc, ring)) {
-        Ok(database) => {
-            handle.put(database);
-            0
-        }
-        Err(_) => NO_MEMORY,
-    }
+    let Ok(database) = Box::new(alloc, Database::new(alloc, ring)) else {
+        return NO_MEMORY;
+    };
+    handle.put(database);
+    0
 }
 
 /// Makes the call of a line, with its newline, and shows the text of its event.
@@ -160,14 +149,7 @@ pub extern "C" fn ripsawbean_call(
     ensures text { Told result handle.old.database handle.new.database out.old out.new length.new }
 {
     *length = 0;
-    match handle.take(alloc) {
-        None => CLOSED,
-        Some(mut database) => {
-            let number = call(&mut database, line, out, length);
-            handle.put(database);
-            number
-        }
-    }
+    with_open!(handle, alloc, database => call(&mut database, line, out, length))
 }
 
 /// Shows the text of the last event again, as often as it is asked for; no call is made.
@@ -186,14 +168,7 @@ pub extern "C" fn ripsawbean_text(
     ensures text { Told result handle.old.database handle.new.database out.old out.new length.new }
 {
     *length = 0;
-    match handle.take(alloc) {
-        None => CLOSED,
-        Some(mut database) => {
-            let number = text(&mut database, out, length);
-            handle.put(database);
-            number
-        }
-    }
+    with_open!(handle, alloc, database => text(&mut database, out, length))
 }
 
 /// Frees the database of a handle, which is closed afterwards; a closed one stays closed.

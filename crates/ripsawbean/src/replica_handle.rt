@@ -1,5 +1,3 @@
-//! What a program holds of its consumer.
-
 ghost use Rattle.std.specs.Prelude.{◌≡◌, Option, Some, None, is_some, option_map};
 ghost use Rattle.std.specs.Coded.{coded_option};
 ghost use Rattle.embedded_replica.specs.declared.consumer.Consumer.{Consumer};
@@ -33,13 +31,11 @@ impl ReplicaHandle {
     pub(crate) fn is_open(&mut self, alloc: Global) -> bool
         ensures { (result ≡ is_some self.old.consumer) × (self.new.consumer ≡ self.old.consumer) }
     {
-        match self.take(alloc) {
-            None => false,
-            Some(consumer) => {
-                self.put(consumer);
-                true
-            }
-        }
+        let Some(consumer) = self.take(alloc) else {
+            return false;
+        };
+        self.put(consumer);
+        true
     }
 
     /// The consumer, after which the handle is closed.

@@ -14,30 +14,14 @@
 //! ripsawbean_replica_complete                                                0        through 9, at none
 //! ripsawbean_replica_rows                                                    0        row a 1
 //! ```
-//!
-//! | Number | What it says | By |
-//! |---|---|---|
-//! | 0 | done | all |
-//! | 1 to 9 | the line's fault by its code; nothing was done | open, begin |
-//! | 4 | the bytes are too few or too many for a key | get |
-//! | 12 | no memory; nothing was done | all but complete |
-//! | 16 | the handle is closed; nothing was done | all but open and begin |
-//! | 17 | the handle is open; nothing was done | open, begin |
-//! | 18 | the line is no message's; nothing was done | take, ready |
-//! | 18 | the text isn't lines of rows; nothing was done | begin |
-//! | 19, 20, 21 | its row comes too early, lies outside the span, its timestamp too early; nothing was done | take |
-//! | 19, 20 | the keys don't rise, or one lies outside the span; nothing was done | begin |
-//! | 22 | the line's command opens no feed, or opens it above the greatest timestamp | open |
-//! | 22 | the same, or the feed is an initial one | begin |
-//! | 23 | the key has no value | get |
 
 ghost use Rattle.std.specs.Prelude.{◌≡◌, None};
 ghost use Rattle.embedded_replica.specs.Consumers.{IsUnopened};
 ghost use Rattle.embedded_replica.specs.declared.consumer.BeginError.TheVariants.{NoMemory};
-ghost use Rattle.ripsawbean.specs.ReplicaExports.{Opened, Taken, TakenBy, Told, NoTime, Hidden, ReadyBy, CompleteBy, GotBy, RowsBy, number_or_none, open_number, line_number, message_number, take_number, key_number};
+ghost use Rattle.ripsawbean.specs.ReplicaExports.{Opened, Taken, Told, NoTime, Hidden, ReadyBy, CompleteBy, GotBy, RowsBy, number_or_none, open_number, line_number, take_number};
 
 use crate::replica_handle::ReplicaHandle;
-use crate::{CLOSED, KEY_LENGTH, NO_MEMORY, OPEN};
+use crate::{KEY_LENGTH, NO_MEMORY, OPEN};
 use embedded_replica::{BeginError, Consumer, TakeError};
 use json_lines::MessageFault;
 use replica::Fault;
@@ -80,13 +64,11 @@ pub extern "C" fn ripsawbean_replica_open(
         Ok(consumer) => consumer,
         Err(error) => return open_number(error),
     };
-    match Box::new(alloc, consumer) {
-        Ok(consumer) => {
-            handle.put(consumer);
-            0
-        }
-        Err(_) => NO_MEMORY,
-    }
+    let Ok(consumer) = Box::new(alloc, consumer) else {
+        return NO_MEMORY;
+    };
+    handle.put(consumer);
+    0
 }
 
 /// Takes the line of a message, with its newline.
@@ -102,14 +84,10 @@ pub extern "C" fn ripsawbean_replica_take(
 ) -> u8
     ensures { Taken line.now handle.old.consumer result handle.new.consumer }
 {
-    match handle.take(alloc) {
-        None => CLOSED,
-        Some(mut consumer) => {
-            let number = take(&mut consumer, line);
-            handle.put(consumer);
-            number
-        }
-    }
+    with_open!(handle, alloc, consumer => match consumer.take(line) {
+        Ok(()) => 0,
+        Err(error) => take_number(error),
+    })
 }
 
 /// Tells at which timestamp the rows are the map as they stand, where the line's message shows it, which is to be taken
@@ -128,14 +106,13 @@ pub extern "C" fn ripsawbean_replica_ready(
     ensures none { NoTime result at.new }
 {
     *at = NONE;
-    match handle.take(alloc) {
-        None => CLOSED,
-        Some(consumer) => {
-            let number = ready(&consumer, line, at);
-            handle.put(consumer);
-            number
+    with_open!(handle, alloc, consumer => match consumer.ready(line) {
+        Ok(time) => {
+            *at = number_or_none(time);
+            0
         }
-    }
+        Err(fault) => line_number(fault),
+    })
 }
 
 /// Tells through which timestamp it was told all; and at which its rows are the map, after a resolved message, and of a
@@ -156,15 +133,11 @@ pub extern "C" fn ripsawbean_replica_complete(
 {
     *through = NONE;
     *at = NONE;
-    match handle.take(alloc) {
-        None => CLOSED,
-        Some(consumer) => {
-            *through = number_or_none(consumer.complete_through());
-            *at = number_or_none(consumer.at_resolved());
-            handle.put(consumer);
-            0
-        }
-    }
+    with_open!(handle, alloc, consumer => {
+        *through = number_or_none(consumer.complete_through());
+        *at = number_or_none(consumer.at_resolved());
+        0
+    })
 }
 
 /// Shows the value of a key.
@@ -184,14 +157,15 @@ pub extern "C" fn ripsawbean_replica_get(
     ensures hidden { Hidden result out.old out.new length.new }
 {
     *length = 0;
-    match handle.take(alloc) {
-        None => CLOSED,
-        Some(consumer) => {
-            let number = get(&consumer, key, out, length);
-            handle.put(consumer);
-            number
+    with_open!(handle, alloc, consumer => match consumer.get(key, out) {
+        Ok(Some(whole)) => {
+            *length = whole;
+            0
         }
-    }
+        Ok(None) => NO_VALUE,
+        Err(KeyError::KeyLength) => KEY_LENGTH,
+        Err(KeyError::NoMemory) => NO_MEMORY,
+    })
 }
 
 /// Shows the lines of all rows, keys rising: `row KEY VALUE`, spelled as in a scan's text.
@@ -209,14 +183,13 @@ pub extern "C" fn ripsawbean_replica_rows(
     ensures hidden { Hidden result out.old out.new length.new }
 {
     *length = 0;
-    match handle.take(alloc) {
-        None => CLOSED,
-        Some(consumer) => {
-            let number = rows(&consumer, out, length);
-            handle.put(consumer);
-            number
+    with_open!(handle, alloc, consumer => match consumer.rows(out) {
+        Ok(whole) => {
+            *length = whole;
+            0
         }
-    }
+        Err(_) => NO_MEMORY,
+    })
 }
 
 /// Frees the replica of a handle, which is closed afterwards; a closed one stays closed.
@@ -226,62 +199,6 @@ pub extern "C" fn ripsawbean_replica_close(alloc: Global, handle: &mut ReplicaHa
 {
     if let Some(consumer) = handle.take(alloc) {
         consumer.drop();
-    }
-}
-
-/// A line that is taken, with the number that tells of it.
-fn take(consumer: &mut Consumer, line: &[u8]) -> u8
-    ensures { TakenBy line.now consumer.old result consumer.new }
-{
-    match consumer.take(line) {
-        Ok(()) => 0,
-        Err(error) => take_number(error),
-    }
-}
-
-/// Writes the timestamp at which a line shows that the rows are the map, and tells the status.
-fn ready(consumer: &Consumer, line: &[u8], at: &mut u64) -> u8
-    ensures ready { ReadyBy line.now at.new consumer.now result }
-    ensures none { NoTime result at.new }
-{
-    *at = NONE;
-    match consumer.ready(line) {
-        Ok(time) => {
-            *at = number_or_none(time);
-            0
-        }
-        Err(fault) => line_number(fault),
-    }
-}
-
-/// The value of a key, with the number that tells of it.
-fn get(consumer: &Consumer, key: &[u8], out: &mut [u8], length: &mut usize) -> u8
-    ensures got { GotBy key.now out.old out.new length.new consumer.now result }
-    ensures hidden { Hidden result out.old out.new length.new }
-{
-    *length = 0;
-    match consumer.get(key, out) {
-        Ok(Some(whole)) => {
-            *length = whole;
-            0
-        }
-        Ok(None) => NO_VALUE,
-        Err(error) => key_number(error),
-    }
-}
-
-/// The lines of all rows, with the number that tells of them.
-fn rows(consumer: &Consumer, out: &mut [u8], length: &mut usize) -> u8
-    ensures rows { RowsBy out.old out.new length.new consumer.now result }
-    ensures hidden { Hidden result out.old out.new length.new }
-{
-    *length = 0;
-    match consumer.rows(out) {
-        Ok(whole) => {
-            *length = whole;
-            0
-        }
-        Err(_) => NO_MEMORY,
     }
 }
 
@@ -308,7 +225,10 @@ fn take_number(error: TakeError) -> u8
 {
     match error {
         TakeError::Line(fault) => line_number(fault),
-        TakeError::Message(fault) => message_number(fault),
+        TakeError::Message(Fault::NotAfter) => NOT_AFTER,
+        TakeError::Message(Fault::OutsideSpan) => OUTSIDE_SPAN,
+        TakeError::Message(Fault::ResolvedBack) => RESOLVED_BACK,
+        TakeError::Message(Fault::NoMemory) => NO_MEMORY,
     }
 }
 
@@ -317,30 +237,6 @@ fn line_number(fault: MessageFault) -> u8
 {
     match fault {
         MessageFault::NoMemory => NO_MEMORY,
-        MessageFault::NotJson
-        | MessageFault::Shape
-        | MessageFault::Number
-        | MessageFault::Base64
-        | MessageFault::Length => NO_MESSAGE,
-    }
-}
-
-fn message_number(fault: Fault) -> u8
-    ensures { result ≡ message_number fault }
-{
-    match fault {
-        Fault::NotAfter => NOT_AFTER,
-        Fault::OutsideSpan => OUTSIDE_SPAN,
-        Fault::ResolvedBack => RESOLVED_BACK,
-        Fault::NoMemory => NO_MEMORY,
-    }
-}
-
-fn key_number(error: KeyError) -> u8
-    ensures { result ≡ key_number error }
-{
-    match error {
-        KeyError::KeyLength => KEY_LENGTH,
-        KeyError::NoMemory => NO_MEMORY,
+        _ => NO_MESSAGE,
     }
 }

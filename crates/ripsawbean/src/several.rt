@@ -4,7 +4,7 @@ ghost use Rattle.std.specs.Prelude.{Some};
 ghost use Rattle.ripsawbean.specs.SeveralExports.{Called};
 
 use crate::handle::Handle;
-use crate::{CLOSED, number};
+use crate::number;
 use embedded::{Database, Done, Taken};
 use std::alloc::Global;
 
@@ -13,11 +13,11 @@ use std::alloc::Global;
 /// were taken, how many bytes they have, and how many bytes of texts stand in `out`.
 ///
 /// A faulty line ends nothing: its note has its fault's code. Nor does a scan or a poll whose answer would have more than
-/// `most` bytes of rows or messages, where `most` isn't the greatest number: it makes no call, and its note has 25. 0: all lines were taken, or `notes` is full. At any other
-/// number what was taken stands, and no line behind the next one was looked at. 14: the last line's call was made, and
-/// its text found no room or no memory; `ripsawbean_text` shows it. 12: it is out of
-/// memory at the next line. 13: there is no position for it.
-/// 16: the handle is closed.
+/// `most` bytes of rows or messages, where `most` isn't the greatest number: it makes no call, and its note has 25.
+///
+/// 0: all lines were taken, or `notes` is full. At any other number what was taken stands, and no line behind the next one
+/// was looked at. 14: the last line's call was made, and its text found no room or no memory; `ripsawbean_text` shows it.
+/// 12: it is out of memory at the next line. 13: there is no position for it. 16: the handle is closed.
 #[unsafe(no_mangle)]
 pub extern "C" fn ripsawbean_calls(
     alloc: Global,
@@ -35,14 +35,7 @@ pub extern "C" fn ripsawbean_calls(
         bytes: 0,
         length: 0,
     };
-    match handle.take(alloc) {
-        None => CLOSED,
-        Some(mut database) => {
-            let number = calls(&mut database, lines, out, notes, most, taken);
-            handle.put(database);
-            number
-        }
-    }
+    with_open!(handle, alloc, database => calls(&mut database, lines, out, notes, most, taken))
 }
 
 /// The lines' calls, with the number that tells why they end.

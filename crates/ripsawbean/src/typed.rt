@@ -29,7 +29,7 @@ ghost use Rattle.ripsawbean.specs.TypedExports.{◌or◌, key_fault, value_fault
 ghost use Rattle.ripsawbean.specs.TypedParts.{IsOf, MadeOf, ShownOf, number_of};
 
 use crate::handle::Handle;
-use crate::{CLOSED, KEY_LENGTH, NO_MEMORY, SESSION, SPENT, UNWRITTEN, VALUE_LENGTH};
+use crate::{KEY_LENGTH, NO_MEMORY, SESSION, SPENT, UNWRITTEN, VALUE_LENGTH};
 use embedded::{Answer, Database, NoPosition};
 use spans::calls::Cmd;
 use std::alloc::Global;
@@ -77,7 +77,7 @@ pub extern "C" fn ripsawbean_get(
     ensures answer { Answered result handle.new.database answer.new }
     ensures value { ShownBytes result handle.new.database out.old out.new length.new }
 {
-    let cmd = get(alloc, timestamp, key);
+    let cmd = key_of(alloc, key).map(|key| Cmd::Get { ts: timestamp, key });
     show(alloc, handle, seat, cmd, out, length, answer)
 }
 
@@ -112,7 +112,7 @@ pub extern "C" fn ripsawbean_delete(
     ensures made { MadeAtKey seat key.now (Del timestamp key.now) handle.old.database result handle.new.database }
     ensures answer { Answered result handle.new.database answer.new }
 {
-    let cmd = delete(alloc, timestamp, key);
+    let cmd = key_of(alloc, key).map(|key| Cmd::Del { ts: timestamp, key });
     make(alloc, handle, seat, cmd, answer)
 }
 
@@ -180,7 +180,7 @@ pub extern "C" fn ripsawbean_read_at(
     ensures answer { Answered result handle.new.database answer.new }
     ensures value { ShownBytes result handle.new.database out.old out.new length.new }
 {
-    let cmd = read_at(alloc, timestamp, key);
+    let cmd = key_of(alloc, key).map(|key| Cmd::ReadAt { t: timestamp, key });
     show(alloc, handle, seat, cmd, out, length, answer)
 }
 
@@ -221,60 +221,20 @@ pub extern "C" fn ripsawbean_bytes(
     ensures bytes { ShownBytes result handle.old.database out.old out.new length.new }
 {
     *length = 0;
-    match handle.take(alloc) {
-        None => CLOSED,
-        Some(database) => {
-            let number = bytes(&database, out, length);
-            handle.put(database);
-            number
-        }
-    }
+    with_open!(handle, alloc, database => bytes(&database, out, length))
 }
 
-/// The command of a get, or why there is none.
-fn get(alloc: Global, timestamp: u64, key: &[u8]) -> Result<Cmd, Unfit>
-    ensures { IsOf (key_fault key.now) (IsLong key.now) (Get timestamp key.now) result }
+/// The command of a put, or why there is none.
+fn put(alloc: Global, ts: u64, key: &[u8], value: &[u8]) -> Result<Cmd, Unfit>
+    ensures { IsOf (key_fault key.now or value_fault value.now) (IsLong key.now ⊎ IsLong value.now) (Put ts key.now value.now) result }
 {
-    let key = key_of(alloc, key)?;
-    Ok(Cmd::Get { ts: timestamp, key })
-}
-
-fn put(alloc: Global, timestamp: u64, key: &[u8], value: &[u8]) -> Result<Cmd, Unfit>
-    ensures { IsOf (key_fault key.now or value_fault value.now) (IsLong key.now ⊎ IsLong value.now) (Put timestamp key.now value.now) result }
-{
-    match Key::new(alloc, key) {
-        Err(KeyError::KeyLength) => Err(Unfit::KeyLength),
+    let key = match key_of(alloc, key) {
         // a fault is told before memory is asked for
-        Err(KeyError::NoMemory) => {
-            if value.len() > MAX_VALUE_BYTES {
-                Err(Unfit::ValueLength)
-            } else {
-                Err(Unfit::NoMemory)
-            }
-        }
-        Ok(key) => {
-            let value = value_of(alloc, value)?;
-            Ok(Cmd::Put {
-                ts: timestamp,
-                key,
-                value,
-            })
-        }
-    }
-}
-
-fn delete(alloc: Global, timestamp: u64, key: &[u8]) -> Result<Cmd, Unfit>
-    ensures { IsOf (key_fault key.now) (IsLong key.now) (Del timestamp key.now) result }
-{
-    let key = key_of(alloc, key)?;
-    Ok(Cmd::Del { ts: timestamp, key })
-}
-
-fn read_at(alloc: Global, timestamp: u64, key: &[u8]) -> Result<Cmd, Unfit>
-    ensures { IsOf (key_fault key.now) (IsLong key.now) (ReadAt timestamp key.now) result }
-{
-    let key = key_of(alloc, key)?;
-    Ok(Cmd::ReadAt { t: timestamp, key })
+        Err(Unfit::NoMemory) if value.len() > MAX_VALUE_BYTES => return Err(Unfit::ValueLength),
+        key => key?,
+    };
+    let value = value_of(alloc, value)?;
+    Ok(Cmd::Put { ts, key, value })
 }
 
 fn key_of(alloc: Global, bytes: &[u8]) -> Result<Key, Unfit>
@@ -309,14 +269,7 @@ fn make(
     ensures answer { Answered result handle.new.database answer.new }
 {
     *answer = no_answer();
-    match handle.take(alloc) {
-        None => CLOSED,
-        Some(mut database) => {
-            let number = call(&mut database, seat, cmd, answer);
-            handle.put(database);
-            number
-        }
-    }
+    with_open!(handle, alloc, database => call(&mut database, seat, cmd, answer))
 }
 
 /// The same, and the bytes of its answer.
@@ -336,14 +289,10 @@ fn show(
 {
     *length = 0;
     *answer = no_answer();
-    match handle.take(alloc) {
-        None => CLOSED,
-        Some(mut database) => {
-            let number = call_shown(&mut database, seat, cmd, out, length, answer);
-            handle.put(database);
-            number
-        }
-    }
+    with_open!(handle, alloc, database => match call(&mut database, seat, cmd, answer) {
+        0 => bytes(&database, out, length),
+        number => number,
+    })
 }
 
 /// The call of a command on a database, or why there is none, by its number.
@@ -366,27 +315,6 @@ fn call(database: &mut Database, seat: u8, cmd: Result<Cmd, Unfit>, answer: &mut
             }
         },
     }
-}
-
-fn call_shown(
-    database: &mut Database,
-    seat: u8,
-    cmd: Result<Cmd, Unfit>,
-    out: &mut [u8],
-    length: &mut usize,
-    answer: &mut Answer,
-) -> u8
-    ensures made { ShownOf seat cmd database.old result database.new }
-    ensures reads { result ≡ 14 → IfOk cmd (λ c. is_read c ≡ false) }
-    ensures answer { Answered result (Some database.new) answer.new }
-    ensures bytes { ShownBytes result (Some database.new) out.old out.new length.new }
-{
-    let number = call(database, seat, cmd, answer);
-    if number != 0 {
-        *length = 0;
-        return number;
-    }
-    bytes(database, out, length)
 }
 
 /// The bytes of the last event's answer, with the number that tells of them.

@@ -12,10 +12,10 @@ stays_closed : (line rows : List ℕ) (old new : Option Consumer) → is_some ol
 stays_closed line rows None new closed same wants = (same, NoMemory, wants, refl)
 stays_closed line rows (Some d) new closed same wants = absurd cc
 
-pub returns-clause-begun : goal.returns-clause-begun
-returns-clause-begun c =
+pub returns-in_default-clause-begun : goal.returns-in_default-clause-begun
+returns-in_default-clause-begun c =
     stays_closed c.args.line.now c.args.rows.now c.args.handle.now.consumer c.is_open.new.self.consumer (sym c.is_open.ensures.0 ∙ c.if-is_open.false) c.is_open.ensures.1
     (begins_wants c.args.line.now c.args.rows.now (replica_of c.in-Ok.consumer) c.in-Ok.ensures.ok)
 
-pub returns-clause-memory : goal.returns-clause-memory
-returns-clause-memory c = λ is. begins_wants c.args.line.now c.args.rows.now (replica_of c.in-Ok.consumer) c.in-Ok.ensures.ok
+pub returns-in_default-clause-memory : goal.returns-in_default-clause-memory
+returns-in_default-clause-memory c = λ is. begins_wants c.args.line.now c.args.rows.now (replica_of c.in-Ok.consumer) c.in-Ok.ensures.ok

@@ -11,10 +11,10 @@ stays_closed : (line : List ℕ) (old new : Option Consumer) → is_some old ≡
 stays_closed line None new closed same wants = (same, NoMemory, wants, refl)
 stays_closed line (Some d) new closed same wants = absurd cc
 
-pub returns-clause-opened : goal.returns-clause-opened
-returns-clause-opened c =
+pub returns-in_default-clause-opened : goal.returns-in_default-clause-opened
+returns-in_default-clause-opened c =
     stays_closed c.args.line.now c.args.handle.now.consumer c.is_open.new.self.consumer (sym c.is_open.ensures.0 ∙ c.if-is_open.false) c.is_open.ensures.1
     (begins_wants c.args.line.now (replica_of c.in-Ok.consumer) c.in-Ok.ensures.ok)
 
-pub returns-clause-memory : goal.returns-clause-memory
-returns-clause-memory c = λ is. begins_wants c.args.line.now (replica_of c.in-Ok.consumer) c.in-Ok.ensures.ok
+pub returns-in_default-clause-memory : goal.returns-in_default-clause-memory
+returns-in_default-clause-memory c = λ is. begins_wants c.args.line.now (replica_of c.in-Ok.consumer) c.in-Ok.ensures.ok

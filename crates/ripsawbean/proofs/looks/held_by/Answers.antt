@@ -1,6 +1,6 @@
 use Rattle.std.proofs.Common.{List, drop, length, subst, take, ◌++◌, ◌≡◌, ap, ◌∙◌}
 use Rattle.embedded.specs.declared.held.HeldRecord.{HeldRecord}
-use Rattle.ripsawbean.proofs.held.held_by.Goals as goal
+use Rattle.ripsawbean.proofs.looks.held_by.Goals as goal
 
 pub returns-in-Ok : goal.returns-in-Ok
 returns-in-Ok c h stands = (
