@@ -2,7 +2,7 @@
 
 ghost use Rattle.std.specs.Prelude.{◌≡◌, ◌≤◌, None, Some, IfOk, length, take};
 ghost use Rattle.embedded.specs.declared.dumping.DumpPiece.{DumpPiece};
-ghost use Rattle.ripsawbean.specs.Dumps.{HasKeyRoom, IsShownOrNot, IsTold, IsToldPiece, ToldDump, dump_fault, in_front, key_bytes, key_of, next_key, place_record};
+ghost use Rattle.ripsawbean.specs.Dumps.{HasKeyRoom, IsShownOrNot, IsTold, ToldDump, dump_fault, in_front, key_bytes, key_of, next_key, place_record};
 
 use crate::handle::Handle;
 use crate::{KEY_LENGTH, NO_MEMORY, NUMBER, UNWRITTEN};
@@ -73,26 +73,6 @@ fn dump(
     if place.ended != 0 {
         return 0;
     }
-    dump_at(alloc, database, at, through, place, key, out, length)
-}
-
-/// The same of a place where the dump hasn't ended.
-fn dump_at(
-    alloc: Global,
-    database: &Database,
-    at: u64,
-    through: u64,
-    place: &mut DumpPlaceRecord,
-    key: &mut [u8],
-    out: &mut [u8],
-    length: &mut usize,
-) -> u8
-    requires at { at ≤ MAX }
-    requires room { HasKeyRoom key.old }
-    requires key { place.old.key ≤ 256 }
-    requires none { length.old ≡ 0 }
-    ensures { IsToldPiece database.now at through place.old place.new key.old key.new out.old out.new result length.new }
-{
     let Ok(from) = place_at(alloc, place.timestamp, &key[..place.key]) else {
         return NO_MEMORY;
     };

@@ -76,11 +76,7 @@ impl Handle {
         ensures { (result.0 ≡ is_some self.database) × (result.1.value ≡ self.database) }
     {
         let Handle { at, is_open } = self;
-        (
-            is_open,
-            Loose {
-                at: at as *mut Database,
-            },
-        )
+        let at = at as *mut Database;
+        (is_open, Loose { at })
     }
 }

@@ -76,11 +76,7 @@ impl ReplicaHandle {
         ensures { (result.0 ≡ is_some self.consumer) × (result.1.value ≡ self.consumer) }
     {
         let ReplicaHandle { at, is_open } = self;
-        (
-            is_open,
-            Loose {
-                at: at as *mut Consumer,
-            },
-        )
+        let at = at as *mut Consumer;
+        (is_open, Loose { at })
     }
 }
