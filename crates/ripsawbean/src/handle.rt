@@ -47,6 +47,7 @@ impl Handle {
         if is_open {
             Some(loose.into_box(alloc))
         } else {
+            let Loose { at: _ } = loose;
             None
         }
     }

@@ -8,8 +8,7 @@ use std::alloc::Global;
 use std::marker::Model;
 use std::ptr::null_mut;
 
-/// A box of the program's heap as its bare pointer, which C can hold, or none.
-#[derive(Drop)]
+/// A box of the program's heap as its bare pointer, which C can hold, or none. Nothing drops it, so no box is lost.
 pub(crate) struct Loose<T> {
     pub(crate) at: *mut T,
     pub(crate) ghost value: { Option T } by { coded_option T.code },
