@@ -20,7 +20,7 @@ pub use Rattle.std.proofs.lemmas.Grind.{common_steps}
 pub use Rattle.std.proofs.lemmas.List.{append-nil, nil_from_length}
 pub use Rattle.std.specs.BTreeMap.{BTreeMap, is_at}
 pub use Rattle.std.specs.BTreeSet.{BTreeSet}
-pub use Rattle.std.specs.List.{AllByRecursion, list_any}
+pub use Rattle.std.specs.List.{AllByRecursion, list_all, list_any}
 pub use Rattle.std.specs.Map.{keys_of, lookup}
 pub use Rattle.std.specs.declared.cmp.Ordering.TheVariants.{Less}
 pub use Rattle.timestamps.specs.Bytes.{key_cmp}

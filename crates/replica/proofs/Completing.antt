@@ -1,6 +1,6 @@
 -- A replica of a feed is complete at each resolved timestamp.
 use Rattle.replica.proofs.Common.{AllAbove, AllTaken, AreRows, CompleteIsRight, ConsumerIsRight, Effect, Feed, FeedIsRight, Map, Message, all_above_floor, common_steps, complete_for, complete_is, feed_of, is_new, map_at, put, seed_of, seen_after, span_part, start_of, taken_after, told_to, view_of}
-use Rattle.std.proofs.Common.{◌≡◌, ℕ, ◌-◌, ◌<◌, Bool, true, false, cond, List, [], ◌∷◌, ◌++◌, Some, None, sym, ◌∙◌, ap, subst, arith}
+use Rattle.std.proofs.Common.{◌≡◌, ℕ, ◌-◌, ◌<◌, true, false, cond, List, [], ◌∷◌, ◌++◌, Some, sym, ◌∙◌, ap, subst, arith}
 use Rattle.std.specs.Prelude.{bytes_eq}
 use Rattle.spans.specs.declared.calls.messages.Message.TheVariants as messages
 use Rattle.replica.specs.declared.replica.Replica.{Replica}
@@ -24,10 +24,6 @@ view_seen p feed s r before starts follows x = follows.rows x ∙ view_like s.ro
 -- and it was told all through the same timestamp
 complete_seen : (p : List Effect) (feed : Feed) (s : Start) (r : Replica) (before : List Message) → IsStartOf p feed s → Follows r s before → through_in r ≡ complete_for feed before
 complete_seen p feed s r before starts follows = grind (arith, common_steps)
-
--- a seed that is complete at a timestamp is the map there
-seed_whole : (initial : Bool) (m part : Map) (cursor t : ℕ) (x : List ℕ) → cond initial None (Some cursor) ≡ Some t → (cursor ≡ t → part x ≡ m x) → cond initial (λ y. None) part x ≡ m x
-seed_whole initial m part cursor t x is same = grind (arith, common_steps)
 
 -- after a resolved message a replica is complete at its timestamp, if what the messages make of its first rows is the map there
 complete_at : (p : List Effect) (feed : Feed) (s : Start) (r : Replica) (before : List Message) (t : ℕ) → Follows r s (before ++ messages.Resolved t ∷ [])

@@ -1,5 +1,5 @@
 -- Rows and keys that rise, and what they say of a map.
-use Rattle.replica.proofs.Common.{AllByRecursion, IsIn, IsPairIn, KeysRise, Less, Span, by_test, common_steps, false_from_ne_true, in_span, is_at, key_clash, key_cmp, key_itself, keys_of, list_any, or_cases, or_left, or_right, same_key}
+use Rattle.replica.proofs.Common.{AllByRecursion, IsIn, IsPairIn, KeysRise, Less, Span, by_test, common_steps, false_from_ne_true, in_span, is_at, key_clash, key_cmp, key_itself, keys_of, list_all, list_any, or_cases, or_left, or_right, same_key}
 use Rattle.std.proofs.Common.{rules}
 use Rattle.std.proofs.Common.{◌≡◌, ℕ, zero, suc, ◌+◌, ◌<◌, true, List, [], ◌∷◌, length, get_or, Some, refl, inl, inr, arith}
 use Rattle.std.specs.Prelude.{◌↔◌}
@@ -49,12 +49,8 @@ keys_at [] i d = refl
 keys_at (e ∷ es) zero d = refl
 keys_at (e ∷ es) (suc i) d = keys_at es i d
 
--- what holds of each row by its place holds of each pair
-pub inside_all : (s : Span) (es : Pairs) → ((k : ℕ) (d : List ℕ × List ℕ) → k < length es → in_span s (get_or es k d).0 ≡ true) → AreInside s es
-inside_all s [] all x v i = absurd i
-inside_all s (e ∷ es) all x v i = grind (arith, common_steps, all zero e, inside_all s es (λ k d l. all (suc k) d (omega arith)) x v)
-
-pub all_inside : (s : Span) (es : Pairs) → AreInside s es → (k : ℕ) (d : List ℕ × List ℕ) → k < length es → in_span s (get_or es k d).0 ≡ true
-all_inside s [] inside k d l = absurd (omega arith)
-all_inside s (e ∷ es) inside zero d l = inside e.0 e.1 (inl (refl, refl))
-all_inside s (e ∷ es) inside (suc k) d l = all_inside s es (λ x v i. inside x v (inr i)) k d (omega arith)
+-- the test of all keys says whether they lie in the span
+pub inside_is : (s : Span) (es : Pairs) → (list_all (λ (e : List ℕ × List ℕ). in_span s e.0) es ≡ true) ↔ AreInside s es
+inside_is s [] = (λ _ x v i. absurd i, λ _. refl)
+inside_is s (e ∷ es) =
+    (λ all x v i. grind (arith, common_steps, (inside_is s es).0), λ inside. grind (arith, common_steps, inside e.0 e.1 (inl (refl, refl)), (inside_is s es).1 (λ x v i. inside x v (inr i))))

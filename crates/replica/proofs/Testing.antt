@@ -1,6 +1,6 @@
 -- The tests of the rows that a replica begins with.
-use Rattle.replica.proofs.Common.{KeysRise, Less, Span, common_steps, in_span, key_cmp, keys_of}
-use Rattle.std.proofs.Common.{◌≡◌, ℕ, zero, suc, ◌+◌, ◌-◌, ◌<◌, ◌≤◌, true, false, List, [], ◌∷◌, length, get_or, refl, arith}
+use Rattle.replica.proofs.Common.{KeysRise, Less, common_steps, key_cmp, keys_of}
+use Rattle.std.proofs.Common.{◌≡◌, ℕ, zero, suc, ◌+◌, ◌-◌, ◌<◌, ◌≤◌, List, [], ◌∷◌, length, get_or, refl, arith}
 use Rattle.std.proofs.lemmas.Cmp.{nat_list_cmp_total}
 use Rattle.std.proofs.lemmas.Map.Keys.{sorted_from_all_adjacent}
 use Rattle.std.proofs.lemmas.Map.Entries.{length-keys_of}
@@ -13,17 +13,6 @@ at_any : (es : Pairs) (i : ℕ) (d e : List ℕ × List ℕ) → i < length es �
 at_any [] i d e low = absurd (omega arith)
 at_any (x ∷ es) zero d e low = refl
 at_any (x ∷ es) (suc i) d e low = at_any es i d e (omega arith)
-
--- the first n rows lie in the span
-abbrev pub AreInsideTo : Span → Pairs → ℕ → Type 0
-AreInsideTo s es n = (k : ℕ) (d : List ℕ × List ℕ) → k < n → in_span s (get_or es k d).0 ≡ true
-
-pub inside_more : (s : Span) (es : Pairs) (i : ℕ) (x : List ℕ × List ℕ) → AreInsideTo s es i → i < length es → x ≡ get_or es i x → in_span s x.0 ≡ true → AreInsideTo s es (i + 1)
-inside_more s es i x so_far low is inside k d below = grind (arith, common_steps)
-
--- one of them doesn't
-pub outside_at : (s : Span) (es : Pairs) (i : ℕ) (x : List ℕ × List ℕ) → i < length es → x ≡ get_or es i x → in_span s x.0 ≡ false → AreInsideTo s es (length es) → false ≡ true
-outside_at s es i x low is outside all = grind (arith, common_steps, all i x low)
 
 -- the first n rows rise
 abbrev pub AreRisingTo : Pairs → ℕ → Type 0

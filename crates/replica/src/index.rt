@@ -1,10 +1,13 @@
 //! The index by value beneath the rows: which keys have each value.
-ghost use Rattle.std.specs.Prelude.{◌≡◌, ◌&&◌, ◌||◌, ◌↔◌, ℕ, List, false, true, bytes_eq, if◌then◌else◌, OnOk, OnErr, IfOk};
+ghost use Rattle.std.specs.Prelude.{◌≡◌, ◌&&◌, ◌||◌, ◌↔◌, ℕ, List, Some, false, true, refl, bytes_eq, if◌then◌else◌, OnOk, OnErr, IfOk};
+ghost use Rattle.std.specs.Cmp.{partial_equiv_from_equiv};
+ghost use Rattle.std.specs.Cmp.Lexicographic.{nat_list_eq_equiv, nat_list_cmp_total, texts_ties, texts_po};
 ghost use Rattle.spans.proofs.Keyed.{IsIn, RisingKeys};
+ghost use Rattle.timestamps.specs.Bytes.{key_cmp};
 ghost use Rattle.replica.specs.Indexes.{is_listed};
 
-use crate::content::Content;
 use std::alloc::{AllocError, Global};
+use std::cmp::Ordering;
 use std::collections::{BTreeMap, BTreeSet};
 use std::marker::Model;
 use timestamps::key::Key;
@@ -45,9 +48,7 @@ impl Index {
         ensures err { OnErr result ((x v : List ℕ) → is_listed self.new x v ≡ is_listed self.old x v) }
     {
         let key = key.copy()?;
-        let content = Content {
-            value: value.copy()?,
-        };
+        let content = Content(value.copy()?);
         match self.keys.get_mut(&content) {
             Some(keys) => {
                 keys.insert(key)?;
@@ -66,7 +67,7 @@ impl Index {
         ensures { (x v : List ℕ) → is_listed self.new x v
             ≡ (if bytes_eq value v && bytes_eq key.now x then false else is_listed self.old x v) }
     {
-        let content = Content { value };
+        let content = Content(value);
         let Some(keys) = self.keys.get_mut(&content) else {
             return;
         };
@@ -81,9 +82,7 @@ impl Index {
         ensures rising { IfOk result (λ keys. RisingKeys keys.items) }
         ensures exact { IfOk result (λ keys. (x : List ℕ) → IsIn x keys.items ↔ (is_listed self.now x value.now ≡ true)) }
     {
-        let content = Content {
-            value: value.copy()?,
-        };
+        let content = Content(value.copy()?);
         let Some(keys) = self.keys.get(&content) else {
             return Ok(Vec::new(alloc));
         };
@@ -96,11 +95,59 @@ fn copies(alloc: Global, keys: &BTreeSet<Key>) -> Result<Vec<Key>, AllocError>
     ensures all { IfOk result (λ copies. copies.items ≡ keys.now.keys) }
     ensures rising { IfOk result (λ copies. RisingKeys copies.items) }
 {
-    let ahead = keys.iter();
     let mut copies = Vec::new(alloc);
-    for key in ahead {
-        let copy = key.copy()?;
-        copies.push(copy)?;
+    for key in keys.iter() {
+        copies.push(key.copy()?)?;
     }
     Ok(copies)
+}
+
+/// A value, ordered byte by byte.
+#[derive(Debug, Drop)]
+struct Content(Value);
+
+impl Model for Content {
+    ghost use Rattle.std.specs.Prelude.{ℕ, List};
+
+    ghost Value = { List ℕ };
+
+    ghost view = { λ c. c.0 };
+}
+
+impl PartialEq for Content {
+    ghost eq = { bytes_eq };
+
+    ghost laws = { partial_equiv_from_equiv nat_list_eq_equiv };
+
+    fn eq(&self, other: &Content) -> bool {
+        self.0.bytes() == other.0.bytes()
+    }
+}
+
+impl Eq for Content {
+    ghost laws = { nat_list_eq_equiv };
+}
+
+impl PartialOrd for Content {
+    ghost partial_cmp = { λ a b. Some (key_cmp a b) };
+
+    ghost laws = { texts_po };
+
+    fn partial_cmp(&self, other: &Content) -> Option<Ordering> {
+        Some(self.cmp(other))
+    }
+}
+
+impl Ord for Content {
+    ghost cmp = { key_cmp };
+
+    ghost total = { nat_list_cmp_total };
+
+    ghost matches_partial_cmp = { λ a b. refl };
+
+    ghost matches_eq = { texts_ties };
+
+    fn cmp(&self, other: &Content) -> Ordering {
+        self.0.bytes().cmp(other.0.bytes())
+    }
 }

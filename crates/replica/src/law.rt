@@ -7,18 +7,13 @@ ghost use Rattle.replica.specs.Starts.{Pairs, seeded_by, initial_start, MayBegin
 ghost use Rattle.replica.specs.Right.{ReplicasAreRight};
 
 /// Of a feed that was opened in a legal history, newest event first: a replica that began as its consumer is to
-/// begin refuses none of the messages that the feed told, unless it is out of memory, and after each resolved
-/// message it has the span's part of the map at its timestamp, and says so. Where it says so before the first message
-/// it has it too, and where a row is to be taken before which it is ready. What it says that it was told all through
-/// is right: all that is told later is above that. A replica that goes on with its rows, of a feed that was opened
-/// there, refuses none of that feed's messages. It has the map at each of its resolved timestamps, and where it is
-/// ready above where it went on from; and it too was told all through what it says. (The first of those messages may
-/// repeat what it has, so where it goes on from is no timestamp at which it is ready, or complete.)
+/// begin refuses none of the feed's messages, unless it is out of memory. After each resolved message it is complete,
+/// and wherever it is, or is ready for the next row, it has the span's part of the map. All that is told later is above
+/// what it says that it was told all through. All this holds also of a replica that goes on with its rows, of a feed
+/// that was opened there. (The first messages may repeat what it has, so it is ready only above where it goes on from.)
 ///
-/// A consumer of an initial feed is to begin empty. Any other is to begin with what the span holds at the cursor:
-/// with the rows of a scan there, which no replica refuses.
-///
-/// It does nothing. Its contract is the theorem.
+/// A consumer of an initial feed is to begin empty, and any other with the rows of a scan at the cursor, which no
+/// replica refuses. The function does nothing: its contract is the theorem.
 pub fn law_of_replicas()
     ensures right { (h : List Event) (f : ℕ) → IsLegal h → ReplicasAreRight (effects_of h) f }
     ensures initial { (p : List Effect) (feed : Feed) → feed.kind.initial ≡ true → IsStartOf p feed (initial_start feed.span feed.cursor) }

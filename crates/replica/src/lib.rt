@@ -1,9 +1,8 @@
 //! A consumer of one feed that keeps the rows of its span, and knows at which timestamp it has all of them.
 //!
-//! `follow` and `embedded_replica` are the callers. Any other program that consumes a feed may call it so too. A
-//! [`Replica`] begins with the rows of a span at a cursor, or empty for an initial feed. It takes the messages of a
+//! A [`Replica`] begins with the rows of a span at a cursor, or empty for an initial feed. It takes the messages of a
 //! feed one at a time, and refuses those that no feed tells: a row or a resolved timestamp that comes too early, or a
-//! row outside its span.
+//! row outside its span. `follow` and `embedded_replica` are the callers.
 //!
 //! 1. The index has a key under a value exactly where the rows have that value at the key.
 //! 2. A message that is refused changes nothing, also where it is out of memory.
@@ -33,13 +32,12 @@
 //! - `keys_with`: O(log n), and a copy of each key that it answers
 //! - `new_initial`, `at_resolved`, `complete_through`, `ready`, `span`, `len`, `is_empty`: O(1)
 //!
-//! A row takes memory for its key twice, and for its value once more where no other key has it. `new` and `apply` take
-//! that, and `keys_with` takes it for its answer. A delete and a resolved message take none, nor do the other calls.
+//! `new` and `apply` take memory for a row's key twice, and for its value once more where no other key has it;
+//! `keys_with` takes it for its answer. A delete, a resolved message and the other calls take none.
 //!
 //! Tests: `unit_tests`.
 #![tactic(auto)]
 
-mod content;
 mod fault;
 mod index;
 pub mod law;

@@ -31,18 +31,12 @@ pub(crate) fn comes_after(row: &Row, place: &Option<Place>) -> bool
 pub(crate) fn reaches(t: u64, place: &Option<Place>) -> bool
     ensures { result ≡ is_over place.now t }
 {
-    match place {
-        None => true,
-        Some(place) => place.ts.get() <= t,
-    }
+    place.as_ref().is_none_or(|place| place.ts.get() <= t)
 }
 
 /// Whether a place is there, and of the timestamp.
 pub(crate) fn is_of(place: &Option<Place>, t: u64) -> bool
     ensures { result ≡ is_place_of place.now t }
 {
-    match place {
-        None => false,
-        Some(place) => place.ts.get() == t,
-    }
+    place.as_ref().is_some_and(|place| place.ts.get() == t)
 }

@@ -1,5 +1,4 @@
-//! A replica of a span, as its user calls it: it takes messages in, and answers what is there and which keys have a
-//! value.
+//! A replica of a span, as its user calls it.
 ghost use Rattle.std.specs.Prelude.{◌≡◌, ◌==◌, ℕ, List, [], None, Some, OnOk, OnErr, IfOk, IfErr};
 ghost use Rattle.std.specs.Option.{option_copied};
 ghost use Rattle.spans.specs.declared.calls.messages.Message.TheVariants as messages;
@@ -21,7 +20,7 @@ use timestamps::value::Value;
 pub type KeysAndValues<'a> = Iter<'a, Key, Value>;
 
 /// The rows of a span, as a feed tells them.
-#[derive(Debug)]
+#[derive(Debug, Drop)]
 pub struct Replica {
     span: Span,
     /// The cursor that its feed was opened at.
@@ -37,27 +36,11 @@ pub struct Replica {
     table: Table,
 }
 
-// for the proof, which has no case for each part of it where a replica is dropped
-impl Drop for Replica {
-    fn drop(self) {
-        let Replica {
-            span: _,
-            cursor: _,
-            resolved: _,
-            last: _,
-            floor: _,
-            complete: _,
-            table: _,
-        } = self;
-    }
-}
-
 impl Replica {
     ghost use Rattle.spans.specs.declared.calls.messages.Message.{Message};
-    ghost use Rattle.spans.specs.Effects.{After};
     ghost use Rattle.replica.specs.Rows.{AreRowsOf, AreKeysWith, IsCountOf};
     ghost use Rattle.replica.specs.Starts.{Start, seeded_start, initial_start, resolved_at, MayBegin, IsSeedFault};
-    ghost use Rattle.replica.specs.Replicas.{view_in, span_in, resolved_in, complete_in, through_in, Follows, Takes, IsFaultAt, test_of};
+    ghost use Rattle.replica.specs.Replicas.{view_in, span_in, complete_in, through_in, Follows, Takes, IsFaultAt, test_of};
     ghost use Rattle.replica.specs.Tests.{fault_in, is_first_in, ready_in};
     ghost use Rattle.replica.specs.Faults.{AddsValue};
     ghost use Rattle.replica.specs.declared.fault.Fault.TheVariants.{NoMemory};
@@ -143,21 +126,14 @@ impl Replica {
         ensures { result ≡ fault_in self.now message.now }
     {
         match message {
-            Message::Row(row) => {
-                if row.ts.get() <= self.resolved || !comes_after(row, &self.last) {
-                    return Some(Fault::NotAfter);
-                }
-                if !self.span.contains(&row.key) {
-                    return Some(Fault::OutsideSpan);
-                }
-                None
+            Message::Row(row) if row.ts.get() <= self.resolved || !comes_after(row, &self.last) => {
+                Some(Fault::NotAfter)
             }
-            Message::Resolved(ts) => {
-                if ts.get() <= self.resolved || !reaches(ts.get(), &self.last) {
-                    return Some(Fault::ResolvedBack);
-                }
-                None
+            Message::Row(row) if !self.span.contains(&row.key) => Some(Fault::OutsideSpan),
+            Message::Resolved(t) if t.get() <= self.resolved || !reaches(t.get(), &self.last) => {
+                Some(Fault::ResolvedBack)
             }
+            _ => None,
         }
     }
 
@@ -190,10 +166,7 @@ impl Replica {
         ensures through { result ≡ through_in self.now }
         ensures messages { (s : Start) (messages : List Message) → Follows self.now s messages → result ≡ complete_after s.start s.cursor messages }
     {
-        if self.floor < self.cursor {
-            return None;
-        }
-        Some(self.floor)
+        (self.floor >= self.cursor).then_some(self.floor)
     }
 
     /// The timestamp at which its rows are the map as they stand, where a message shows it that is to be taken next: the
@@ -203,13 +176,10 @@ impl Replica {
         ensures messages { (s : Start) (taken : List Message) → Follows self.now s taken → result ≡ ready_after s.span s.start s.cursor taken message.now }
     {
         match message {
-            Message::Row(row) => {
-                if self.fault(message).is_some() || !self.is_first(row) {
-                    return None;
-                }
+            Message::Row(row) if self.is_first(row) && self.fault(message).is_none() => {
                 Some(row.ts.get() - 1)
             }
-            Message::Resolved(_) => None,
+            _ => None,
         }
     }
 

@@ -1,6 +1,6 @@
 //! The rows that a replica begins with: whether their keys rise and lie in its span, and the table of them.
 ghost use Rattle.std.specs.Prelude.{◌≡◌, ◌↔◌, ℕ, List, Some, IfOk, true};
-ghost use Rattle.replica.specs.Prelude.{KeysRise, key_lt, value_among};
+ghost use Rattle.replica.specs.Prelude.{KeysRise, value_among};
 ghost use Rattle.replica.specs.Rows.{value_at};
 ghost use Rattle.replica.specs.Starts.{AreInside};
 
@@ -16,32 +16,18 @@ pub(crate) fn rise(rows: &[(Key, Value)]) -> bool
     ensures { (result ≡ true) ↔ KeysRise rows.now }
 {
     for at in 1..rows.len() {
-        let before = &rows[at - 1];
-        let row = &rows[at];
-        if !is_below(&before.0, &row.0) {
+        if rows[at - 1].0.cmp(&rows[at].0) != Ordering::Less {
             return false;
         }
     }
     true
-}
-
-/// Whether a key is below another.
-fn is_below(before: &Key, key: &Key) -> bool
-    ensures { result ≡ key_lt before.now key.now }
-{
-    before.cmp(key) == Ordering::Less
 }
 
 /// Whether the keys lie in the span.
 pub(crate) fn are_inside(span: &Span, rows: &[(Key, Value)]) -> bool
     ensures { (result ≡ true) ↔ AreInside span.now rows.now }
 {
-    for row in rows {
-        if !span.contains(&row.0) {
-            return false;
-        }
-    }
-    true
+    rows.iter().all(|row| span.contains(&row.0))
 }
 
 /// A table of these rows.

@@ -3,7 +3,6 @@ ghost use Rattle.std.specs.Prelude.{◌≡◌, ℕ, List, [], None, Some, IsSome
 ghost use Rattle.std.specs.Option.{option_copied};
 ghost use Rattle.spans.specs.Serial.{put};
 ghost use Rattle.replica.specs.Rows.{value_at, AreRowsOf, AreKeysWith};
-ghost use Rattle.replica.specs.Values.{has_value};
 
 use crate::index::Index;
 use std::alloc::{AllocError, Global};
@@ -42,23 +41,13 @@ impl Table {
         }
     }
 
-    /// Whether a key has the value.
-    fn has(&self, key: &Key, value: &Value) -> bool
-        ensures { result ≡ has_value (value_at self.now key.now) value.now }
-    {
-        match self.rows.get(key) {
-            None => false,
-            Some(held) => held == value,
-        }
-    }
-
     /// Puts a value at a key. Where it is out of memory nothing has changed: what was listed is taken out again,
     /// which wants none.
     fn put(&mut self, key: &Key, value: Value) -> Result<(), AllocError>
         ensures ok { OnOk result ((x : List ℕ) → value_at self.new x ≡ put (value_at self.old) key.now (Some value) x) }
         ensures err { OnErr result (self.new ≡ self.old) }
     {
-        if self.has(key, &value) {
+        if self.rows.get(key).is_some_and(|held| *held == value) {
             return Ok(());
         }
         let own = key.copy()?;
@@ -77,15 +66,6 @@ impl Table {
         }
     }
 
-    /// Takes a key out. It takes no memory.
-    fn delete(&mut self, key: &Key)
-        ensures { (x : List ℕ) → value_at self.new x ≡ put (value_at self.old) key.now None x }
-    {
-        if let Some(before) = self.rows.remove(key) {
-            self.index.remove(before, key);
-        }
-    }
-
     /// Takes in what a row left at a key.
     pub(crate) fn change(&mut self, key: &Key, after: Option<Value>) -> Result<(), AllocError>
         ensures ok { OnOk result ((x : List ℕ) → value_at self.new x ≡ put (value_at self.old) key.now after x) }
@@ -94,7 +74,9 @@ impl Table {
     {
         match after {
             None => {
-                self.delete(key);
+                if let Some(before) = self.rows.remove(key) {
+                    self.index.remove(before, key);
+                }
                 Ok(())
             }
             Some(value) => self.put(key, value),

@@ -11,4 +11,4 @@ pub returns-clause-all : goal.returns-clause-all
 returns-clause-all c = copied_all c.loop-key.copies.items c.loop-key.key-iterator c.args.keys.now.keys c.loop-key.invariant c.in-None.ensures.steps.0
 
 pub returns-clause-rising : goal.returns-clause-rising
-returns-clause-rising c = rw (copied_all c.loop-key.copies.items c.loop-key.key-iterator c.args.keys.now.keys c.loop-key.invariant c.in-None.ensures.steps.0) (rising_keys c.args.keys.now.keys c.iter-ahead.ensures.ordered)
+returns-clause-rising c = rw (copied_all c.loop-key.copies.items c.loop-key.key-iterator c.args.keys.now.keys c.loop-key.invariant c.in-None.ensures.steps.0) (rising_keys c.args.keys.now.keys c.iter-key-items.ensures.ordered)

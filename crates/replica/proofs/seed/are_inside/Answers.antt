@@ -1,15 +1,12 @@
-use Rattle.std.proofs.Common.{rules, arith, refl}
-use Rattle.replica.proofs.Testing.{inside_more, outside_at}
-use Rattle.replica.proofs.Rising.{inside_all, all_inside}
+use Rattle.std.proofs.Common.{◌≡◌, ℕ, List, rules}
+use Rattle.std.proofs.lemmas.Iterator.{YieldsList-from_slice}
+use Rattle.std.proofs.lemmas.Iterator.Search.{all_from_yields_List}
+use Rattle.replica.proofs.Common.{in_span, list_all}
+use Rattle.replica.proofs.Rising.{inside_is}
 use Rattle.replica.proofs.seed.are_inside.Goals as goal
 
-pub loop-row-preserved : goal.loop-row-preserved
-loop-row-preserved c =
-    inside_more c.args.span.now c.args.rows.now c.loop-row.row-index c.row-item.result c.loop-row.invariant (omega arith) c.row-item.is (search rules)
-
-pub returns-then-not-contains : goal.returns-then-not-contains
-returns-then-not-contains c =
-    (λ e. cc, λ all. outside_at c.args.span.now c.args.rows.now c.loop-row.row-index c.row-item.result (omega arith) c.row-item.is (search rules) (all_inside c.args.span.now c.args.rows.now all))
-
 pub returns : goal.returns
-returns c = (λ _. inside_all c.args.span.now c.args.rows.now (λ k d low. c.loop-row.invariant k d (omega arith)), λ _. refl)
+returns c =
+    let all : c.all.result ≡ list_all (λ (e : List ℕ × List ℕ). in_span c.args.span.now e.0) c.args.rows.now =
+    all_from_yields_List _ _ _ _ c.all.ensures.ran (YieldsList-from_slice c.args.rows.now cc) (λ x b q k. search rules) in
+    rw all (inside_is c.args.span.now c.args.rows.now)

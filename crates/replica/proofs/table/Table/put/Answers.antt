@@ -1,4 +1,4 @@
-use Rattle.std.proofs.Common.{ap, sym, ◌≡◌, ◌∙◌, Some, false}
+use Rattle.std.proofs.Common.{sym, ◌≡◌, ◌∙◌, Some, false}
 use Rattle.replica.specs.Indexes.{is_listed}
 use Rattle.replica.specs.Rows.{value_at}
 use Rattle.replica.specs.Values.{has_value}
@@ -16,7 +16,7 @@ invariant_of-self-in-Ok-None c =
 pub invariant_of-self-in-Ok-Some : goal.invariant_of-self-in-Ok-Some
 invariant_of-self-in-Ok-Some c =
     let some : value_at c.self.inside.rows.entries c.in_ok-own.own ≡ Some c.in-Ok-Some.before = sym c.in-Ok-Some.ensures.old ∙ c.in-Ok-Some.field-0-is in
-    let apart : has_value (value_at c.self.inside.rows.entries c.args.key.now) c.args.value ≡ false = ap (λ es. has_value (value_at es c.args.key.now) c.args.value) c.self.view_is ∙ sym c.has.ensures ∙ c.if-has.false in
+    let apart : has_value (value_at c.self.inside.rows.entries c.args.key.now) c.args.value ≡ false = grind (arith, common_steps, c.get.ensures.value, c.is_some_and.ensures, c.if-is_some_and.false) in
     ties_other c.self.inside.rows.entries c.insert.new.self.entries (is_listed c.self.inside.index) (is_listed c.add.new.self) (is_listed c.remove-in-Ok-Some.new.self) c.in_ok-own.own c.args.key.now c.args.value c.in-Ok-Some.before
     c.in_ok-own.ensures.bytes c.self.invariant some apart c.in-Ok-Some.ensures.updates.0 c.in_ok-add.ensures.ok c.remove-in-Ok-Some.ensures
 
