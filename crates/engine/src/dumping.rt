@@ -12,7 +12,7 @@
 ghost use Rattle.std.specs.Prelude.{◌≡◌, IfOk, List};
 ghost use Rattle.std.specs.Option.{option_copied};
 ghost use Rattle.engine.specs.Prelude.{Event, effects_of};
-ghost use Rattle.engine.specs.Dumping.{IsNextRow, next_left};
+ghost use Rattle.engine.specs.Dumping.{next_left};
 
 use crate::Engine;
 use catch_up::next_rows;
@@ -21,7 +21,6 @@ use std::alloc::{AllocError, Global};
 use std::iter::Iterator;
 use timestamps::key::Key;
 use timestamps::row::Row;
-use version_chain::Store;
 
 impl Engine {
     ghost use Rattle.engine.specs.Engine.{StandsFor};
@@ -37,21 +36,10 @@ impl Engine {
     ) -> Result<Option<Row>, AllocError>
         ensures { (h : List Event) → StandsFor self.now h → IfOk result (λ row. row ≡ next_left (effects_of h) ts (option_copied key.entry) through) }
     {
-        next_row(alloc, self.layers.rules.versions(), ts, key, through)
+        let store = self.layers.rules.versions();
+        let all = Span { lo: None, hi: None };
+        // the store has none that is dead
+        let rows = next_rows(alloc, store, &all, ts, key, through, 1)?;
+        Ok(rows.into_iter().next())
     }
-}
-
-/// The first committed version behind a place, as a row. The store has none that is dead.
-fn next_row(
-    alloc: Global,
-    store: &Store,
-    ts: u64,
-    key: Option<&Key>,
-    through: u64,
-) -> Result<Option<Row>, AllocError>
-    ensures { IfOk result (IsNextRow store.now ts (option_copied key.entry) through) }
-{
-    let all = Span { lo: None, hi: None };
-    let rows = next_rows(alloc, store, &all, ts, key, through, 1)?;
-    Ok(rows.into_iter().next())
 }

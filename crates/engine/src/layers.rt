@@ -1,13 +1,12 @@
 //! The layers that an engine stands on, and which of them answers a command.
-ghost use Rattle.std.specs.Prelude.{◌≡◌, ◌<◌};
+ghost use Rattle.std.specs.Prelude.{◌<◌};
 ghost use Rattle.kept.specs.StandsFor.{nothing_kept};
 ghost use Rattle.kept.specs.Changes.{IsAlike};
-ghost use Rattle.engine.specs.Prelude.{IsStep, closed_in, closing_of};
+ghost use Rattle.engine.specs.Prelude.{IsStep, Stats};
 
 use feed::Feeds;
 use mvto_rules::Rules;
 use spans::calls::{Cmd, Reply};
-use spans::kind::Kind;
 use std::alloc::Global;
 
 /// Each layer holds its part of what is kept of a history.
@@ -32,13 +31,6 @@ impl Layers {
         }
     }
 
-    /// The closed timestamp.
-    pub(crate) fn closed(&self) -> u64
-        ensures { result ≡ closed_in (closing_of self.now.rules) }
-    {
-        self.rules.closed()
-    }
-
     /// Answers a seat's command.
     pub(crate) fn step(&mut self, seat: u8, cmd: &Cmd) -> Reply
         requires number { opened_in self.old.feeds < 18446744073709551615 }
@@ -60,37 +52,29 @@ impl Layers {
             Cmd::Protect { t } => self.rules.protect(*t),
             Cmd::Release { id } => self.rules.release(*id),
             Cmd::Collect { to } => self.rules.collect(*to, self.feeds.least_floor()),
-            Cmd::Open { span, cursor } => {
-                let kind = Kind {
-                    initial: false,
-                    gap: None,
-                };
-                self.open_feed(seat, kind, span, *cursor)
-            }
-            Cmd::OpenInitial { span, cursor } => {
-                let kind = Kind {
-                    initial: true,
-                    gap: None,
-                };
-                self.open_feed(seat, kind, span, *cursor)
-            }
+            Cmd::Open { span, cursor } => self.open_feed(seat, false, None, span, *cursor),
+            Cmd::OpenInitial { span, cursor } => self.open_feed(seat, true, None, span, *cursor),
             Cmd::OpenEvery { span, cursor, gap } => {
-                let kind = Kind {
-                    initial: false,
-                    gap: Some(*gap),
-                };
-                self.open_feed(seat, kind, span, *cursor)
+                self.open_feed(seat, false, Some(*gap), span, *cursor)
             }
             Cmd::OpenInitialEvery { span, cursor, gap } => {
-                let kind = Kind {
-                    initial: true,
-                    gap: Some(*gap),
-                };
-                self.open_feed(seat, kind, span, *cursor)
+                self.open_feed(seat, true, Some(*gap), span, *cursor)
             }
             Cmd::Poll { feed, max } => self.poll(seat, *feed, *max),
             Cmd::Cancel { feed } => self.cancel(seat, *feed),
             Cmd::Stats => self.stats(seat),
+        }
+    }
+
+    fn stats(&mut self, seat: u8) -> Reply
+        ensures { IsStep (kept_of self.old) (kept_of self.new) seat Stats result }
+    {
+        Reply::Stats {
+            versions: self.rules.version_count(),
+            undecided: self.rules.undecided_count(),
+            feeds: self.feeds.count(),
+            closed: self.rules.closed(),
+            horizon: self.rules.horizon(),
         }
     }
 }

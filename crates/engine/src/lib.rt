@@ -37,16 +37,15 @@
 //!   look through one block, and at the starts of all
 //! - `poll`: O(log n), and the searches of `catch_up`
 //! - `stats`, `steps`, `closed`, `places`, `horizon`, `floor`: O(log n)
-//! - `version_at`: O(log n + log v log b), for each undecided version above it too
-//! - `next_left`: the same for each undecided version that it passes over too, and a copy of the row
+//! - `version_at`: O(log n + log v log b), for each undecided version above it too; `next_left`: the same for each that it
+//!   passes over too, and a copy of the row
 //! - `report`: O(log n) for each undecided transaction, each protection and each feed
 //! - `scan_end`: O(log n), and as a `readat` for each key up to the end
 //! - `poll_count`: as a few polls, of up to twice as many messages as find room, but 15 at least
 //! - `is_long`: O(log n), and as `scan_end` or `poll_count`
 //!
 //! Memory: begin, get, scan, put, del, readat, scanat, protect, open and poll take it before anything changes. Without it
-//! they answer so, and all is as it was: open and poll in `openings` and `polls`, and the others in the rules. Close,
-//! closehard, commit, abort, collect, release, cancel and stats take none.
+//! they answer so, and all is as it was. The other commands take none.
 //!
 //! Tests: `unit_tests`, `growth_tests`, `job_tests`.
 #![tactic(auto)]
@@ -56,14 +55,11 @@ ghost use Rattle.engine.specs.Prelude.{Event, IsReport, closed_of, effects_of, e
 ghost use Rattle.engine.specs.Layers.{HasHistory};
 
 mod dumping;
+mod feed_calls;
 mod layers;
 mod looking;
-mod openings;
-mod polls;
-mod report;
 mod room;
 mod running;
-mod statistics;
 
 use crate::layers::Layers;
 pub use looking::Places;
@@ -73,20 +69,11 @@ use spans::report::Report;
 use std::alloc::{AllocError, Global};
 
 /// The layers, with a count of the commands that were answered.
+#[derive(Drop)]
 pub struct Engine {
     layers: Layers,
     steps: u64,
     ghost stands: { ∥ HasHistory layers steps ∥₁ },
-}
-
-// for the proof, which has no case for each part of it where an engine is dropped
-impl Drop for Engine {
-    fn drop(self) {
-        let Engine {
-            layers: _,
-            steps: _,
-        } = self;
-    }
 }
 
 impl Engine {
@@ -127,13 +114,22 @@ impl Engine {
         ensures count { result ≡ closed_timestamp self.now }
         ensures history { (h : List Event) → StandsFor self.now h → result ≡ closed_of (effects_of h) }
     {
-        self.layers.closed()
+        self.layers.rules.closed()
     }
 
     /// The report that an operator may ask for. It takes memory for the answer alone.
     pub fn report(&self) -> Result<Report, AllocError>
         ensures { (h : List Event) → StandsFor self.now h → IfOk result (IsReport false (effects_of h)) }
     {
-        self.layers.report()
+        let Layers { rules, feeds } = &self.layers;
+        Ok(Report {
+            closed: rules.closed(),
+            horizon: rules.horizon(),
+            versions: rules.version_count(),
+            removable: None,
+            transactions: rules.undecided_report()?,
+            protections: rules.closing().protections()?,
+            feeds: feeds.report()?,
+        })
     }
 }

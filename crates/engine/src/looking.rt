@@ -12,7 +12,6 @@
 ghost use Rattle.std.specs.Prelude.{◌≡◌, List};
 ghost use Rattle.engine.specs.Prelude.{Event, effects_of, horizon_of};
 ghost use Rattle.engine.specs.Looking.{ArePlaces, feed_floor, known_version};
-ghost use Rattle.engine.specs.Progress.{HavePlaces};
 
 use crate::Engine;
 use crate::layers::Layers;
@@ -40,7 +39,14 @@ impl Engine {
     pub fn places(&self) -> Places
         ensures { (h : List Event) → StandsFor self.now h → ArePlaces (effects_of h) result }
     {
-        self.layers.places()
+        let Layers { rules, feeds } = &self.layers;
+        Places {
+            closed: rules.closed(),
+            horizon: rules.horizon(),
+            limit: rules.limit(feeds.least_floor()),
+            oldest: rules.oldest_undecided(),
+            reached: rules.reached(),
+        }
     }
 
     /// The horizon: below it, versions may be gone.
@@ -66,20 +72,5 @@ impl Engine {
             return None;
         }
         self.layers.rules.version_at(t, key)
-    }
-}
-
-impl Layers {
-    /// How far they have come.
-    pub(crate) fn places(&self) -> Places
-        ensures { HavePlaces self.now result }
-    {
-        Places {
-            closed: self.rules.closed(),
-            horizon: self.rules.horizon(),
-            limit: self.rules.limit(self.feeds.least_floor()),
-            oldest: self.rules.oldest_undecided(),
-            reached: self.rules.reached(),
-        }
     }
 }

@@ -12,8 +12,8 @@
 //! ```
 ghost use Rattle.std.specs.Prelude.{List, IfOk, OnErr, is_some, true, ◌≡◌};
 ghost use Rattle.std.specs.Option.{option_copied};
-ghost use Rattle.engine.specs.Prelude.{Event, IsEnd, IsFeedCount, Poll, Scan, ScanAt, closed_in, closing_of, effects_of, place_in, place_of, versions_of};
-ghost use Rattle.engine.specs.Room.{IsOwnPoll, is_long, is_own, poll_count, scan_end};
+ghost use Rattle.engine.specs.Prelude.{Event, Poll, Scan, ScanAt, effects_of, place_of};
+ghost use Rattle.engine.specs.Room.{IsOwnPoll, is_long, poll_count, scan_end};
 
 use crate::Engine;
 use crate::layers::Layers;
@@ -33,7 +33,7 @@ impl Engine {
     pub fn scan_end<'a>(&'a self, ts: u64, span: &'a Span, rows: u64, bytes: u64) -> Option<&'a Key>
         ensures { (h : List Event) → StandsFor self.now h → option_copied result ≡ scan_end (effects_of h) ts span.now rows bytes }
     {
-        self.layers.scan_end(ts, span, rows, bytes)
+        self.layers.rules.end_within(ts, span, rows, bytes)
     }
 
     /// How many of a feed's next messages, at most `max`, find room in `bytes` bytes: `max` where all of them do, and 0
@@ -42,7 +42,8 @@ impl Engine {
         ensures count { (h : List Event) → StandsFor self.now h → IfOk result (λ n. n ≡ poll_count (effects_of h) feed max bytes) }
         ensures memory { (h : List Event) → StandsFor self.now h → OnErr result (is_some (place_of (effects_of h) feed) ≡ true) }
     {
-        self.layers.poll_count(feed, max, bytes)
+        let Layers { rules, feeds } = &self.layers;
+        feeds.count_within(rules.versions(), feed, rules.closed(), max, bytes)
     }
 
     /// Whether the answer to a seat's command would have more than `most` bytes of rows or messages, or a scan's more
@@ -53,63 +54,18 @@ impl Engine {
         ensures memory { (h : List Event) → StandsFor self.now h → OnErr result (IsOwnPoll (effects_of h) seat cmd.now) }
     {
         match cmd {
-            Cmd::Scan { ts, span } => Ok(self.is_scan_long(seat, *ts, span, most)),
-            Cmd::ScanAt { t, span } => Ok(self.is_snapshot_long(seat, *t, span, most)),
-            Cmd::Poll { feed, max } => self.is_poll_long(seat, *feed, *max, most),
+            Cmd::Scan { ts, span } => Ok(
+                self.layers.rules.is_usable(seat, *ts)
+                    && self.scan_end(*ts, span, MOST_ROWS, most).is_some(),
+            ),
+            Cmd::ScanAt { t, span } => Ok(
+                self.layers.rules.is_readable(*t)
+                    && self.scan_end(*t, span, MOST_ROWS, most).is_some(),
+            ),
+            Cmd::Poll { feed, max } if self.layers.feeds.seat(*feed) == Some(seat) => {
+                Ok(self.poll_count(*feed, *max, most)? < *max)
+            }
             _ => Ok(false),
         }
-    }
-
-    fn is_scan_long(&self, seat: u8, ts: u64, span: &Span, most: u64) -> bool
-        ensures { (h : List Event) → StandsFor self.now h → result ≡ is_long (effects_of h) seat most (Scan ts span.now) }
-    {
-        self.layers.rules.is_usable(seat, ts) && self.scan_end(ts, span, MOST_ROWS, most).is_some()
-    }
-
-    fn is_snapshot_long(&self, seat: u8, t: u64, span: &Span, most: u64) -> bool
-        ensures { (h : List Event) → StandsFor self.now h → result ≡ is_long (effects_of h) seat most (ScanAt t span.now) }
-    {
-        self.layers.rules.is_readable(t) && self.scan_end(t, span, MOST_ROWS, most).is_some()
-    }
-
-    fn is_poll_long(&self, seat: u8, feed: u64, max: u64, most: u64) -> Result<bool, AllocError>
-        ensures long { (h : List Event) → StandsFor self.now h → IfOk result (λ long. long ≡ is_long (effects_of h) seat most (Poll feed max)) }
-        ensures memory { (h : List Event) → StandsFor self.now h → OnErr result (is_own seat (place_of (effects_of h) feed) ≡ true) }
-    {
-        let Some(owner) = self.layers.feeds.seat(feed) else {
-            return Ok(false);
-        };
-        if owner != seat {
-            return Ok(false);
-        }
-        let count = self.poll_count(feed, max, most)?;
-        Ok(count < max)
-    }
-}
-
-impl Layers {
-    ghost use Rattle.engine.specs.Layers.{kept_of};
-
-    /// The key at which a scan ends, where it is to find room.
-    pub(crate) fn scan_end<'a>(
-        &'a self,
-        ts: u64,
-        span: &'a Span,
-        rows: u64,
-        bytes: u64,
-    ) -> Option<&'a Key>
-        ensures { IsEnd (kept_of self.now) ts span.now rows bytes (option_copied result) }
-    {
-        self.rules.end_within(ts, span, rows, bytes)
-    }
-
-    /// How many of a feed's next messages find room.
-    pub(crate) fn poll_count(&self, feed: u64, max: u64, bytes: u64) -> Result<u64, AllocError>
-        ensures count { IfOk result (IsFeedCount (versions_of self.now.rules) (closed_in (closing_of self.now.rules)) max bytes (place_in self.now.feeds feed)) }
-        ensures memory { OnErr result (is_some (place_in self.now.feeds feed) ≡ true) }
-    {
-        let closed = self.rules.closed();
-        self.feeds
-            .count_within(self.rules.versions(), feed, closed, max, bytes)
     }
 }

@@ -11,10 +11,8 @@ use std::alloc::{AllocError, Global};
 impl Engine {
     ghost use Rattle.engine.specs.Engine.{StandsFor, steps_of};
 
-    /// Makes the calls, each a seat's command, in their order on the engine of the empty history.
-    ///
-    /// Positions run from 0. Only the room of the events can be refused, and it is asked for before the
-    /// engine is made.
+    /// Makes the calls, each a seat's command, in their order on the engine of the empty history. Positions run from 0.
+    /// Only the room of the events can be refused, before the engine is made.
     pub fn run(alloc: Global, calls: Vec<(u8, Cmd)>) -> Result<(Engine, Vec<Event>), AllocError>
         ensures history { IfOk result (λ r. StandsFor r.0 (reverse r.1.items)) }
         ensures positions { IfOk result (λ r. IsGapless 0 r.1.items) }
