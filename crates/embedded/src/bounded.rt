@@ -9,19 +9,16 @@
 //! ```
 
 ghost use Rattle.std.specs.Prelude.{◌≡◌, ◌<◌, List, IfOk, OnErr};
-ghost use Rattle.std.specs.Option.{option_copied};
-ghost use Rattle.embedded.specs.Prelude.{Event, poll_count, up_to};
+ghost use Rattle.embedded.specs.Prelude.{Event, poll_count};
 ghost use Rattle.embedded.specs.Bounded.{MadeWithin, command_within, span_within};
 ghost use Rattle.embedded.specs.Embedded.{StandsFor};
 ghost use Rattle.embedded.specs.declared.bounded.BoundedError.TheVariants.{NoMemory};
 
 use crate::database::Database;
-use crate::typed::NoPosition;
 use spans::bound::Bound;
 use spans::calls::Cmd;
 use spans::span::Span;
 use std::alloc::AllocError;
-use timestamps::key::Key;
 
 /// A command whose answer is to find room.
 #[derive(Drop)]
@@ -71,10 +68,7 @@ impl Database {
         let Ok(cmd) = self.command_within(bounded) else {
             return Err(BoundedError::NoMemory);
         };
-        match self.make(seat, cmd) {
-            Ok(()) => Ok(()),
-            Err(NoPosition) => Err(BoundedError::NoPosition),
-        }
+        self.make(seat, cmd).map_err(|_| BoundedError::NoPosition)
     }
 
     /// The command that is made.
@@ -108,37 +102,13 @@ impl Database {
     }
 
     /// The longest beginning of a span of which a scan finds room.
-    fn span_within(&self, ts: u64, span: Span, rows: u64, bytes: u64) -> Result<Span, AllocError>
-        ensures { (h : List Event) → StandsFor self.now h → IfOk result (λ s. s ≡ span_within h ts span rows bytes) }
+    fn span_within(&self, t: u64, mut span: Span, rows: u64, bytes: u64) -> Result<Span, AllocError>
+        ensures { (h : List Event) → StandsFor self.now h → IfOk result (λ s. s ≡ span_within h t span rows bytes) }
     {
-        let end = bound_at(self.engine.scan_end(ts, &span, rows, bytes))?;
-        Ok(up_to(span, end))
-    }
-}
-
-/// The bound at which a key begins, where there is one.
-fn bound_at(key: Option<&Key>) -> Result<Option<Bound>, AllocError>
-    ensures { IfOk result (λ bound. bound ≡ option_copied key.entry) }
-{
-    match key {
-        None => Ok(None),
-        Some(key) => {
-            let bound = Bound::of_key(key)?;
-            Ok(Some(bound))
-        }
-    }
-}
-
-/// The span up to a bound, where there is one.
-fn up_to(span: Span, end: Option<Bound>) -> Span
-    ensures { result ≡ up_to end span }
-{
-    match end {
-        None => span,
-        Some(hi) => {
-            let mut span = span;
-            span.hi = Some(hi);
-            span
-        }
+        let Some(end) = self.engine.scan_end(t, &span, rows, bytes) else {
+            return Ok(span);
+        };
+        span.hi = Some(Bound::of_key(end)?);
+        Ok(span)
     }
 }

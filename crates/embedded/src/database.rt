@@ -5,7 +5,6 @@ ghost use Rattle.embedded.specs.Prelude.{Copied, Event, Two, WantsMemory, byte_w
 ghost use Rattle.embedded.specs.declared.database.CallError.TheVariants.{NoMemory};
 ghost use Rattle.embedded.specs.Embedded.{StandsFor, HasLast, IsLastLine, IsNoReadError, IsReadError, IsWritten, IsUnwritten, Called, last_of, kept_text};
 
-use crate::typed::NoPosition;
 use engine::Engine;
 use json_lines::buffer::copy_front;
 use spans::calls::{Cmd, Event};
@@ -17,24 +16,13 @@ use word_lines::events::{write_echo, write_event};
 use word_lines::fault::{LineFault, ReadError};
 
 /// A database with the last event that it made.
+#[derive(Drop)]
 pub struct Database {
     pub(crate) alloc: Global,
     pub(crate) engine: Engine,
     pub(crate) last: Option<Event>,
     /// The last event's text, empty until it is written.
     pub(crate) text: Vec<u8>,
-}
-
-// for the proof, which has no case for each part of it where a database is dropped
-impl Drop for Database {
-    fn drop(self) {
-        let Database {
-            alloc: _,
-            engine: _,
-            last: _,
-            text: _,
-        } = self;
-    }
 }
 
 /// Why a call has no text to show.
@@ -73,10 +61,8 @@ impl Database {
         // Memory is wanted only for a key, a value or a bound that is a word of more than 24 bytes.
         ensures memory { IfErr result (λ e. e ≡ NoMemory → WantsMemory (byte_words_at Two table 64 line.now)) }
     {
-        match self.read(line) {
-            Ok((seat, cmd)) => self.call_command(line, seat, cmd),
-            Err(error) => Err(error),
-        }
+        let (seat, cmd) = self.read(line)?;
+        self.call_command(line, seat, cmd)
     }
 
     /// The seat and the command of a line.
@@ -100,10 +86,9 @@ impl Database {
         ensures called { (h : List Event) → StandsFor self.old h → Called h line.now self.old result self.new }
         ensures made { IfErr result IsNoReadError }
     {
-        match self.make(seat, cmd) {
-            Ok(()) => {}
-            Err(NoPosition) => return Err(CallError::Spent),
-        }
+        let Ok(()) = self.make(seat, cmd) else {
+            return Err(CallError::Spent);
+        };
         match self.echo(line) {
             Ok(()) => Ok(()),
             Err(_) => Err(CallError::Unwritten),
@@ -122,16 +107,6 @@ impl Database {
             None => Ok(()),
             Some(event) => write_echo(&mut self.text, line, event),
         }
-    }
-
-    /// Keeps an event as the last one, with no text yet.
-    pub(crate) fn keep(&mut self, event: Event)
-        ensures engine { self.new.engine ≡ self.old.engine }
-        ensures last { last_of self.new ≡ Some event }
-        ensures text { IsUnwritten self.new }
-    {
-        self.last = Some(event);
-        self.text.clear();
     }
 
     /// Writes the text of the last event, unless it is written.

@@ -25,16 +25,10 @@ use timestamps::row::Row;
 
 /// A place in a dump: behind the row of a key at a timestamp, or without a key behind all rows of the timestamp.
 /// It begins at 0.
+#[derive(Drop)]
 pub struct DumpPlace {
     pub ts: u64,
     pub key: Option<Key>,
-}
-
-// for the proof, which has no case for each form of its key where a place is dropped
-impl Drop for DumpPlace {
-    fn drop(self) {
-        let DumpPlace { ts: _, key: _ } = self;
-    }
 }
 
 /// A piece of a dump.
@@ -55,6 +49,9 @@ struct DumpEnd {
     to: u64,
     horizon: u64,
 }
+
+/// The place behind what was written, or none where the dump has ended.
+type Next = Result<Option<DumpPlace>, AllocError>;
 
 impl Database {
     /// A piece of the dump that rebuilds the database now, which closes at the greatest of `at`, closed and all that began.
@@ -100,13 +97,7 @@ impl Database {
     }
 
     /// Writes one text behind the place, and as many more as have room. It tells where the next piece begins.
-    fn put_texts(
-        &self,
-        text: &mut Vec<u8>,
-        end: DumpEnd,
-        place: DumpPlace,
-        room: usize,
-    ) -> Result<Option<DumpPlace>, AllocError>
+    fn put_texts(&self, text: &mut Vec<u8>, end: DumpEnd, place: DumpPlace, room: usize) -> Next
         requires { text.old.items ≡ [] }
         ensures { (h : List Event) → StandsFor self.now h → end.horizon ≡ horizon_of (effects_of h) → IfOk result (AreTexts (effects_of h) end room place text.new.items) }
     {
@@ -117,16 +108,9 @@ impl Database {
     }
 
     /// Writes as many texts behind the place as have room, and tells where the next piece begins.
-    fn put_more(
-        &self,
-        text: &mut Vec<u8>,
-        end: DumpEnd,
-        place: DumpPlace,
-        room: usize,
-    ) -> Result<Option<DumpPlace>, AllocError>
+    fn put_more(&self, text: &mut Vec<u8>, end: DumpEnd, mut place: DumpPlace, room: usize) -> Next
         ensures { (h : List Event) → StandsFor self.now h → end.horizon ≡ horizon_of (effects_of h) → IfOk result (λ next. (text.new.items, next) ≡ filled (effects_of h) end room text.old.items place) }
     {
-        let mut place = place;
         while text.len() <= room {
             let length_before = text.len();
             let next = self.put_next(text, end, &place)?;
@@ -144,12 +128,7 @@ impl Database {
 
     /// Writes the next text behind a place: the first row's, or where no row is left the last one. It tells the place of
     /// the row.
-    fn put_next(
-        &self,
-        text: &mut Vec<u8>,
-        end: DumpEnd,
-        place: &DumpPlace,
-    ) -> Result<Option<DumpPlace>, AllocError>
+    fn put_next(&self, text: &mut Vec<u8>, end: DumpEnd, place: &DumpPlace) -> Next
         ensures next { (h : List Event) → StandsFor self.now h → end.horizon ≡ horizon_of (effects_of h) → IfOk result (IsNextText (effects_of h) end place.now text.old.items text.new.items) }
         ensures more { IfOk result (λ next. IsSome next → length text.old.items < length text.new.items) }
     {
@@ -174,10 +153,7 @@ impl DumpPlace {
     fn transaction(&self) -> Option<u64>
         ensures { result ≡ open_at self.now }
     {
-        match &self.key {
-            None => None,
-            Some(_) => Some(self.ts),
-        }
+        self.key.as_ref().map(|_| self.ts)
     }
 }
 
@@ -186,10 +162,7 @@ impl DumpEnd {
     fn place(&self) -> Option<DumpPlace>
         ensures { result ≡ place_at_end self.now.to self.now.through }
     {
-        if self.through >= self.to {
-            return None;
-        }
-        Some(DumpPlace {
+        (self.through < self.to).then_some(DumpPlace {
             ts: self.through,
             key: None,
         })

@@ -1,10 +1,10 @@
 //! A database that is called by text, as programs in other languages call it: the line of a command goes in, the text
 //! of its event comes out. Or the command goes in as it is, and its answer comes out in numbers and bytes.
 //!
-//! It knows no C. The static library `ripsawbean` is the caller: it keeps one behind each handle, and has C's
-//! functions. A call reads its line, makes the command's step and keeps the event. The event's text is written after
-//! that, and copied out as often as it is asked for. A text may find no memory, or no room where it is copied to. That
-//! loses nothing: its event stays until the next call is made. So the calls of several lines end at such a text.
+//! The static library `ripsawbean` is the caller: it keeps one behind each handle, and has C's functions. A call reads
+//! its line, makes the command's step and keeps the event. The event's text is written after that, and copied out as
+//! often as it is asked for. A text may find no memory, or no room where it is copied to. That loses nothing: its event
+//! stays until the next call is made. So the calls of several lines end at such a text.
 //!
 //! 1. The engine stands for a legal history, whose positions run from 0 without a gap.
 //! 2. The last event is the newest of that history; there is none before the first call.
@@ -24,15 +24,12 @@
 //!
 //! Costs:
 //!
-//! - `new`: O(1)
+//! - `new`, `answer`, `last`: O(1); `copy_text`: the bytes copied
 //! - `call`: its line, the engine's step, and the text of its event
 //! - `call_lines`: the calls of the lines that are taken, and the bytes of their texts again
-//! - `make`: the engine's step
-//! - `make_within`: a look at what the answer would have, and the engine's step
-//! - `answer`, `last`: O(1)
+//! - `make`: the engine's step; `make_within`: also a look at what the answer would have
 //! - `copy_bytes`: the bytes copied, and all messages or rows
 //! - `write`: the text, where it isn't written; else O(1)
-//! - `copy_text`: the bytes copied
 //! - `state`, `held_by`: the transactions that are undecided, the protections and the feeds, with a search for each, and
 //!   its text, or those of the seat
 //! - `places`, `floor`: O(log n), where n is all that the database holds
@@ -43,7 +40,7 @@
 //! `call` takes memory for the keys and values of its line, by the engine's step, and for the text, which keeps its
 //! room; `call_lines` takes what its calls take. `make` takes it by the engine's step, and `make_within` also for its
 //! look; `write` for the text, `copy_bytes` for messages and rows, `versions_at` for keys of more than 24 bytes, and
-//! `state`, `held_by` and `dump_piece` for what they tell. `new`, `answer`, `last`, `copy_text`, `places` and `floor` take none.
+//! `state`, `held_by` and `dump_piece` for what they tell. The others take none.
 //!
 //! Tests: `embed/test`, `embed/random`, outside the gate.
 #![tactic(auto)]
@@ -54,7 +51,6 @@ mod dumping;
 mod event_record;
 mod held;
 mod message_bytes;
-mod places;
 mod several;
 mod state;
 mod typed;

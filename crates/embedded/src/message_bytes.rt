@@ -1,25 +1,23 @@
 //! Messages as bytes: a head of 17 bytes, and behind it the key and the value of a row. The rows of a scan are such
 //! messages too.
 
-ghost use Rattle.std.specs.Prelude.{◌≡◌, ◌++◌, ◌<◌, Some, length, OnOk, OnErr};
+ghost use Rattle.std.specs.Prelude.{◌≡◌, ◌++◌, ◌<◌, Some, true, is_some, length, OnOk, OnErr};
 ghost use Rattle.std.specs.List.{flat_map};
-ghost use Rattle.embedded.specs.Typed.{end_bytes, head, message_bytes, pair_bytes, row_bytes};
+ghost use Rattle.embedded.specs.Typed.{end_bytes, head, message_bytes, pair_bytes, row_bytes, rows_bytes, scan_of};
 
 use spans::bound::Bound;
-use spans::calls::Message;
+use spans::calls::{Cmd, Message};
 use std::alloc::AllocError;
 use timestamps::key::Key;
-use timestamps::row::Row;
 use timestamps::value::Value;
 
-/// A resolved timestamp.
+// The kinds: a resolved timestamp, a row with a value, a row of a delete, and the end of a scan.
 const RESOLVED: u8 = 0;
-/// A row with a value.
+
 const VALUE: u8 = 1;
-/// A row of a delete.
+
 const DELETE: u8 = 2;
 
-/// The end of a scan.
 const END: u8 = 3;
 
 /// Puts messages at the end, one behind another.
@@ -38,26 +36,37 @@ fn put_message(out: &mut Vec<u8>, message: &Message) -> Result<(), AllocError>
 {
     match message {
         Message::Resolved(at) => put_head(out, RESOLVED, at.get(), 0, 0),
-        Message::Row(row) => put_row(out, row),
+        Message::Row(row) => match &row.after {
+            Some(value) => put_pair(out, row.ts.get(), &row.key, value),
+            None => {
+                let key = row.key.bytes();
+                put_head(out, DELETE, row.ts.get(), key.len() as u32, 0)?;
+                out.extend_from_slice(key)
+            }
+        },
     }
 }
 
-fn put_row(out: &mut Vec<u8>, row: &Row) -> Result<(), AllocError>
-    ensures { OnOk result (out.new.items ≡ out.old.items ++ row_bytes row.now.ts row.now.key row.now.after) }
+/// Puts the rows of a scan, and its end.
+pub(crate) fn put_scan(
+    out: &mut Vec<u8>,
+    cmd: &Cmd,
+    rows: &[(Key, Value)],
+) -> Result<(), AllocError>
+    ensures bytes { OnOk result (out.new.items ≡ out.old.items ++ rows_bytes (scan_of cmd.now) rows.now) }
+    ensures memory { OnErr result (is_some (scan_of cmd.now) ≡ true) }
 {
-    let at = row.ts.get();
-    match &row.after {
-        Some(value) => put_pair(out, at, &row.key, value),
-        None => {
-            let key = row.key.bytes();
-            put_head(out, DELETE, at, key.len() as u32, 0)?;
-            out.extend_from_slice(key)
+    match cmd {
+        Cmd::Scan { ts: at, span } | Cmd::ScanAt { t: at, span } => {
+            put_rows(out, *at, rows)?;
+            put_end(out, *at, &span.hi)
         }
+        _ => Ok(()),
     }
 }
 
 /// Puts the rows of a scan, as rows of its timestamp.
-pub(crate) fn put_rows(out: &mut Vec<u8>, at: u64, rows: &[(Key, Value)]) -> Result<(), AllocError>
+fn put_rows(out: &mut Vec<u8>, at: u64, rows: &[(Key, Value)]) -> Result<(), AllocError>
     ensures { OnOk result (out.new.items ≡ out.old.items ++ flat_map (pair_bytes at) rows.now) }
 {
     for (key, value) in rows {
@@ -78,7 +87,7 @@ fn put_pair(out: &mut Vec<u8>, at: u64, key: &Key, value: &Value) -> Result<(), 
 }
 
 /// Puts the end of a scan, where its span has one.
-pub(crate) fn put_end(out: &mut Vec<u8>, at: u64, high: &Option<Bound>) -> Result<(), AllocError>
+fn put_end(out: &mut Vec<u8>, at: u64, high: &Option<Bound>) -> Result<(), AllocError>
     ensures { OnOk result (out.new.items ≡ out.old.items ++ end_bytes at high.now) }
 {
     let Some(high) = high else {

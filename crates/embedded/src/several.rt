@@ -12,7 +12,7 @@
 ghost use Rattle.std.specs.Prelude.{◌≡◌, ◌<◌, ◌≤◌, ◌⊎◌, List, Ok, false, length, IfOk, OnErr};
 ghost use Rattle.embedded.specs.Prelude.{Event, Two, command_at, command_line, effects_of, table};
 ghost use Rattle.embedded.specs.Embedded.{StandsFor, kept_text};
-ghost use Rattle.embedded.specs.Several.{HaveBeenCalled, IsLookedAt, IsTaken, IsTakenBy, IsShown, first_line, is_too_long};
+ghost use Rattle.embedded.specs.Several.{HaveBeenCalled, IsLookedAt, IsTaken, IsShown, first_line, is_too_long};
 
 use crate::database::{CallError, Database};
 use memchr::memchr;
@@ -129,31 +129,14 @@ impl Database {
                 length: 0,
                 status: TOO_LONG,
             }),
-            Ok(false) => self.take_call(line, seat, cmd, out),
-        }
-    }
-
-    /// The same of one whose answer isn't too long.
-    fn take_call(
-        &mut self,
-        line: &[u8],
-        seat: u8,
-        cmd: Cmd,
-        out: &mut [u8],
-    ) -> Result<Done, CallError>
-        requires seat { seat < 64 }
-        requires read { command_at Two table 64 line.now ≡ Ok (seat, cmd) }
-        requires spelled { line.now ≡ command_line seat cmd }
-        ensures taken { (h : List Event) → StandsFor self.old h → IsTakenBy h line.now self.old out.old out.new result self.new }
-        ensures room { IfOk result (λ done. (done.status ≡ 14) ⊎ (done.length ≤ length out.old)) }
-    {
-        match self.call_command(line, seat, cmd) {
-            Ok(()) => Ok(self.show(out)),
-            Err(CallError::Unwritten) => Ok(Done {
-                length: 0,
-                status: UNSHOWN,
-            }),
-            Err(error) => Err(error),
+            Ok(false) => match self.call_command(line, seat, cmd) {
+                Ok(()) => Ok(self.show(out)),
+                Err(CallError::Unwritten) => Ok(Done {
+                    length: 0,
+                    status: UNSHOWN,
+                }),
+                Err(error) => Err(error),
+            },
         }
     }
 

@@ -9,20 +9,16 @@
 //! write, copy_text                                            the event's text, as a line's call shows it
 //! ```
 
-ghost use Rattle.std.specs.Prelude.{◌≡◌, ◌<◌, ◌++◌, ◌==◌, List, false, is_some, length, true, OnOk, IfOk, OnErr};
-ghost use Rattle.std.specs.List.{flat_map};
+ghost use Rattle.std.specs.Prelude.{◌≡◌, ◌<◌, ◌==◌, List, false, length, OnOk, IfOk, OnErr};
 ghost use Rattle.embedded.specs.Prelude.{Copied, Event};
 ghost use Rattle.embedded.specs.Embedded.{StandsFor, HasKept, last_of};
-ghost use Rattle.embedded.specs.Typed.{MadeBy, HasBulk, IsBulk, is_read, numbers, refusal_numbers, reply_numbers, answer_of, end_bytes, pair_bytes, reply_bytes, rows_bytes, bytes_of, scan_of};
+ghost use Rattle.embedded.specs.Typed.{MadeBy, HasBulk, IsBulk, is_read, numbers, refusal_numbers, reply_numbers, answer_of, reply_bytes, bytes_of};
 
 use crate::database::Database;
-use crate::message_bytes::{put_end, put_messages, put_rows};
+use crate::message_bytes::{put_messages, put_scan};
 use json_lines::buffer::copy_front;
 use spans::calls::{Cmd, Event, Refusal, Reply};
-use spans::span::Span;
 use std::alloc::{AllocError, Global};
-use timestamps::key::Key;
-use timestamps::value::Value;
 
 /// No position is left: the next one would be 18446744073709551615. No call was made.
 #[derive(Clone, Copy, Debug)]
@@ -69,12 +65,13 @@ impl Database {
             return Err(NoPosition);
         }
         let reply = self.engine.step(seat, &cmd);
-        self.keep(Event {
+        self.last = Some(Event {
             position,
             seat,
             cmd,
             reply,
         });
+        self.text.clear();
         Ok(())
     }
 
@@ -173,41 +170,11 @@ fn copy_reply(alloc: Global, cmd: &Cmd, reply: &Reply, out: &mut [u8]) -> Result
             put_messages(&mut bytes, messages.as_slice())?;
             Ok(copy_front(bytes.as_slice(), out))
         }
-        Reply::Rows(rows) => copy_rows(alloc, cmd, rows.as_slice(), out),
+        Reply::Rows(rows) => {
+            let mut bytes = Vec::new(alloc);
+            put_scan(&mut bytes, cmd, rows.as_slice())?;
+            Ok(copy_front(bytes.as_slice(), out))
+        }
         _ => Ok(copy_front(b"", out)),
     }
-}
-
-/// Copies the rows of a scan, and its end.
-fn copy_rows(
-    alloc: Global,
-    cmd: &Cmd,
-    rows: &[(Key, Value)],
-    out: &mut [u8],
-) -> Result<usize, AllocError>
-    ensures ok { IfOk result (λ length. Copied (rows_bytes (scan_of cmd.now) rows.now) out.old out.new length) }
-    ensures err { OnErr result (out.new ≡ out.old) }
-    ensures memory { OnErr result (is_some (scan_of cmd.now) ≡ true) }
-{
-    match cmd {
-        Cmd::Scan { ts, span } => copy_scan(alloc, *ts, span, rows, out),
-        Cmd::ScanAt { t, span } => copy_scan(alloc, *t, span, rows, out),
-        _ => Ok(copy_front(b"", out)),
-    }
-}
-
-fn copy_scan(
-    alloc: Global,
-    at: u64,
-    span: &Span,
-    rows: &[(Key, Value)],
-    out: &mut [u8],
-) -> Result<usize, AllocError>
-    ensures ok { IfOk result (λ length. Copied (flat_map (pair_bytes at) rows.now ++ end_bytes at span.now.hi) out.old out.new length) }
-    ensures err { OnErr result (out.new ≡ out.old) }
-{
-    let mut bytes = Vec::new(alloc);
-    put_rows(&mut bytes, at, rows)?;
-    put_end(&mut bytes, at, &span.hi)?;
-    Ok(copy_front(bytes.as_slice(), out))
 }

@@ -12,7 +12,7 @@ returns-in-Ok-echo-clause-called c h held =
     let call = made h c.args.line.now (c.args.seat, c.args.cmd) c.make.new.self c.echo.new.self step c.echo.ensures.same c.requires.spelled c.requires.read in
     (call, c.in-Ok-echo.ensures.ok)
 
-pub returns-in-Err-echo-clause-called : goal.returns-in-Err-echo-clause-called
-returns-in-Err-echo-clause-called c h held =
+pub returns-in-Err-clause-called : goal.returns-in-Err-clause-called
+returns-in-Err-clause-called c h held =
     let step = c.in-Ok.ensures.made h held in
-    (made h c.args.line.now (c.args.seat, c.args.cmd) c.make.new.self c.echo.new.self step c.echo.ensures.same c.requires.spelled c.requires.read, c.in-Err-echo.ensures.err)
+    (made h c.args.line.now (c.args.seat, c.args.cmd) c.make.new.self c.echo.new.self step c.echo.ensures.same c.requires.spelled c.requires.read, c.in-Err.ensures.err)
