@@ -28,10 +28,8 @@ pub enum CallDenied {
 }
 
 impl Db {
-    /// Makes a call, once all calls with older tickets are over.
-    ///
-    /// `Spent` comes exactly where the next position would be 18446744073709551615, and at each
-    /// later call of this seat too. Whether the wait ends is not promised.
+    /// Makes a call, once all calls with older tickets are over. `Spent` comes exactly where the next position would be
+    /// 18446744073709551615, and at each later call of this seat too. Whether the wait ends is not promised.
     pub fn call<R: Wait>(&self, rt: &R, seat: &mut Seat, cmd: Cmd) -> Result<Event, Spent>
         requires own { IsOf self.now seat.old }
         ensures own { IsOf self.now seat.new }
@@ -42,15 +40,14 @@ impl Db {
         let mut event = unmade(cmd);
         match self.call_in_place(rt, seat, &mut event) {
             Ok(()) => Ok(event),
-            Err(_) => {
-                let (cmd, _) = event.into_parts();
-                Err(Spent { cmd })
-            }
+            Err(_) => Err(Spent {
+                cmd: event.into_parts().0,
+            }),
         }
     }
 
-    /// Makes the call of the event's command, and writes its position, seat and reply into the event. So a caller that
-    /// makes many calls moves no event. Where no position is left, the event stays as it was.
+    /// Makes the call of the event's command, and writes its position, seat and reply into the event: a caller that makes
+    /// many moves no event. Where no position is left, the event stays as it was.
     #[inline(always)]
     pub fn call_in_place<R: Wait>(
         &self,
@@ -64,18 +61,13 @@ impl Db {
         ensures event { OnOk result (IsAnswered (first_of self.now) seat.old event.old.cmd event.new seat.new) }
         ensures spent { OnErr result ((event.new ≡ event.old) × IsSpent seat.old seat.new) }
     {
-        match self.lock.turn(rt, seat) {
-            Ok(held) => {
-                self.make(seat, held, event);
-                Ok(())
-            }
-            Err(spent) => Err(spent),
-        }
+        let held = self.lock.turn(rt, seat)?;
+        self.make(seat, held, event);
+        Ok(())
     }
 
-    /// Makes a call, if no other has a turn or waits for one. It waits for nobody.
-    ///
-    /// `Spent` comes where the next position would be 18446744073709551615, and before `Busy`.
+    /// Makes a call, if no other has a turn or waits for one. It waits for nobody. `Spent` comes where the next position
+    /// would be 18446744073709551615, and before `Busy`.
     pub fn try_call(&self, seat: &mut Seat, cmd: Cmd) -> Result<Event, CallDenied>
         requires own { IsOf self.now seat.old }
         ensures own { IsOf self.now seat.new }
@@ -94,7 +86,7 @@ impl Db {
         }
     }
 
-    // Makes the step of a turn, and writes it into the event.
+    /// Makes the step of a turn, and writes it into the event.
     #[inline(always)]
     fn make(&self, seat: &mut Seat, mut held: Held<Served>, event: &mut Event)
         requires own { IsOwn self.now.lock seat.old }
@@ -112,7 +104,7 @@ impl Db {
     }
 }
 
-// An event whose call is still to be made.
+/// An event whose call is still to be made.
 fn unmade(cmd: Cmd) -> Event
     ensures { result.cmd ≡ cmd }
 {

@@ -13,16 +13,10 @@ use ticket_lock::TicketLock;
 use timestamps::oracle::{Oracle, OraclePass};
 
 /// A database that threads share by reference.
+#[derive(Drop)]
 pub struct Db {
     pub(crate) lock: TicketLock<Served>,
     pub(crate) oracle: Oracle,
-}
-
-// for the proof, which has no case for each part of it where a database is dropped
-impl Drop for Db {
-    fn drop(self) {
-        let Db { lock: _, oracle: _ } = self;
-    }
 }
 
 /// One caller of a database. At run time it is its number alone.
@@ -65,8 +59,7 @@ impl Db {
         Ok((Db { lock, oracle }, seats, passes))
     }
 
-    /// The engine, once all seats are back, in any order. It is refused exactly where a seat is
-    /// missing. It waits for nobody, and passes may be dropped before or after.
+    /// The engine, once all seats are back, in any order. It waits for nobody, and passes may be dropped before or after.
     pub fn finish(self, seats: Vec<Seat>) -> Result<Engine, SeatsMissing>
         requires own { AllOf self seats.items }
         ensures ok { IfOk result (λ engine. IsWhole self seats.items engine × (length seats.items ≡ seat_count self)) }
@@ -74,17 +67,11 @@ impl Db {
     {
         let Db { lock, oracle } = self;
         match lock.finish(seats) {
-            Ok(served) => {
-                let Served { engine } = served;
-                Ok(Box::into_inner(engine))
-            }
-            Err(missing) => {
-                let ticket_lock::SeatsMissing { lock, seats } = missing;
-                Err(SeatsMissing {
-                    db: Db { lock, oracle },
-                    seats,
-                })
-            }
+            Ok(Served { engine }) => Ok(Box::into_inner(engine)),
+            Err(ticket_lock::SeatsMissing { lock, seats }) => Err(SeatsMissing {
+                db: Db { lock, oracle },
+                seats,
+            }),
         }
     }
 }

@@ -27,10 +27,7 @@
 //! - `call`, `call_in_place`, where no other seat calls: seven. Two are on the ticket word, three on the serving word and
 //!   one on the floor word, and one looks at a bed
 //! - `try_call`: seven, or two or three where it is `Busy`
-//! - `floor`: one
-//! - `meet`: six
-//! - `draw`: two
-//! - `meet_passes`: five
+//! - `floor`: one; `meet`: six; `draw`: two; `meet_passes`: five
 //! - `open`, `finish`: some for each seat
 //!
 //! Only `open` and the engine's steps take memory, and only `call` and `call_in_place` wait.
