@@ -7,7 +7,6 @@
 //! Scan { 10, from "c", 2 rows, 99 bytes }                                    scan 10 c -      no bound: it has come to the end
 //! Poll { feed 1, 9 messages, 40 bytes }                  3 of 20 bytes left  poll 1 2
 //! ```
-
 ghost use Rattle.std.specs.Prelude.{◌≡◌, ◌<◌, List, IfOk, OnErr};
 ghost use Rattle.embedded.specs.Prelude.{Event, poll_count};
 ghost use Rattle.embedded.specs.Bounded.{MadeWithin, command_within, span_within};

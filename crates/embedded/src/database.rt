@@ -1,5 +1,4 @@
 //! The database, with the last event that was made.
-
 ghost use Rattle.std.specs.Prelude.{◌≡◌, ◌<◌, ◌≤◌, List, [], Ok, Some, IfErr, IfOk, OnOk, OnErr};
 ghost use Rattle.embedded.specs.Prelude.{Copied, Event, Two, WantsMemory, byte_words_at, command_at, command_line, table};
 ghost use Rattle.embedded.specs.declared.database.CallError.TheVariants.{NoMemory};
@@ -53,9 +52,8 @@ impl Database {
         }
     }
 
-    /// Makes the call of a line, with its newline, by one of 64 seats: a line of format two.
-    ///
-    /// After `Fault`, `NoMemory` and `Spent` all is as it was, the last text too.
+    /// Makes the call of a line, with its newline, by one of 64 seats: a line of format two. After `Fault`, `NoMemory` and
+    /// `Spent` all is as it was, the last text too.
     pub fn call(&mut self, line: &[u8]) -> Result<(), CallError>
         ensures called { (h : List Event) → StandsFor self.old h → Called h line.now self.old result self.new }
         // Memory is wanted only for a key, a value or a bound that is a word of more than 24 bytes.

@@ -9,7 +9,6 @@
 //! 20 a    99        40     0 commit 20\n0 close 20\n0 collect 0\n        35                 none
 //! 0       15        99     0 begin 10\n .. 0 commit 10\n                 49                 15
 //! ```
-
 ghost use Rattle.std.specs.Prelude.{◌≡◌, ◌++◌, ◌<◌, ◌≤◌, List, [], IfOk, IsSome, OnOk, length};
 ghost use Rattle.timestamps.specs.declared.ts.TheConstants.{MAX};
 ghost use Rattle.embedded.specs.Prelude.{Event, effects_of, horizon_of, mark_of, row_text};

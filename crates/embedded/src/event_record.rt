@@ -8,7 +8,6 @@
 //! 2 1 openinitial - - 0 => opened 1      2          1      16           0    13 opened     1        0
 //! 3 1 collect 9 => collected 5 7         3          1      14 collect   9    12 collected  5        7
 //! ```
-
 ghost use Rattle.std.specs.Prelude.{◌≡◌, None};
 ghost use Rattle.embedded.specs.Embedded.{last_of};
 ghost use Rattle.embedded.specs.Typed.{command_number, first_number, record_of};

@@ -6,7 +6,6 @@
 //! held_by 1     30, 2, a transaction     4, 20, a feed     1, 15, a protection
 //! held_by 2                                                1, 15, a protection
 //! ```
-
 ghost use Rattle.std.specs.Prelude.{List, IfOk, map, filter, ◌==◌, ◌≡◌};
 ghost use Rattle.embedded.specs.Prelude.{Event, FeedReport, TransactionReport};
 ghost use Rattle.embedded.specs.Embedded.{StandsFor};

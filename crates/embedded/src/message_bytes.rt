@@ -1,6 +1,5 @@
 //! Messages as bytes: a head of 17 bytes, and behind it the key and the value of a row. The rows of a scan are such
 //! messages too.
-
 ghost use Rattle.std.specs.Prelude.{◌≡◌, ◌++◌, ◌<◌, Some, true, is_some, length, OnOk, OnErr};
 ghost use Rattle.std.specs.List.{flat_map};
 ghost use Rattle.embedded.specs.Typed.{end_bytes, head, message_bytes, pair_bytes, row_bytes, rows_bytes, scan_of};
@@ -11,13 +10,13 @@ use std::alloc::AllocError;
 use timestamps::key::Key;
 use timestamps::value::Value;
 
-// The kinds: a resolved timestamp, a row with a value, a row of a delete, and the end of a scan.
+/// A resolved timestamp.
 const RESOLVED: u8 = 0;
-
+/// A row with a value.
 const VALUE: u8 = 1;
-
+/// A row of a delete.
 const DELETE: u8 = 2;
-
+/// The end of a scan.
 const END: u8 = 3;
 
 /// Puts messages at the end, one behind another.

@@ -8,7 +8,6 @@
 //! 0 put 10 a 1\n                0, 26 bytes            1 0 put 10 a 1 => written\n
 //! 0 scan 10 - -\n               25, 0 bytes            (more than 18 bytes of rows, where 18 are let through)
 //! ```
-
 ghost use Rattle.std.specs.Prelude.{◌≡◌, ◌<◌, ◌≤◌, ◌⊎◌, List, Ok, false, length, IfOk, OnErr};
 ghost use Rattle.embedded.specs.Prelude.{Event, Two, command_at, command_line, effects_of, table};
 ghost use Rattle.embedded.specs.Embedded.{StandsFor, kept_text};
@@ -19,10 +18,8 @@ use memchr::memchr;
 use spans::calls::Cmd;
 use std::alloc::AllocError;
 
-/// The status of a line whose call was made, and whose text isn't shown.
 const UNSHOWN: u8 = 14;
 
-/// The status of a line whose answer would be too long.
 const TOO_LONG: u8 = 25;
 
 /// The outcome of one line of several.

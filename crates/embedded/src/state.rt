@@ -1,5 +1,4 @@
 //! What an operator may ask of a database, without a call: its state as text, and how far it has come.
-
 ghost use Rattle.std.specs.Prelude.{List, IfOk, ◌≡◌};
 ghost use Rattle.embedded.specs.Prelude.{ArePlaces, Event, effects_of, feed_floor};
 ghost use Rattle.embedded.specs.Embedded.{StandsFor};

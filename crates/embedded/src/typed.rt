@@ -8,7 +8,6 @@
 //! make 0 Scan { 10, from "a" below "c" }    9, 1              a row as such a message, and one that ends at "c"
 //! write, copy_text                                            the event's text, as a line's call shows it
 //! ```
-
 ghost use Rattle.std.specs.Prelude.{◌≡◌, ◌<◌, ◌==◌, List, false, length, OnOk, IfOk, OnErr};
 ghost use Rattle.embedded.specs.Prelude.{Copied, Event};
 ghost use Rattle.embedded.specs.Embedded.{StandsFor, HasKept, last_of};
@@ -49,9 +48,8 @@ impl Answer {
 }
 
 impl Database {
-    /// Makes the call of a seat's command, 0 to 63. The event's text is written when it is asked for.
-    ///
-    /// After `NoPosition` all is as it was, the last text too.
+    /// Makes the call of a seat's command, 0 to 63. The event's text is written when it is asked for. After `NoPosition`
+    /// all is as it was, the last text too.
     pub fn make(&mut self, seat: u8, cmd: Cmd) -> Result<(), NoPosition>
         requires seat { seat < 64 }
         ensures made { (h : List Event) → StandsFor self.old h → MadeBy h seat cmd self.old result self.new }

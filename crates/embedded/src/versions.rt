@@ -9,7 +9,6 @@
 //! 30   1 0 a  0 0                30           1       KeyLength: the second key has no byte
 //! 30   1 0 a  2 0 b              30           1       KeyLength: the bytes end within the second key
 //! ```
-
 ghost use Rattle.std.specs.Prelude.{List, MatchOption, IfOk, OnErr, length, drop, ◌≡◌, ◌+◌, ◌<◌, ◌≤◌};
 ghost use Rattle.embedded.specs.Prelude.{Event, effects_of, horizon_of, value_version};
 ghost use Rattle.embedded.specs.Embedded.{StandsFor};
