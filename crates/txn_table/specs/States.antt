@@ -24,10 +24,6 @@ decided outcome n = record n { state = state_after outcome }
 abbrev pub first_ending : ℕ → Ending
 first_ending seat = record { seat = seat; outcome = outcomes.Committed }
 
--- the ending, which became this one
-abbrev pub ended_so : Outcome → Ending → Ending
-ended_so outcome e = record e { outcome = outcome }
-
 -- the transaction that ended so
 abbrev pub ended : Ending → Transaction
 ended e = record { seat = e.seat; state = state_after e.outcome }

@@ -25,10 +25,9 @@ impl Ending {
     pub(crate) fn standing(&self) -> (u8, State)
         ensures { result ≡ (self.now.seat, state_after self.now.outcome) }
     {
-        let state = match self.outcome {
-            Outcome::Committed => State::Committed,
-            Outcome::Aborted => State::Aborted,
-        };
-        (self.seat, state)
+        match self.outcome {
+            Outcome::Committed => (self.seat, State::Committed),
+            Outcome::Aborted => (self.seat, State::Aborted),
+        }
     }
 }

@@ -21,9 +21,8 @@
 //! - `begin`, `greatest`: O(log n)
 //! - `standing`: O(log u), and O(log n) where none is undecided there
 //! - `decide`: O(log u), and O(log n) unless an undecided one commits
-//! - `oldest_undecided`: O(log u)
+//! - `oldest_undecided`: O(log u); `undecided`: O(1)
 //! - `undecided_through`: O(log u), and the timestamps that are read, in turn
-//! - `undecided`: O(1)
 //! - `forget_through`: O(log n) for each transaction that goes, and for the first that stays
 //!
 //! `begin` takes memory for a place in each map, and none where the timestamp has a transaction. The other calls take
@@ -32,7 +31,6 @@
 //! Tests: `layer_tests`, by the rules that use it.
 #![tactic(auto)]
 
-mod changes;
 mod ending;
 mod txns;
 mod undecided;

@@ -4,14 +4,14 @@ ghost use Rattle.std.specs.List.Sorted.{IsStrictlyIncreasing};
 ghost use Rattle.txn_table.specs.Prelude.{IsOldest, Transaction, is_open};
 ghost use Rattle.kept.specs.Lists.{AreThose, IsNumberOf};
 ghost use Rattle.txn_table.specs.States.{begun, decided};
-ghost use Rattle.txn_table.specs.TransactionIn.{transaction_in, IsGreatest, IsSetAt};
+ghost use Rattle.txn_table.specs.TransactionIn.{found, transaction_in, IsGreatest, IsSetAt};
 
-use crate::changes::{begin_at, decide_at, drop_through};
 use crate::ending::{Ending, Outcome};
 use crate::undecided::Undecided;
 use spans::state::State;
 use std::alloc::{AllocError, Global};
 use std::collections::BTreeMap;
+use std::collections::btree_map::Entry;
 use std::marker::Model;
 use timestamps::ts::Ts;
 use timestamps::ts_key::TsKey;
@@ -45,15 +45,25 @@ impl Txns {
         }
     }
 
-    /// Begins a transaction of a seat, unless there is one of `ts`, and answers whether it did. It takes
-    /// no memory where there is one; where it is out of memory, nothing has begun.
+    /// Begins a transaction of a seat, unless there is one of `ts`, and answers whether it did.
     pub fn begin(&mut self, ts: Ts, seat: u8) -> Result<bool, AllocError>
         ensures new { IfOk result (λ new. new ≡ is_none (transaction_in self.old ts)) }
         ensures ok { OnOk result (IsSetAt self.old self.new ts (begun seat)) }
         ensures err { OnErr result (self.new ≡ self.old) }
         ensures free { OnErr result (transaction_in self.old ts ≡ None) }
     {
-        begin_at(&mut self.undecided, &mut self.endings, ts.get(), seat)
+        let ts = TsKey(ts.get());
+        match self.endings.entry(ts)? {
+            Entry::Occupied(_) => Ok(false),
+            Entry::Vacant(place) => {
+                self.undecided.insert(ts, seat)?;
+                place.insert(Ending {
+                    seat,
+                    outcome: Outcome::Committed,
+                });
+                Ok(true)
+            }
+        }
     }
 
     /// The seat that began the transaction of `ts`, and how it stands.
@@ -63,37 +73,39 @@ impl Txns {
         if let Some(seat) = self.undecided.get(&TsKey(ts)) {
             return Some((*seat, State::Undecided));
         }
-        match self.endings.get(&TsKey(ts)) {
-            None => None,
-            Some(ending) => Some(ending.standing()),
-        }
+        let ending = self.endings.get(&TsKey(ts))?;
+        Some(ending.standing())
     }
 
-    /// Ends the transaction of `ts`, where there is one. It takes no memory.
+    /// Ends the transaction of `ts`, where there is one.
     pub fn decide(&mut self, ts: Ts, outcome: Outcome)
         ensures { IsSetAt self.old self.new ts (option_map (decided outcome)) }
     {
-        decide_at(&mut self.undecided, &mut self.endings, ts.get(), outcome);
+        let ts = TsKey(ts.get());
+        let was_undecided = self.undecided.remove(&ts).is_some();
+        if was_undecided && outcome == Outcome::Committed {
+            // its ending says so already
+            return;
+        }
+        if let Some(ending) = self.endings.get_mut(&ts) {
+            ending.outcome = outcome;
+        }
     }
 
     /// The least timestamp that is undecided.
     pub fn oldest_undecided(&self) -> Option<u64>
         ensures { IsOldest (transaction_in self.now) result }
     {
-        match self.undecided.first_key_value() {
-            None => None,
-            Some((oldest, _)) => Some(oldest.0),
-        }
+        let (oldest, _) = self.undecided.first_key_value()?;
+        Some(oldest.0)
     }
 
     /// The greatest timestamp that has a transaction.
     pub fn greatest(&self) -> Option<u64>
         ensures { IsGreatest self.now result }
     {
-        match self.endings.last_key_value() {
-            None => None,
-            Some((greatest, _)) => Some(greatest.0),
-        }
+        let (greatest, _) = self.endings.last_key_value()?;
+        Some(greatest.0)
     }
 
     /// How many transactions are undecided.
@@ -109,15 +121,28 @@ impl Txns {
         ensures rising { IsStrictlyIncreasing result }
         ensures fits { length result < 2 ^ 63 }
     {
-        Undecided::of(self.undecided.range(..=TsKey(to)))
+        Undecided {
+            seats: self.undecided.range(..=TsKey(to)),
+        }
     }
 
-    /// Forgets the transactions at or below `ts`, undecided ones too. It takes no memory.
+    /// Forgets the transactions at or below `ts`, undecided ones too.
     pub fn forget_through(&mut self, ts: u64)
-        ensures { (i : ℕ) → transaction_in self.new i
-            ≡ (if nat_lt ts i then transaction_in self.old i else None) }
+        ensures { (i : ℕ) → transaction_in self.new i ≡ (if nat_lt ts i then transaction_in self.old i else None) }
     {
         drop_through(&mut self.undecided, ts);
         drop_through(&mut self.endings, ts);
+    }
+}
+
+/// Drops what is at or below `ts`.
+fn drop_through<V: Drop>(map: &mut BTreeMap<TsKey, V>, ts: u64)
+    ensures { (i : ℕ) → found map.new.entries i ≡ (if nat_lt ts i then found map.old.entries i else None) }
+{
+    while let Some((first, _)) = map.first_key_value() {
+        if first.0 > ts {
+            break;
+        }
+        map.pop_first();
     }
 }

@@ -1,7 +1,6 @@
 //! The iterator over undecided timestamps.
-ghost use Rattle.std.specs.Prelude.{◌≡◌, length};
+ghost use Rattle.std.specs.Prelude.{length};
 ghost use Rattle.std.specs.Iterator.{at_most};
-ghost use Rattle.std.specs.Map.{keys_of};
 ghost use Rattle.std.specs.Map.Iter.{TakesFirst, deref};
 
 use std::collections::btree_map::Range;
@@ -12,7 +11,7 @@ use timestamps::ts_key::TsKey;
 /// Undecided timestamps, rising, each as it is asked for.
 #[derive(Drop)]
 pub struct Undecided<'a> {
-    seats: Range<'a, TsKey, u8>,
+    pub(crate) seats: Range<'a, TsKey, u8>,
 }
 
 impl<'a> Model for Undecided<'a> {
@@ -24,15 +23,6 @@ impl<'a> Model for Undecided<'a> {
     ghost view = { λ u. keys_of u.seats };
 }
 
-impl<'a> Undecided<'a> {
-    /// Those of a part of the small map.
-    pub(crate) fn of(seats: Range<'a, TsKey, u8>) -> Undecided<'a>
-        ensures { result ≡ keys_of seats.entry }
-    {
-        Undecided { seats }
-    }
-}
-
 impl<'a> Iterator for Undecided<'a> {
     type Item = &'a TsKey;
 
@@ -42,9 +32,7 @@ impl<'a> Iterator for Undecided<'a> {
 
     #[inline]
     fn next(&mut self) -> Option<&'a TsKey> {
-        match self.seats.next() {
-            None => None,
-            Some((ts, _)) => Some(ts),
-        }
+        let (ts, _) = self.seats.next()?;
+        Some(ts)
     }
 }

@@ -1,6 +1,17 @@
+use Rattle.std.proofs.Common.{arith}
+use Rattle.std.proofs.lemmas.Grind.{common_steps}
 use Rattle.txn_table.proofs.Standing.{begins}
 use Rattle.txn_table.proofs.txns.Txns.begin.Goals as goal
 
 pub invariant_of-self : goal.invariant_of-self
-invariant_of-self c = let made = c.begin_at.ensures in
-    begins c.begin_at.result (record { undecided = c.self.inside.undecided.entries; endings = c.self.inside.endings.entries }) (record { undecided = c.begin_at.new.undecided.entries; endings = c.begin_at.new.endings.entries }) c.get.result c.args.seat c.self.invariant made.new made.undecided made.endings made.err
+invariant_of-self c = λ i. grind (arith, common_steps, c.self.invariant i)
+
+pub invariant_of-self-in-Occupied : goal.invariant_of-self-in-Occupied
+invariant_of-self-in-Occupied c = λ i. grind (arith, common_steps, c.self.invariant i)
+
+pub invariant_of-self-in_err-insert-in-Vacant : goal.invariant_of-self-in_err-insert-in-Vacant
+invariant_of-self-in_err-insert-in-Vacant c = λ i. grind (arith, common_steps, c.self.invariant i)
+
+pub invariant_of-self-in-Vacant : goal.invariant_of-self-in-Vacant
+invariant_of-self-in-Vacant c =
+    begins c.self.inside.undecided.entries c.insert.new.self.entries c.self.inside.endings.entries _ c.get.result c.self.invariant c.args.seat (λ i. grind (arith, common_steps)) (λ i. grind (arith, common_steps))
