@@ -10,9 +10,6 @@ use Rattle.read_marks.proofs.Raising.{Entries, forgotten_gone, step-written}
 pub low_alike : (es fs : Entries) → ((x : List ℕ) → step_at (reaches x) 0 fs ≡ step_at (reaches x) 0 es) → AreLow es → AreLow fs
 low_alike es fs same low x = subst (λ n. n ≤ 18446744073709551615) (sym (same x)) (low x)
 
-either : (t : Bool) (a b : ℕ) → a ≤ 18446744073709551615 → b ≤ 18446744073709551615 → cond t a b ≤ 18446744073709551615
-either t a b first second = grind (arith, common_steps)
-
 pub low_raised : (p : List ℕ → Bool) (ts : ℕ) (es fs : Entries) → fs ≡ raised p ts es → ts ≤ 18446744073709551615 → AreLow es → AreLow fs
 low_raised p ts es fs is new low x = let old = low x in let now = step-written p (reaches x) (λ v. max v ts) false 0 es in grind (arith, common_steps)
 

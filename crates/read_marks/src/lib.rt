@@ -21,8 +21,7 @@
 //!
 //! Costs, with m readers of a key and n starts:
 //!
-//! - `any_between`: O(log m)
-//! - `note`: O(log m), and the readers above the gap move
+//! - `any_between`: O(log m); `note`: the same, and the readers above the gap move
 //! - `latest`: O(log n)
 //! - `raise`: O(log n) for each start from the span's lower bound to its upper one
 //! - `forget_through`: O(log m) and a move of those that stay; of spans O(log n) for each start

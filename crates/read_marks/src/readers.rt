@@ -7,7 +7,7 @@ use smallvec::SmallVec;
 use std::alloc::{AllocError, Global};
 use timestamps::binary_search::BinarySearch;
 
-/// So many readers lie in place. Most keys have no more, and then none takes memory.
+/// So many readers lie in place: most keys have no more.
 const IN_PLACE: usize = 2;
 
 /// The timestamps of those that read a key.
@@ -17,8 +17,7 @@ pub struct Readers {
     pub ghost rising: { IsNonDecreasing list.items },
 }
 
-/// Takes out what stands between two places. Mostly that is nothing. The places are compared first, since a drain of
-/// nothing costs too.
+/// Takes out what stands between two places. Mostly that is nothing, and a drain of nothing costs too.
 #[inline(always)]
 fn cut(list: &mut SmallVec<u64, IN_PLACE>, from: usize, to: usize)
     requires rises { from ≤ to }
@@ -34,7 +33,7 @@ fn cut(list: &mut SmallVec<u64, IN_PLACE>, from: usize, to: usize)
 impl Readers {
     ghost use Rattle.read_marks.specs.Readers.{SplitsAt, has_room, is_kept, is_reader, readers_of};
 
-    /// No readers. It takes no memory, and the first two take none.
+    /// No readers.
     pub fn new(alloc: Global) -> Readers
         ensures { readers_of result ≡ [] }
     {
@@ -54,8 +53,7 @@ impl Readers {
         Readers { list }
     }
 
-    /// How many readers are at or below a timestamp. The latest is asked first: for a gap without an end it tells that
-    /// all are.
+    /// How many readers are at or below a timestamp. The latest is asked first, since a gap without an end has all.
     fn count_through(&self, ts: u64) -> usize
         ensures splits { SplitsAt (readers_of self.now) ts result }
         ensures bound { result ≤ length (readers_of self.now) }
@@ -147,8 +145,8 @@ impl Readers {
         self.merge(ts, above, until)
     }
 
-    /// The readers up to `through` go where they are half, which the one in the middle tells, and then there is room. They
-    /// don't go at each note, since the others move.
+    /// The readers up to `through` go where they are half, which the one in the middle tells: not at each note, since the
+    /// others move. Then there is room.
     fn trim(&mut self, through: u64)
         ensures kept { (j : ℕ) → is_kept through (readers_of self.new) j ≡ is_kept through (readers_of self.old) j }
         ensures room { has_room self.old → has_room self.new }

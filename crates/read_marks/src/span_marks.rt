@@ -2,17 +2,13 @@
 ghost use Rattle.std.specs.Prelude.{◌≡◌, ℕ, List, [], Some, bytes_eq, true, IfOk, OnOk, OnErr, IsTrue, false, length, max, nat_le, unwrap_or, if◌then◌else◌};
 ghost use Rattle.std.specs.BTreeMap.{IsOrdered, get};
 ghost use Rattle.std.specs.Map.{keys_of};
-ghost use Rattle.std.specs.Range.Bound.{bound_map};
-ghost use Rattle.std.specs.declared.ops.Bound.TheVariants.{Included};
 ghost use Rattle.timestamps.specs.Bytes.{key_cmp};
 ghost use Rattle.spans.specs.Keys.{in_span};
 ghost use Rattle.spans.proofs.WriteSets.{has};
 ghost use Rattle.read_marks.specs.Starts.{AreLow};
 
-mod ends;
 mod joining;
 
-use self::ends::{ends_of, keys_between, runs_forward};
 use spans::span::Span;
 use std::alloc::{AllocError, Global};
 use std::collections::BTreeMap;
@@ -30,7 +26,7 @@ pub struct SpanMarks {
 }
 
 impl SpanMarks {
-    ghost use Rattle.read_marks.specs.Spans.{IsEnd, IsStart, KeepsLatest, RunsForward, latest_in, lent, raised, starts_in};
+    ghost use Rattle.read_marks.specs.Spans.{IsEnd, IsStart, KeepsLatest, RunsForward, is_between, latest_in, lent, raised, starts_in};
 
     pub fn new(alloc: Global) -> SpanMarks
         ensures { (x : List ℕ) → latest_in result x ≡ 0 }
@@ -56,10 +52,8 @@ impl SpanMarks {
         if self.starts.is_empty() {
             return 0;
         }
-        let mut below = self
-            .starts
-            .range((Bound::Unbounded, Bound::Included(place)));
-        match below.next_back() {
+        let below = (Bound::Unbounded, Bound::Included(place));
+        match self.starts.range(below).next_back() {
             None => 0,
             Some((_, latest)) => *latest,
         }
@@ -93,13 +87,6 @@ impl SpanMarks {
         }
     }
 
-    /// For the proof: starts rise, as the keys of every map do.
-    fn see_order(&self)
-        ensures { IsOrdered key_cmp self.now.starts }
-    {
-        self.starts.len();
-    }
-
     /// The starts from `lo` on, and below `hi` where that is given.
     fn starts_between(
         &self,
@@ -110,8 +97,9 @@ impl SpanMarks {
         ensures those { IfOk result (λ starts. starts.items ≡ keys_of (starts_in lo.now (lent hi.entry) self.now.starts.entries)) }
         ensures ordered { IsOrdered key_cmp self.now.starts }
     {
+        let end = hi.map_or(Bound::Unbounded, Bound::Excluded);
         let mut starts = Vec::new(self.alloc);
-        for (start, _) in self.starts.range(keys_between(lo, hi)) {
+        for (start, _) in self.starts.range((Bound::Included(lo), end)) {
             starts.push(start.copy()?)?;
         }
         Ok(starts)
@@ -122,27 +110,50 @@ impl SpanMarks {
         ensures { self.new.starts.entries ≡ raised (λ start. has start starts.now) ts self.old.starts.entries }
     {
         for start in starts {
-            self.raise_at(start, ts);
+            if let Some(latest) = self.starts.get_mut(start) {
+                *latest = (*latest).max(ts);
+            }
         }
     }
 
-    /// The latest reader from one start on rises to `ts`.
-    fn raise_at(&mut self, start: &SmallBytes, ts: u64)
-        ensures { self.new.starts.entries ≡ raised (λ x. bytes_eq start.now x) ts self.old.starts.entries }
+    /// The start of a span, and its end if it has one. `least` has no byte: a span without a lower bound begins there.
+    fn ends_of<'a>(
+        span: &'a Span,
+        least: &'a SmallBytes,
+    ) -> (&'a SmallBytes, Option<&'a SmallBytes>)
+        requires { least.now ≡ [] }
+        ensures low { result.0.now ≡ unwrap_or span.now.lo [] }
+        ensures high { lent result.1 ≡ span.now.hi }
     {
-        if let Some(latest) = self.starts.get_mut(start) {
-            *latest = (*latest).max(ts);
+        let lo = match &span.lo {
+            None => least,
+            Some(lo) => lo.as_small_bytes(),
+        };
+        match &span.hi {
+            None => (lo, None),
+            Some(hi) => (lo, Some(hi.as_small_bytes())),
         }
     }
 
-    /// `ts` reads the keys of the span. Neighbours with the same reader are joined.
+    /// Whether there is a place from `lo` on and below `hi`.
+    fn runs_forward(lo: &SmallBytes, hi: Option<&SmallBytes>) -> bool
+        ensures forward { result ≡ true → RunsForward lo.now (lent hi.entry) }
+        ensures backward { result ≡ false → (x : List ℕ) → is_between lo.now (lent hi.entry) x ≡ false }
+    {
+        match hi {
+            None => true,
+            Some(hi) => lo.cmp(hi).is_lt(),
+        }
+    }
+
+    /// `ts` reads the keys of the span.
     pub fn raise(&mut self, span: &Span, ts: u64) -> Result<(), AllocError>
         ensures ok { OnOk result ((x : List ℕ) → latest_in self.new x ≡ (if in_span span.now x then max (latest_in self.old x) ts else latest_in self.old x)) }
         ensures err { OnErr result ((x : List ℕ) → latest_in self.new x ≡ latest_in self.old x) }
     {
         let least = SmallBytes::empty();
-        let (lo, hi) = ends_of(span, &least);
-        if !runs_forward(lo, hi) {
+        let (lo, hi) = Self::ends_of(span, &least);
+        if !Self::runs_forward(lo, hi) {
             return Ok(());
         }
         self.split_ends(lo, hi)?;
@@ -152,16 +163,8 @@ impl SpanMarks {
         Ok(())
     }
 
-    /// Readers up to `through` go. It walks all starts, and takes no memory, but for the copy of a long start.
+    /// Readers up to `through` go.
     pub fn forget_through(&mut self, through: u64)
-        ensures { (x : List ℕ) → latest_in self.new x ≡ (if nat_le (latest_in self.old x) through then 0 else latest_in self.old x) }
-    {
-        self.forget_each(through);
-        self.join(&SmallBytes::empty(), None);
-    }
-
-    /// The latest reader from each start on goes where it is forgotten.
-    fn forget_each(&mut self, through: u64)
         ensures { (x : List ℕ) → latest_in self.new x ≡ (if nat_le (latest_in self.old x) through then 0 else latest_in self.old x) }
     {
         self.starts.retain(|_, latest| {
@@ -170,6 +173,8 @@ impl SpanMarks {
             }
             true
         });
+        let least = SmallBytes::empty();
+        self.join(&least, None);
     }
 
     /// How many starts there are.

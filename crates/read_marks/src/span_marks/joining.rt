@@ -1,6 +1,6 @@
 //! The joining of starts whose latest reader is that of the start before.
-ghost use Rattle.std.specs.Prelude.{◌≡◌, IsTrue, Some};
-ghost use Rattle.std.specs.BTreeMap.{get};
+ghost use Rattle.std.specs.Prelude.{◌≡◌};
+ghost use Rattle.std.specs.BTreeMap.{IsOrdered};
 ghost use Rattle.timestamps.specs.Bytes.{key_cmp};
 
 use super::SpanMarks;
@@ -12,30 +12,21 @@ impl SpanMarks {
 
     /// The latest reader just below a start, or 0.
     fn latest_below(&self, start: &SmallBytes) -> u64
-        ensures { result ≡ latest_below self.now start.now }
+        ensures latest { result ≡ latest_below self.now start.now }
+        ensures ordered { IsOrdered key_cmp self.now.starts }
     {
-        let mut below = self
-            .starts
-            .range((Bound::Unbounded, Bound::Excluded(start)));
-        match below.next_back() {
+        let below = (Bound::Unbounded, Bound::Excluded(start));
+        match self.starts.range(below).next_back() {
             None => 0,
             Some((_, latest)) => *latest,
         }
-    }
-
-    /// Whether a start has the reader of the one before it.
-    fn is_repeated(&self, start: &SmallBytes) -> bool
-        ensures { IsTrue result → get key_cmp self.now.starts start.now ≡ Some (latest_below self.now start.now) }
-    {
-        self.starts.get(start).copied() == Some(self.latest_below(start))
     }
 
     /// Joins a start with the one before it, where both have the same reader.
     fn join_at(&mut self, start: &SmallBytes)
         ensures { KeepsLatest self.old self.new }
     {
-        self.see_order();
-        if self.is_repeated(start) {
+        if self.starts.get(start).copied() == Some(self.latest_below(start)) {
             self.starts.remove(start);
         }
     }

@@ -8,10 +8,10 @@ returns-then-is_empty c = rw (nil_from_length c.args.self.now.starts.entries (c.
 
 pub returns-in-None : goal.returns-in-None
 returns-in-None c =
-    let first = ComeFirst-reached nat_list_cmp_total c.args.place.now c.args.self.now.starts.entries c.range-below.ensures.ordered in
-    sym (step_at-none _ 0 c.args.self.now.starts.entries _ first (c.range-below.ensures.between tt) c.in-None.ensures.steps.0)
+    let first = ComeFirst-reached nat_list_cmp_total c.args.place.now c.args.self.now.starts.entries c.range.ensures.ordered in
+    sym (step_at-none _ 0 c.args.self.now.starts.entries _ first (c.range.ensures.between tt) c.in-None.ensures.steps.0)
 
 pub returns-in-Some : goal.returns-in-Some
 returns-in-Some c =
-    let first = ComeFirst-reached nat_list_cmp_total c.args.place.now c.args.self.now.starts.entries c.range-below.ensures.ordered in
-    sym (step_at-last _ 0 c.args.self.now.starts.entries _ c.next_back.new.self (c.in-Some.field-0-0.now, c.in-Some.latest.now) first (c.range-below.ensures.between tt) c.in-Some.ensures.steps)
+    let first = ComeFirst-reached nat_list_cmp_total c.args.place.now c.args.self.now.starts.entries c.range.ensures.ordered in
+    sym (step_at-last _ 0 c.args.self.now.starts.entries _ c.next_back.new.self (c.in-Some.field-0-0.now, c.in-Some.latest.now) first (c.range.ensures.between tt) c.in-Some.ensures.steps)
