@@ -2,16 +2,13 @@
 use Rattle.std.proofs.Common.{arith}
 use Rattle.std.proofs.lemmas.Grind.{common_steps}
 use Rattle.std.proofs.Common.{rules}
-use Rattle.std.proofs.Common.{◌≡◌, ℕ, ◌==◌, Bool, cond, false, List, [], ◌∷◌, Option, Some, None, Result, Ok, Err, true, sym, ◌∙◌, ap, subst}
-use Rattle.std.specs.Prelude.{is_none, OnOk, OnErr}
+use Rattle.std.proofs.Common.{◌≡◌, ℕ, ◌==◌, cond, List, [], ◌∷◌, Option, Some, None, Result, Ok, Err, ◌∙◌, ap}
+use Rattle.std.specs.Prelude.{OnOk, OnErr}
 use Rattle.spans.proofs.Steps.{by_test, same_key}
 use Rattle.version_chain.specs.declared.chain.Version.{Version}
 use Rattle.version_chain.specs.Versions.{version_of}
-use Rattle.version_chain.specs.declared.chains.Placed.{Placed}
-use Rattle.version_chain.specs.declared.chains.Placed.TheVariants.{New, Over}
-use Rattle.version_chain.specs.Marking.{IsCrossedIn}
 use Rattle.version_chain.specs.Chains.{Stored, chain_of, found_in, HaveSameChains, IsChangedAt}
-use Rattle.version_chain.specs.Records.{IsPlacedIn, IsPut}
+use Rattle.version_chain.specs.Records.{IsPut}
 
 -- what became of the versions of one key
 abbrev pub IsEdited : List Version → List Version → ℕ → (Option Version → Option Version) → Type 0
@@ -43,8 +40,3 @@ put_nothing s s' x vs empty none put y = search (by_test, same_key, rules, arith
 pub by_result : {A E P : Type 0} (r : Result A E) → OnOk r P → OnErr r P → P
 by_result (Ok x) ok err = ok
 by_result (Err x) ok err = err
-
--- a version was put where no reader crosses it
-pub placed_as : (s s' : Stored) (x : List ℕ) (v : Version) (new : Bool) (p : Placed) → p ≡ cond new New Over → new ≡ is_none (found_in s x v.ts) → (IsCrossedIn s x v.ts → ⊥) → IsChangedAt s s' x v.ts (λ _. Some v) → IsPlacedIn s s' x v p
-placed_as s s' x v true p is new free change = subst (IsPlacedIn s s' x v) (sym is) (free, sym new, change)
-placed_as s s' x v false p is new free change = subst (IsPlacedIn s s' x v) (sym is) (free, sym new, change)

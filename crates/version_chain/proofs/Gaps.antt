@@ -24,9 +24,6 @@ pub newest_of : (vs : List Version) (t : ℕ) (o : Option Version) → IfSome o 
 newest_of vs t None some none = ap (λ v. v.ts) (newest_only (afters_of vs) t 0 None (grind (arith, common_steps)))
 newest_of vs t (Some v) some one = ap (λ v. v.ts) (newest_only (afters_of vs) t v.ts v.after (grind (arith, common_steps)))
 
-pub both_ways_to : {A B C : Type 0} → A ↔ B → B ↔ C → A ↔ C
-both_ways_to f g = (λ a. g.0 (f.0 a), λ c. f.1 (g.1 c))
-
 -- ---- a read in its gap
 
 pub match_copied : {X : Type 0} (P : Type 0) (Q : X → Type 0) (o : Option (Bor X)) → MatchOption o P (λ v. Q v.now) → MatchOption (option_copied o) P Q

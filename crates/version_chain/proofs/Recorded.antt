@@ -2,11 +2,11 @@
 use Rattle.version_chain.proofs.Common.{IsCrossed, IsNumberedAt, IsOwn, IsPiece, Numbered, SpanMarks, both_ways, by_test, common_steps, is_kept, is_reader, key_itself, latest_in, length-set, nat_tests, number_in, readers_of, same_key}
 use Rattle.std.proofs.Common.{rules}
 use Rattle.std.proofs.Common.{◌≡◌, ℕ, ◌<◌, ◌≤◌, ◌==◌, Bool, true, false, cond, ◌&&◌, List, [], ◌∷◌, length, Option, Some, None, refl, sym, ◌∙◌, ap, subst, arith, nat_lt, max}
-use Rattle.std.specs.Prelude.{◌↔◌, IsTrue, bytes_eq, slice_index_or, slice_set}
+use Rattle.std.specs.Prelude.{◌↔◌, IsTrue, bytes_eq, is_none, slice_index_or, slice_set}
 use Rattle.version_chain.specs.declared.record.Record.{Record}
 use Rattle.version_chain.specs.declared.chain.Version.{Version}
-use Rattle.version_chain.specs.Versions.{afters_of}
-use Rattle.version_chain.specs.Chains.{Stored, chain_of, marked_in, HaveSameChains, HaveSameMarks, IsChangedAt}
+use Rattle.version_chain.specs.Versions.{afters_of, version_of}
+use Rattle.version_chain.specs.Chains.{Stored, chain_of, found_in, marked_in, HaveSameChains, HaveSameMarks, IsChangedAt}
 use Rattle.version_chain.proofs.Changes.{IsEdited, changed}
 use Rattle.version_chain.specs.Marking.{IsCrossedIn, IsMarkedAt}
 use Rattle.version_chain.proofs.Gaps.{crossed_like, lone_crosses, none_crosses, piece_alike}
@@ -40,17 +40,20 @@ module _ (ns : Numbered) (rs : List Record) (spans : SpanMarks) (f : ℕ) (x : L
   marks_nowhere none j = marked_is ns rs spans f x j ∙ ap (λ o. is_kept f (at_number (readers_in rs) (latest_in spans x ∷ []) o) j) none
 
   -- what its record tells of a write of x
-  pub crossed_here : (n : ℕ) (r : Record) (t u : ℕ) (told : Bool) → IsHere ns rs x n r → u ≡ t → IsTrue told ↔ IsCrossed (is_kept f (readers_of r.readers)) (afters_of r.chain) u → IsTrue told ↔ IsCrossedIn s x t
-  crossed_here n r t u told h at is = grind (arith, common_steps, crossed_like, chain_here, marks_here)
+  pub crossed_here : (n : ℕ) (r : Record) (t : ℕ) (told : Bool) → IsHere ns rs x n r → IsTrue told ↔ IsCrossed (is_kept f (readers_of r.readers)) (afters_of r.chain) t → IsTrue told ↔ IsCrossedIn s x t
+  crossed_here n r t told h is = grind (arith, common_steps, crossed_like, chain_here, marks_here)
 
-  pub free_here : (n : ℕ) (r : Record) (t u : ℕ) (told : Bool) → IsHere ns rs x n r → u ≡ t → IsTrue told ↔ IsCrossed (is_kept f (readers_of r.readers)) (afters_of r.chain) u → told ≡ false → IsCrossedIn s x t → ⊥
-  free_here n r t u told h at is off crossed = both_ways _ off ((crossed_here n r t u told h at is).1 crossed)
-
-  pub crossed_nowhere : (t latest : ℕ) → number_in ns x ≡ None → latest ≡ latest_in spans x → max t f < latest → IsCrossedIn s x t
+  crossed_nowhere : (t latest : ℕ) → number_in ns x ≡ None → latest ≡ latest_in spans x → max t f < latest → IsCrossedIn s x t
   crossed_nowhere t latest none is over = (crossed_like s x t f [] (latest_in spans x ∷ []) (chain_nowhere none) (marks_nowhere none)).0 (lone_crosses (latest_in spans x) t f (subst (λ l. max t f < l) is over))
 
-  pub free_nowhere : (t latest : ℕ) → number_in ns x ≡ None → latest ≡ latest_in spans x → latest ≤ max t f → IsCrossedIn s x t → ⊥
+  free_nowhere : (t latest : ℕ) → number_in ns x ≡ None → latest ≡ latest_in spans x → latest ≤ max t f → IsCrossedIn s x t → ⊥
   free_nowhere t latest none is low c = none_crosses (latest_in spans x) t f (subst (λ l. l ≤ max t f) is low) ((crossed_like s x t f [] (latest_in spans x ∷ []) (chain_nowhere none) (marks_nowhere none)).1 c)
+
+  -- and what the spans tell, where it has none
+  pub told_nowhere : (t latest most : ℕ) → number_in ns x ≡ None → latest ≡ latest_in spans x → most ≡ max t f → IsTrue (nat_lt most latest) ↔ IsCrossedIn s x t
+  told_nowhere t latest most none is at = by_test (nat_lt most latest)
+      (λ on. (λ _. crossed_nowhere t latest none is (let over : most < latest = grind (arith, nat_tests) in omega arith), λ _. on))
+      (λ off. (λ on. absurd (both_ways _ off on), λ crossed. absurd (free_nowhere t latest none is (let low : latest ≤ most = grind (arith, nat_tests) in omega arith) crossed)))
 
 -- ---- a record takes its place
 
@@ -98,6 +101,18 @@ module _ (ns : Numbered) (rs : List Record) (spans : SpanMarks) (f : ℕ) (x : L
   -- what became of x's versions became of the store
   pub edited_here : (t : ℕ) (g : Option Version → Option Version) → IsEdited r.chain q.chain t g → IsChangedAt (stored ns rs spans f) (stored ns (slice_set rs n q) spans f) x t g
   edited_here t g edit = changed (stored ns rs spans f) (stored ns (slice_set rs n q) spans f) x q.chain t g changed_chain (subst (λ us. IsEdited us q.chain t g) (sym (chain_here ns rs spans f x n r h)) edit)
+
+  -- a version was written, where none stood or over one
+  pub written_here : (v w : Version) (told b : Bool) → v ≡ w → told ≡ is_none (version_of r.chain v.ts) → told ≡ b → IsEdited r.chain q.chain v.ts (λ _. Some v)
+      → (is_none (found_in (stored ns rs spans f) x w.ts) ≡ b) × IsChangedAt (stored ns rs spans f) (stored ns (slice_set rs n q) spans f) x w.ts (λ _. Some w)
+  written_here v w told b same found is edit = (
+    ap (λ vs. is_none (version_of vs w.ts)) (chain_here ns rs spans f x n r h) ∙ ap (λ (u : Version). is_none (version_of r.chain u.ts)) (sym same) ∙ sym found ∙ is,
+    subst (λ (u : Version). IsChangedAt (stored ns rs spans f) (stored ns (slice_set rs n q) spans f) x u.ts (λ _. Some u)) same (edited_here v.ts (λ _. Some v) edit),
+  )
+
+-- what was told of a write
+pub not_crossed : (s : Stored) (x : List ℕ) (t u : ℕ) (told : Bool) → u ≡ t → IsTrue told ↔ IsCrossedIn s x u → told ≡ false → IsCrossedIn s x t → ⊥
+not_crossed s x t u told at is off crossed = both_ways _ off (is.1 (subst (IsCrossedIn s x) (sym at) crossed))
 
 pub low_set : (ns : Numbered) (rs : List Record) (n : ℕ) (q : Record) → AreLow ns (length rs) → AreLow ns (length (slice_set rs n q))
 low_set ns rs n q low x m is = (let l : m < length rs = low x m is in omega (arith, length-set rs n q))

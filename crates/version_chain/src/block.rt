@@ -2,7 +2,7 @@
 ghost use Rattle.std.specs.Prelude.{◌≡◌, ◌<◌, ◌≤◌, ◌^◌, ◌++◌, [], drop, length, take, not};
 ghost use Rattle.std.specs.List.{filter};
 ghost use Rattle.version_chain.specs.declared.chain.Version.{Version};
-ghost use Rattle.version_chain.specs.Blocks.{AreNumbered, IsBlockOf, IsSound, all_in};
+ghost use Rattle.version_chain.specs.Blocks.{AreNumbered, IsBlockOf, all_in};
 ghost use Rattle.version_chain.specs.Dead.{is_dead_version};
 
 use crate::chain::Version;
@@ -47,13 +47,17 @@ pub(crate) fn number_from(blocks: &mut Vec<Block>, first: usize, start: usize)
     }
 }
 
-// Makes two blocks of one, from which on they are then to be numbered. Where that runs out of memory the one stays.
-fn halve(blocks: &mut Vec<Block>, k: usize) -> Result<(), AllocError>
+/// Makes two blocks of one that has become too full, from which on they are then to be numbered. Where that runs out of
+/// memory the one stays.
+pub(crate) fn halve_full(blocks: &mut Vec<Block>, k: usize) -> Result<(), AllocError>
     requires { k < length blocks.old.items }
     ensures versions { all_in blocks.new.items ≡ all_in blocks.old.items }
     ensures before { take k blocks.new.items ≡ take k blocks.old.items }
     ensures some { k < length blocks.new.items }
 {
+    if blocks[k].versions.len() <= FULL {
+        return Ok(());
+    }
     blocks.reserve(1)?;
     let lower = &mut blocks[k].versions;
     let versions = lower.split_off(lower.len() / 2)?;
@@ -63,22 +67,6 @@ fn halve(blocks: &mut Vec<Block>, k: usize) -> Result<(), AllocError>
         unreachable!()
     };
     Ok(())
-}
-
-/// Halves a block that has become too full, if there is memory for that, and numbers those from it on. Those before it
-/// are numbered, and hold `start` versions.
-pub(crate) fn halve_full(blocks: &mut Vec<Block>, k: usize, start: usize)
-    requires block { k < length blocks.old.items }
-    requires before { AreNumbered (take k blocks.old.items) }
-    requires start { start ≡ length (all_in (take k blocks.old.items)) }
-    requires few { length (all_in blocks.old.items) < 2 ^ 64 }
-    ensures versions { all_in blocks.new.items ≡ all_in blocks.old.items }
-    ensures sound { IsSound blocks.new.items }
-{
-    if blocks[k].versions.len() > FULL {
-        let _ = halve(blocks, k);
-    }
-    number_from(blocks, k, start);
 }
 
 /// Takes a block out that has become empty, unless it is the only one. Those from its place on are then to be numbered.

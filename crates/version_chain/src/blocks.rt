@@ -52,7 +52,6 @@ impl Blocks {
         Ok(Blocks { blocks })
     }
 
-    /// How many there are.
     pub(crate) fn len(&self) -> usize
         ensures { result ≡ length self.now }
     {
@@ -62,7 +61,6 @@ impl Blocks {
         }
     }
 
-    /// The one at a place.
     pub(crate) fn at(&self, place: usize) -> &Version
         requires { place < length self.now }
         ensures { result.now ≡ slice_index_or self.now place result.now }
@@ -71,7 +69,6 @@ impl Blocks {
         &block.versions[place - block.start]
     }
 
-    /// Puts one in the place of another.
     pub(crate) fn set(&mut self, place: usize, version: Version)
         requires { place < length self.old }
         ensures { self.new ≡ slice_set self.old place version }
@@ -81,7 +78,6 @@ impl Blocks {
         block.versions[place - block.start] = version;
     }
 
-    /// Marks the one at a place as committed.
     pub(crate) fn commit(&mut self, place: usize)
         requires { place < length self.old }
         ensures { (d : Version) → self.new ≡ slice_set self.old place (as_committed (slice_index_or self.old place d)) }
@@ -91,7 +87,6 @@ impl Blocks {
         block.versions[place - block.start].committed = true;
     }
 
-    /// Puts one in at a place.
     pub(crate) fn insert(&mut self, place: usize, version: Version) -> Result<(), AllocError>
         requires { place ≤ length self.old }
         ensures ok { OnOk result (self.new ≡ insert self.old place version) }
@@ -105,11 +100,11 @@ impl Blocks {
         let block = &mut self.blocks[k];
         let start = block.start;
         block.versions.insert(place - start, version)?;
-        halve_full(&mut self.blocks, k, start);
+        let _ = halve_full(&mut self.blocks, k);
+        number_from(&mut self.blocks, k, start);
         Ok(())
     }
 
-    /// Takes the one at a place out.
     pub(crate) fn remove(&mut self, place: usize)
         requires { place < length self.old }
         ensures { self.new ≡ remove self.old place }

@@ -44,8 +44,7 @@ impl Version {
         })
     }
 
-    /// Whether it is dead by the horizon, where `top` is the timestamp of the newest committed version of
-    /// its key at or below that.
+    /// Whether it is dead by the horizon, where `top` is the timestamp of the newest committed version at or below that.
     pub(crate) fn is_dead_by(&self, horizon: u64, top: u64) -> bool
         ensures { result ≡ is_dead_version horizon top self.now }
     {
@@ -127,8 +126,8 @@ impl Chain {
         len
     }
 
-    /// The version with the greatest timestamp at or below `t`. It reads at most as many timestamps as
-    /// the length has binary digits.
+    /// The version with the greatest timestamp at or below `t`. Like the next two it reads at most as many timestamps as the
+    /// length has binary digits.
     pub fn newest_at(&self, t: u64, steps: &mut Steps) -> Option<&Version>
         ensures version { MatchOption result (IsNoneUpTo self.now t) (λ v. IsNewestOf self.now t v.now) }
         ensures steps { (d : ℕ) → length self.now < 2 ^ d → steps.new.count ≤ steps.old.count + d }
@@ -137,8 +136,7 @@ impl Chain {
         self.before(place)
     }
 
-    /// The version with the least timestamp above `t`. It reads at most as many timestamps as the
-    /// length has binary digits.
+    /// The version with the least timestamp above `t`.
     pub fn next_above(&self, t: u64, steps: &mut Steps) -> Option<&Version>
         ensures version { MatchOption result (IsNoneAbove self.now t) (λ v. IsLeastAbove self.now t v.now) }
         ensures steps { (d : ℕ) → length self.now < 2 ^ d → steps.new.count ≤ steps.old.count + d }
@@ -147,8 +145,7 @@ impl Chain {
         self.at(place)
     }
 
-    /// The newest version at or below `t` and the next one above it, by one search. It reads at most as many
-    /// timestamps as the length has binary digits.
+    /// The newest version at or below `t` and the next one above it, by one search.
     pub fn around(&self, t: u64, steps: &mut Steps) -> (Option<&Version>, Option<&Version>)
         ensures newest { MatchOption result.0 (IsNoneUpTo self.now t) (λ v. IsNewestOf self.now t v.now) }
         ensures next { MatchOption result.1 (IsNoneAbove self.now t) (λ v. IsLeastAbove self.now t v.now) }
@@ -158,7 +155,6 @@ impl Chain {
         (self.before(place), self.at(place))
     }
 
-    /// The version before a place, if there is one.
     fn before(&self, place: usize) -> Option<&Version>
         requires { place ≤ length self.now }
         ensures { (t : ℕ) → IsPlaceAbove self.now t place → MatchOption result (IsNoneUpTo self.now t) (λ v. IsNewestOf self.now t v.now) }
@@ -169,7 +165,6 @@ impl Chain {
         Some(self.version(place - 1))
     }
 
-    /// The version at a place, if there is one.
     fn at(&self, place: usize) -> Option<&Version>
         requires { place ≤ length self.now }
         ensures { (t : ℕ) → IsPlaceAbove self.now t place → MatchOption result (IsNoneAbove self.now t) (λ v. IsLeastAbove self.now t v.now) }
@@ -180,7 +175,6 @@ impl Chain {
         Some(self.version(place))
     }
 
-    /// No version. It takes no memory.
     pub(crate) fn none(alloc: Global) -> Chain
         ensures { result ≡ [] }
     {
@@ -188,15 +182,16 @@ impl Chain {
         Chain { versions }
     }
 
-    /// A chain of one version.
+    /// A chain of one version, with room for no more.
     pub(crate) fn of(alloc: Global, version: Version) -> Result<Chain, AllocError>
         ensures { IfOk result (λ chain. chain ≡ version ∷ []) }
     {
-        let versions = Versions::of(alloc, version)?;
+        let mut versions = Vec::with_capacity(alloc, 1)?;
+        versions.push_reserved(version);
+        let versions = Versions::Short(versions);
         Ok(Chain { versions })
     }
 
-    /// Whether there is no version.
     pub(crate) fn is_empty(&self) -> bool
         ensures { IsTrue result ↔ (self.now ≡ []) }
     {
@@ -217,12 +212,10 @@ impl Chain {
         Ok(place - 1)
     }
 
-    /// Puts a version in its place, in which one of the same timestamp may stand, and says whether
-    /// none did.
+    /// Puts a version in its place, in which one of the same timestamp may stand, and says whether none did.
     pub(crate) fn write(&mut self, version: Version) -> Result<bool, AllocError>
         ensures new { IfOk result (λ new. new ≡ is_none (version_of self.old version.ts)) }
-        ensures ok { OnOk result ((i : ℕ) →
-            version_of self.new i ≡ (if version.ts == i then Some version else version_of self.old i)) }
+        ensures ok { OnOk result ((i : ℕ) → version_of self.new i ≡ (if version.ts == i then Some version else version_of self.old i)) }
         ensures err { OnErr result (self.new ≡ self.old) }
     {
         match self.place_of(version.ts.get()) {
@@ -239,8 +232,7 @@ impl Chain {
 
     /// Marks the version of `ts`, where there is one, as committed.
     pub(crate) fn commit(&mut self, ts: u64)
-        ensures { (i : ℕ) → version_of self.new i
-            ≡ (if ts == i then option_map as_committed (version_of self.old i) else version_of self.old i) }
+        ensures { (i : ℕ) → version_of self.new i ≡ (if ts == i then option_map as_committed (version_of self.old i) else version_of self.old i) }
     {
         if let Ok(place) = self.place_of(ts) {
             self.versions.commit(place);
@@ -272,8 +264,7 @@ impl Chain {
         0
     }
 
-    /// Drops the versions that are dead by the horizon, takes their key out of the index at their
-    /// timestamps, and says how many they are.
+    /// Drops the versions that are dead by the horizon, takes their key out of the index there, and says how many they are.
     pub(crate) fn drop_dead(&mut self, horizon: u64, key: &Key, index: &mut Index) -> u64
         ensures left { self.new ≡ filter (λ (v : Version). not (is_dead_version horizon (newest_of self.old horizon) v)) self.old }
         ensures count { result ≡ length (filter (is_dead_version horizon (newest_of self.old horizon)) self.old) }

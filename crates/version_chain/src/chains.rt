@@ -1,16 +1,15 @@
-//! All keys, each with a record of its chain and its readers: found, written, committed, removed and dropped by key, and
-//! marked for a reader by key or by span. A key without a record has the latest reader of all of these.
-ghost use Rattle.std.specs.Prelude.{◌≡◌, ◌↔◌, ℕ, List, [], Some, None, MatchOption, IfOk, OnOk, OnErr, IsTrue, is_some, is_none, option_map, true, false, bytes_eq, ◌&&◌, if◌then◌else◌, ◌<◌, ◌≤◌, ◌-◌, length, nat_lt, vec_len, vec_capacity};
+//! The records of all keys: found, written, committed, removed and dropped by key, and marked for a reader by key or by span.
+ghost use Rattle.std.specs.Prelude.{◌≡◌, ◌↔◌, ℕ, List, [], Some, None, MatchOption, IfOk, OnOk, OnErr, IfSome, IsTrue, is_some, is_none, option_map, true, false, bytes_eq, ◌&&◌, if◌then◌else◌, ◌<◌, ◌≤◌, ◌-◌, length, nat_lt, vec_len, vec_capacity};
 ghost use Rattle.std.specs.List.{filter};
 ghost use Rattle.std.specs.Option.{option_copied};
-ghost use Rattle.version_chain.specs.Prelude.{RisingKeys, key_lt, latest_in, number_in};
+ghost use Rattle.version_chain.specs.Prelude.{IsOwn, RisingKeys, key_lt, latest_in, number_in};
 ghost use Rattle.version_chain.specs.declared.chain.Version.{Version};
 ghost use Rattle.version_chain.specs.declared.record.Record.{Record};
 ghost use Rattle.version_chain.specs.Versions.{as_committed, IsNoneUpTo, IsNewestOf, IsNoneAbove, IsLeastAbove};
 ghost use Rattle.version_chain.specs.Chains.{found_in, chain_of, AreChangedAt, HaveSameChains, HaveSameMarks, IsChangedAt, marked_in};
 ghost use Rattle.version_chain.specs.Stores.{is_committed_in, version_in, IsCommittedAt, IsCountOf};
 ghost use Rattle.version_chain.specs.Marking.{AreMarkedAt, IsCrossedIn, IsMarkedAt};
-ghost use Rattle.version_chain.specs.ByNumber.{AreLow, IsPlaced};
+ghost use Rattle.version_chain.specs.ByNumber.{AreLow, IsPlaced, chains_in, readers_in};
 ghost use Rattle.version_chain.specs.InSpans.{AreFound};
 ghost use Rattle.version_chain.specs.Dead.{is_dead_in, IsThinnedAt};
 ghost use Rattle.version_chain.specs.Indexes.{is_listed, AreTakenAlike};
@@ -18,9 +17,7 @@ ghost use Rattle.version_chain.specs.Indexes.{is_listed, AreTakenAlike};
 use crate::chain::{Chain, Version};
 use crate::in_span::{InSpan, numbers_in};
 use crate::index::Index;
-use crate::noting::{make_room, note_each};
 use crate::record::Record;
-use crate::spot::Spot;
 use crate::steps::Steps;
 use key_set::Keys;
 use key_table::KeyTable;
@@ -35,30 +32,23 @@ use timestamps::value::Value;
 // Fewer records that came or lost their last version since the last sweep bring no other. So many take up to 2 MB.
 const LEAST_SWEEP: usize = 16_384;
 
-/// What a write did to the chain of its key.
+/// The place of a key's record, or that there was none, which `around` tells and `mark` takes. It is tried and never
+/// believed, so a wrong one costs a search and nothing else.
+#[derive(Clone, Copy)]
+pub struct Spot {
+    pub(crate) number: Option<usize>,
+}
+
+/// What a write did: nothing, since a reader above it has read the version below it; its version came; or it took the
+/// place of one.
 #[derive(Drop)]
 pub(crate) enum Placed {
-    /// Nothing: a reader above it has read the version below it.
     Crossed,
-    /// Its version came.
     New,
-    /// Its version took the place of one.
     Over,
 }
 
-impl Placed {
-    ghost use Rattle.version_chain.specs.declared.chains.Placed.TheVariants.{New, Over};
-
-    /// A version that came where there was none, or else took the place of one.
-    fn of(new: bool) -> Placed
-        ensures { result ≡ (if new then New else Over) }
-    {
-        if new { Placed::New } else { Placed::Over }
-    }
-}
-
-/// The keys that have a version, or were read by themselves, or were read while they had one: each with its record. Any other
-/// key has no version, and of its readers the latest alone is kept, by spans.
+/// The keys that have a record, and of all others the latest reader, by spans.
 #[derive(Drop)]
 pub(crate) struct Chains {
     alloc: Global,
@@ -74,9 +64,8 @@ pub(crate) struct Chains {
 }
 
 impl Chains {
-    ghost use Rattle.version_chain.specs.Records.{AreSwept, HasNoRecord, IsNumberOf, IsPlacedIn, IsPut, IsRecordOf, IsSweptFrom, MayGo, stored_of};
+    ghost use Rattle.version_chain.specs.Records.{AreNoted, AreSwept, HasNoRecord, HaveRoom, IsNumberOf, IsPlacedIn, IsPut, IsRecordOf, IsSweptFrom, MayGo, stored_of};
 
-    /// No record.
     pub(crate) fn new(alloc: Global) -> Chains
         ensures found { (x : List ℕ) (i : ℕ) → found_in (stored_of result) x i ≡ None }
         ensures marks { (x : List ℕ) (j : ℕ) → marked_in (stored_of result) x j ≡ false }
@@ -92,7 +81,7 @@ impl Chains {
     }
 
     /// The record of a key, where it has one, and its number.
-    fn record(&self, key: &Key) -> Option<(usize, &Record)>
+    pub(crate) fn record(&self, key: &Key) -> Option<(usize, &Record)>
         ensures { MatchOption result (HasNoRecord self.now key.now) (λ r. IsRecordOf self.now key.now r.1.now) }
     {
         let number = self.keys.number_of(key)?;
@@ -101,62 +90,20 @@ impl Chains {
 
     /// The version of the key with the greatest timestamp at or below `t`.
     pub(crate) fn newest_at(&self, key: &Key, t: u64) -> Option<&Version>
-        ensures { MatchOption result (IsNoneUpTo (chain_of (stored_of self.now) key.now) t)
-            (λ v. IsNewestOf (chain_of (stored_of self.now) key.now) t v.now) }
+        ensures { MatchOption result (IsNoneUpTo (chain_of (stored_of self.now) key.now) t) (λ v. IsNewestOf (chain_of (stored_of self.now) key.now) t v.now) }
     {
-        match self.record(key) {
-            None => None,
-            Some((_, record)) => record.chain.newest_at(t, &mut Steps::new()),
-        }
+        let (_, record) = self.record(key)?;
+        record.chain.newest_at(t, &mut Steps::new())
     }
 
-    /// The version of the key with the least timestamp above `t`.
-    pub(crate) fn next_above(&self, key: &Key, t: u64) -> Option<&Version>
-        ensures { MatchOption result (IsNoneAbove (chain_of (stored_of self.now) key.now) t)
-            (λ v. IsLeastAbove (chain_of (stored_of self.now) key.now) t v.now) }
-    {
-        match self.record(key) {
-            None => None,
-            Some((_, record)) => record.chain.next_above(t, &mut Steps::new()),
-        }
-    }
-
-    /// The version of the key with the greatest timestamp at or below `t`, and the one with the least above `t`; and where
-    /// the key's record is.
-    pub(crate) fn around(&self, key: &Key, t: u64) -> (Option<&Version>, Option<&Version>, Spot)
-        ensures newest { MatchOption result.0 (IsNoneUpTo (chain_of (stored_of self.now) key.now) t)
-            (λ v. IsNewestOf (chain_of (stored_of self.now) key.now) t v.now) }
-        ensures next { MatchOption result.1 (IsNoneAbove (chain_of (stored_of self.now) key.now) t)
-            (λ v. IsLeastAbove (chain_of (stored_of self.now) key.now) t v.now) }
-    {
-        match self.record(key) {
-            None => (None, None, Spot { number: None }),
-            Some((number, record)) => {
-                let (newest, next) = record.chain.around(t, &mut Steps::new());
-                let spot = Spot {
-                    number: Some(number),
-                };
-                (newest, next, spot)
-            }
-        }
-    }
-
-    /// The version of the key at `ts`, where it is committed.
-    pub(crate) fn committed_at(&self, key: &Key, ts: u64) -> Option<&Version>
-        ensures { MatchOption result (is_committed_in (stored_of self.now) key.now ts ≡ false) (λ v. IsCommittedAt (stored_of self.now) key.now ts v.now) }
-    {
-        let version = self.newest_at(key, ts)?;
-        if version.ts.get() != ts || !version.committed {
-            return None;
-        }
-        Some(version)
-    }
-
-    /// The keys of the span that have a version, rising, each with its chain. It goes straight to the first.
+    /// The keys of the span that have a version, rising, each with its chain.
     pub(crate) fn in_span<'a>(&'a self, span: &'a Span) -> InSpan<'a>
         ensures { AreFound span.now (stored_of self.now).entries result }
     {
-        InSpan::of(numbers_in(&self.keys, span), &self.records)
+        InSpan {
+            numbers: numbers_in(&self.keys, span),
+            records: &self.records,
+        }
     }
 
     /// Adds a record of this chain. Its readers begin with the latest of the spans.
@@ -202,39 +149,30 @@ impl Chains {
         ensures free { OnErr result (IsCrossedIn (stored_of self.old) key.now ts → ⊥) }
         ensures marks { HaveSameMarks (stored_of self.old) (stored_of self.new) }
     {
-        match self.keys.number_of(key) {
-            None => self.write_first(key, ts, after),
-            Some(number) => {
-                if self.records[number].is_crossed(ts.get(), self.forgotten) {
-                    return Ok(Placed::Crossed);
-                }
-                let version = Version::undecided(ts, after)?;
-                let new = self.records[number].chain.write(version)?;
-                Ok(Placed::of(new))
-            }
-        }
-    }
-
-    /// The same for a key without a record.
-    fn write_first(
-        &mut self,
-        key: &Key,
-        ts: Ts,
-        after: Option<&Value>,
-    ) -> Result<Placed, AllocError>
-        requires new { number_in self.old.keys key.now ≡ None }
-        ensures ok { IfOk result (IsPlacedIn (stored_of self.old) (stored_of self.new) key.now (record { ts = ts; after = option_copied after.entry; committed = false })) }
-        ensures err { OnErr result (HaveSameChains (stored_of self.old) (stored_of self.new)) }
-        ensures free { OnErr result (IsCrossedIn (stored_of self.old) key.now ts → ⊥) }
-        ensures marks { HaveSameMarks (stored_of self.old) (stored_of self.new) }
-    {
-        if self.spans.latest(key) > ts.get().max(self.forgotten) {
+        let number = self.keys.number_of(key);
+        if self.is_crossed(key, number, ts.get()) {
             return Ok(Placed::Crossed);
         }
         let version = Version::undecided(ts, after)?;
-        let chain = Chain::of(self.alloc, version)?;
-        let _ = self.add(key, chain)?;
-        Ok(Placed::New)
+        let Some(number) = number else {
+            let chain = Chain::of(self.alloc, version)?;
+            let _ = self.add(key, chain)?;
+            return Ok(Placed::New);
+        };
+        let new = self.records[number].chain.write(version)?;
+        Ok(if new { Placed::New } else { Placed::Over })
+    }
+
+    /// Whether a reader above `t` has read the version of the key below it. The number is the key's, where it has one.
+    fn is_crossed(&self, key: &Key, number: Option<usize>, t: u64) -> bool
+        requires number { number ≡ number_in self.now.keys key.now }
+        requires own { IfSome number (λ n. IsOwn self.now.keys key.now n) }
+        ensures { IsTrue result ↔ IsCrossedIn (stored_of self.now) key.now t }
+    {
+        match number {
+            None => self.spans.latest(key) > t.max(self.forgotten),
+            Some(number) => self.records[number].is_crossed(t, self.forgotten),
+        }
     }
 
     /// Marks a version, where there is one, as committed.
@@ -247,7 +185,6 @@ impl Chains {
         }
     }
 
-    /// Marks the versions of these keys at `ts` as committed.
     pub(crate) fn commit_all(&mut self, keys: Keys<'_>, ts: u64)
         ensures changed { AreChangedAt (stored_of self.old) (stored_of self.new) keys.entry ts (option_map as_committed) }
         ensures marks { HaveSameMarks (stored_of self.old) (stored_of self.new) }
@@ -268,7 +205,6 @@ impl Chains {
         }
     }
 
-    /// Takes the versions of these keys at `ts` out.
     pub(crate) fn remove_all(&mut self, keys: Keys<'_>, ts: u64)
         ensures changed { AreChangedAt (stored_of self.old) (stored_of self.new) keys.entry ts (λ _. None) }
         ensures marks { HaveSameMarks (stored_of self.old) (stored_of self.new) }
@@ -278,7 +214,6 @@ impl Chains {
         }
     }
 
-    /// Whether the key has a version at `ts`.
     pub(crate) fn has(&self, key: &Key, ts: u64) -> bool
         ensures { result ≡ is_some (found_in (stored_of self.now) key.now ts) }
     {
@@ -288,8 +223,7 @@ impl Chains {
         }
     }
 
-    /// Drops the versions of a key that are dead by the horizon, takes it out of the index at their
-    /// timestamps, and says how many they are.
+    /// Drops the versions of a key that are dead by the horizon, takes it out of the index there, and says how many they are.
     pub(crate) fn drop_dead(&mut self, key: &Key, horizon: u64, index: &mut Index) -> u64
         ensures thinned { IsThinnedAt (stored_of self.old) (stored_of self.new) key.now horizon }
         ensures counted { (n : ℕ) → IsCountOf (stored_of self.old) n → (result ≤ n) × IsCountOf (stored_of self.new) (n - result) }
@@ -329,14 +263,16 @@ impl Chains {
     {
         if self.may_go(number) {
             self.keys.free_at(number);
-            self.records[number] = Record::none(self.alloc);
+            self.records[number] = Record {
+                chain: Chain::none(self.alloc),
+                readers: Readers::new(self.alloc),
+            };
         } else if self.records[number].chain.is_empty() {
             self.changed = self.changed.saturating_add(1);
         }
     }
 
-    /// Takes out each reader that is forgotten, and frees each record that may go. It takes no memory, but for the copy of a
-    /// long start of a span.
+    /// Takes out each reader that is forgotten, and frees each record that may go.
     fn sweep(&mut self)
         ensures chains { HaveSameChains (stored_of self.old) (stored_of self.new) }
         ensures marks { HaveSameMarks (stored_of self.old) (stored_of self.new) }
@@ -350,8 +286,8 @@ impl Chains {
         self.changed = 0;
     }
 
-    /// A reader that counts as forgotten can't be kept, and so a sweep comes first. One comes too where many records came, or
-    /// lost their last version. Mostly these are two comparisons.
+    /// Sweeps before a reader that counts as forgotten, which can't be kept, and where many records came, or lost their last
+    /// version. Mostly these are two comparisons.
     #[inline(always)]
     fn make_room_for(&mut self, ts: u64)
         requires { 0 < ts }
@@ -387,8 +323,8 @@ impl Chains {
             .note(ts, above, until, self.forgotten)
     }
 
-    /// Notes the read of a span: at each record of the span in the gap of its own read, and at all other keys by the span.
-    /// Room is made first, so that the records are noted without memory.
+    /// Notes the read of a span: in each of its records, and of all other keys by the span. Room is made first, so that the
+    /// records are noted without memory.
     pub(crate) fn mark_all(&mut self, span: &Span, ts: u64) -> Result<(), AllocError>
         requires { 0 < ts }
         ensures ok { OnOk result (AreMarkedAt (stored_of self.old) (stored_of self.new) span.now ts) }
@@ -396,10 +332,35 @@ impl Chains {
         ensures chains { HaveSameChains (stored_of self.old) (stored_of self.new) }
     {
         self.make_room_for(ts);
-        make_room(&self.keys, &mut self.records, span)?;
+        Self::make_room(&self.keys, &mut self.records, span)?;
         self.spans.raise(span, ts)?;
-        note_each(&self.keys, &mut self.records, span, ts, self.forgotten);
+        Self::note_each(&self.keys, &mut self.records, span, ts, self.forgotten);
         Ok(())
+    }
+
+    /// Makes room for one more reader in each record of the span.
+    fn make_room(keys: &KeyTable, records: &mut Vec<Record>, span: &Span) -> Result<(), AllocError>
+        requires { AreLow keys.now (length records.old.items) }
+        ensures chains { chains_in records.new.items ≡ chains_in records.old.items }
+        ensures readers { readers_in records.new.items ≡ readers_in records.old.items }
+        ensures room { OnOk result (HaveRoom keys.now records.new.items span.now) }
+    {
+        for (_, number) in numbers_in(keys, span) {
+            records[*number].readers.make_room()?;
+        }
+        Ok(())
+    }
+
+    /// Notes the read of `ts` in each record of the span, in the gap that it has there. There is room.
+    fn note_each(keys: &KeyTable, records: &mut Vec<Record>, span: &Span, ts: u64, forgotten: u64)
+        requires low { AreLow keys.now (length records.old.items) }
+        requires late { forgotten < ts }
+        requires room { HaveRoom keys.now records.old.items span.now }
+        ensures { AreNoted keys.now records.old.items records.new.items span.now ts forgotten }
+    {
+        for (_, number) in numbers_in(keys, span) {
+            records[*number].note(ts, forgotten);
+        }
     }
 
     /// Each reader up to `ts` counts as none.
@@ -411,7 +372,7 @@ impl Chains {
     }
 }
 
-/// Puts a record in the place of a number, which may be the first above all that there are. There is room for one more.
+/// Puts a record in the place of a number, which may be the first above all that there are.
 fn place(records: &mut Vec<Record>, number: usize, one: Record)
     requires room { vec_len records.old < vec_capacity records.old }
     requires low { number ≤ length records.old.items }

@@ -12,9 +12,8 @@ ghost use Rattle.version_chain.specs.InSpans.{filled, numbered_in};
 use crate::chain::Chain;
 use crate::record::Record;
 use key_table::KeyTable;
-use spans::bound::Bound;
+use spans::bound::{Bound, is_below};
 use spans::span::Span;
-use std::cmp::Ordering;
 use std::collections::btree_map::Range;
 use std::iter::Iterator;
 use std::marker::Model;
@@ -59,6 +58,8 @@ impl<'a> Iterator for NumbersIn<'a> {
 
     fn next(&mut self) -> Option<(&'a Key, &'a usize)> {
         let (key, number) = self.ahead.next()?;
+        // for the proof: no key is longer than a key may be
+        let _ = key.bytes();
         if !is_below(&self.span.hi, key) {
             return None;
         }
@@ -69,8 +70,8 @@ impl<'a> Iterator for NumbersIn<'a> {
 /// The keys of a span that have a version, rising, each with its chain.
 #[derive(Drop)]
 pub struct InSpan<'a> {
-    numbers: NumbersIn<'a>,
-    records: &'a [Record],
+    pub(crate) numbers: NumbersIn<'a>,
+    pub(crate) records: &'a [Record],
 }
 
 impl<'a> Model for InSpan<'a> {
@@ -82,15 +83,6 @@ impl<'a> Model for InSpan<'a> {
     ghost Value = { List Entry };
 
     ghost view = { λ s. filled (entries_of s.numbers (chains_in s.records.now)) };
-}
-
-impl<'a> InSpan<'a> {
-    /// Those of the numbers that have a version.
-    pub(crate) fn of(numbers: NumbersIn<'a>, records: &'a [Record]) -> InSpan<'a>
-        ensures { result ≡ filled (entries_of numbers.entry (chains_in records.now)) }
-    {
-        InSpan { numbers, records }
-    }
 }
 
 impl<'a> Iterator for InSpan<'a> {
@@ -109,18 +101,6 @@ impl<'a> Iterator for InSpan<'a> {
             }
         }
         None
-    }
-}
-
-/// Whether the key is below the bound, where there is one.
-fn is_below(high: &Option<Bound>, key: &Key) -> bool
-    ensures below { result ≡ below_high high.now key.now }
-    ensures in_range { length key.now ≤ MAX_KEY_BYTES }
-{
-    let bytes = key.bytes();
-    match high {
-        None => true,
-        Some(high) => bytes.cmp(high.bytes()) == Ordering::Less,
     }
 }
 

@@ -24,7 +24,6 @@ pub(crate) struct Index {
 }
 
 impl Index {
-    /// No key.
     pub(crate) fn new(alloc: Global) -> Index
         ensures listed { (x : List ℕ) (t : ℕ) → is_listed result x t ≡ false }
         ensures filled { IsFilled result }
@@ -53,8 +52,7 @@ impl Index {
         Ok(())
     }
 
-    /// Takes a key, where it is there, out at `ts`. It takes no memory. An entry whose keys are taken
-    /// stays, so that they can be put back.
+    /// Takes a key, where it is there, out at `ts`. An entry whose keys are taken stays, so that they can be put back.
     pub(crate) fn remove(&mut self, ts: u64, key: &Key)
         ensures listed { IsUnlistedAt self.old self.new ts key.now }
         ensures taken { AreTakenAlike self.old self.new }
@@ -99,7 +97,7 @@ impl Index {
         Some(mem::replace(keys, KeySet::new(self.alloc)))
     }
 
-    /// Puts keys back in the place of those that were taken. It takes no memory.
+    /// Puts keys back in the place of those that were taken.
     pub(crate) fn put_back(&mut self, ts: u64, keys: KeySet)
         requires { IsTakenAlone self.old ts }
         ensures listed { (y : List ℕ) (i : ℕ) → is_listed self.new y i ≡ (if ts == i then has y keys else is_listed self.old y i) }
@@ -112,7 +110,7 @@ impl Index {
         }
     }
 
-    /// Takes the keys of `ts`, where there are some, out with their entry. It takes no memory.
+    /// Takes the keys of `ts`, where there are some, out with their entry.
     pub(crate) fn remove_all(&mut self, ts: u64) -> Option<KeySet>
         ensures keys { (y : List ℕ) → is_among result y ≡ is_listed self.old y ts }
         ensures others { (y : List ℕ) (i : ℕ) → is_listed self.new y i ≡ (if ts == i then false else is_listed self.old y i) }
@@ -121,7 +119,6 @@ impl Index {
         self.keys.remove(&TsKey(ts))
     }
 
-    /// The keys of `ts`, where there are some.
     pub(crate) fn keys_at(&self, ts: u64) -> Option<&KeySet>
         ensures { (y : List ℕ) → is_among (option_copied result) y ≡ is_listed self.now y ts }
     {

@@ -30,33 +30,28 @@
 //! no hint of the table leads to it:
 //!
 //! - `newest_at`, `next_above`, `around`, `committed_at`: O(log v log b), and at most as many timestamps as v has binary digits
-//! - `write`: the same, O(log k) for a key that had no record, and O(log n) in the index. It looks at the end of the chain
-//!   first. The versions above its own in its block move, and the starts of the blocks behind it rise. Where a reader is
-//!   above it, it searches readers and chain before that, and ends there where it is crossed
+//! - `write`: the same, O(log k) for a key that had no record, and O(log n) in the index. The versions above its own in its
+//!   block move, and the starts of the blocks behind it rise. Where a reader is above it, it first searches readers and chain
 //! - `mark`: O(log m) with m readers of the key, and O(log k) for one that had no record. At the spot that `around` gave the
 //!   key is compared once, and not searched
 //! - `mark_all`: O(log k), `around` and `mark` for each record of the span, and O(log s) for each start between its bounds
 //! - `commit`: O(log n) in the index, and O(log v log b) for each key written at its timestamp
 //! - `abort`: the same, O(log k) where the last version of a key goes, and what a write moves
-//! - `written_at`: O(log n)
+//! - `written_at`: O(log n); `versions`: O(1)
 //! - `versions_after`: O(log n), and then O(1) for each version that is asked for
 //! - `in_span`: O(log k), and then each key as it is asked for
 //! - `drop_dead`: O(log n) for each version that was written since the horizon that the store keeps, up to its own, and
 //!   for each that goes; and for each key that it meets the starts of all blocks
-//! - `versions`: O(1)
 //!
 //! A chain lies in one list until it has more than 256 versions, and in blocks from then on. A block has at most 256,
 //! unless a halving ran out of memory. Blocks are never joined, so b is at most one, and one more for each 128 versions
-//! that were written.
-//!
-//! A collection goes from timestamp to timestamp. At each it looks at the versions at or below the horizon of the keys
-//! that are listed there, and at those that lie in one list or block with them.
+//! that were written. A collection looks at the versions at or below the horizon of the keys that it meets, and at those that
+//! lie in one list or block with them.
 //!
 //! Writes and marks alone take memory, and a write that is crossed takes none. A write that finds none for its place in the
-//! index takes its version out again, and a scan makes room in each record before it notes its read in the first. The memory
-//! of a record goes with it, and the list and the table keep their room for keys that come later. Where as many records as are
-//! a quarter of all came or lost their last version, 16,384 at the least, the next mark goes over all of them and lets those
-//! go that may.
+//! index takes its version out again, and a scan makes room in each record before it notes its read in the first. The list and
+//! the table keep their room for keys that come later. Where as many records as are a quarter of all came or lost their last
+//! version, 16,384 at the least, the next mark goes over all of them and lets those go that may.
 //!
 //! Tests: `layer_tests`.
 #![tactic(auto)]
@@ -67,15 +62,13 @@ pub mod chain;
 mod chains;
 pub mod in_span;
 mod index;
-mod noting;
 mod record;
-mod spot;
 mod steps;
 mod store;
 mod versions;
 mod versions_after;
 
-pub use spot::Spot;
+pub use chains::Spot;
 pub use steps::Steps;
 pub use store::{Store, Wrote};
 pub use versions_after::VersionsAfter;

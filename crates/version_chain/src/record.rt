@@ -8,7 +8,6 @@ ghost use Rattle.version_chain.specs.Versions.{afters_of, ts_or};
 use crate::chain::{Chain, Version};
 use crate::steps::Steps;
 use read_marks::Readers;
-use std::alloc::Global;
 
 /// The versions of a key, and its readers.
 #[derive(Drop)]
@@ -18,17 +17,6 @@ pub(crate) struct Record {
 }
 
 impl Record {
-    /// No version and no reader. It takes no memory.
-    pub(crate) fn none(alloc: Global) -> Record
-        ensures chain { result.chain ≡ [] }
-        ensures readers { readers_of result.readers ≡ [] }
-    {
-        Record {
-            chain: Chain::none(alloc),
-            readers: Readers::new(alloc),
-        }
-    }
-
     /// Whether there is no version, and each reader is forgotten.
     pub(crate) fn is_idle(&self, forgotten: u64) -> bool
         ensures chain { result ≡ true → self.now.chain ≡ [] }
@@ -37,8 +25,8 @@ impl Record {
         self.chain.is_empty() && self.readers.are_forgotten(forgotten)
     }
 
-    /// Whether a reader above `t` has read the version below it: that reader is not above the next version. Mostly no
-    /// reader at all is above `t`, and then the chain isn't searched.
+    /// Whether a reader above `t` has read the version below it: that reader is not above the next version. Mostly no reader
+    /// is above `t`, and then the chain isn't searched.
     pub(crate) fn is_crossed(&self, t: u64, forgotten: u64) -> bool
         ensures { IsTrue result ↔ IsCrossed (is_kept forgotten (readers_of self.now.readers)) (afters_of self.now.chain) t }
     {
@@ -68,7 +56,6 @@ impl Record {
     }
 }
 
-/// The timestamp of a version, or else that of `none`.
 fn ts_or(version: Option<&Version>, none: u64) -> u64
     ensures ts { result ≡ ts_or (option_copied version.entry) none }
     ensures low { IfSome (option_copied version.entry) (λ v. 1 ≤ v.ts) }

@@ -15,14 +15,12 @@ impl Model for Steps {
 }
 
 impl Steps {
-    /// Nothing read yet.
     pub fn new() -> Steps
         ensures { result.count ≡ 0 }
     {
         Steps {}
     }
 
-    /// One more.
     pub(crate) fn after(before: &Steps) -> Steps
         ensures { result.count ≡ suc before.now.count }
     {

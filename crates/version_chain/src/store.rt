@@ -1,5 +1,4 @@
-//! The store that `mvto_rules` and `catch_up` call: the records of all keys, and the index by timestamp in step with
-//! them.
+//! The store: the records of all keys, and the index by timestamp in step with them.
 ghost use Rattle.std.specs.Prelude.{◌≡◌, ◌↔◌, ℕ, List, ◌≤◌, ◌<◌, ◌&&◌, None, Some, MatchOption, IfOk, OnOk, OnErr, suc, ◌^◌, is_some, nat_lt, true, false};
 ghost use Rattle.std.specs.Option.{option_copied};
 ghost use Rattle.std.specs.List.{filter};
@@ -14,10 +13,10 @@ ghost use Rattle.version_chain.specs.declared.store.Wrote.TheVariants.{Crossed, 
 ghost use Rattle.version_chain.specs.Stores.{is_committed_in, version_in, IsCommittedAt, IsCountAt, IsCountOf, IsNewestIn, IsAsBefore, IsWrittenTo, AreCommittedAt, AreDroppedAt};
 
 use crate::chain::Version;
-use crate::chains::{Chains, Placed};
+use crate::chains::{Chains, Placed, Spot};
 use crate::in_span::InSpan;
 use crate::index::Index;
-use crate::spot::Spot;
+use crate::steps::Steps;
 use crate::versions_after::VersionsAfter;
 use key_set::Keys;
 use spans::span::Span;
@@ -81,8 +80,7 @@ impl Store {
 
     /// The version of the key with the greatest timestamp at or below `t`.
     pub fn newest_at(&self, key: &Key, t: u64) -> Option<&Version>
-        ensures { MatchOption result ((i : ℕ) → i ≤ t → version_in self.now key.now i ≡ None)
-            (λ v. IsNewestIn self.now key.now t v.now) }
+        ensures { MatchOption result ((i : ℕ) → i ≤ t → version_in self.now key.now i ≡ None) (λ v. IsNewestIn self.now key.now t v.now) }
     {
         self.chains.newest_at(key, t)
     }
@@ -91,22 +89,26 @@ impl Store {
     pub fn next_above(&self, key: &Key, t: u64) -> Option<u64>
         ensures { IsNextAbove (version_in self.now key.now) t result }
     {
-        let version = self.chains.next_above(key, t)?;
-        Some(version.ts.get())
+        let (_, record) = self.chains.record(key)?;
+        let next = record.chain.next_above(t, &mut Steps::new())?;
+        Some(next.ts.get())
     }
 
-    /// The version of the key with the greatest timestamp at or below `t`, and the least timestamp above
-    /// `t` at which the key has one: by one search for the key, and one of its chain. The spot saves `mark` the search for
-    /// the key.
+    /// The version of the key with the greatest timestamp at or below `t`, and the least timestamp above `t` at which the key
+    /// has one. The spot saves `mark` the search for the key.
     pub fn around(&self, key: &Key, t: u64) -> (Option<&Version>, Option<u64>, Spot)
-        ensures newest { MatchOption result.0 ((i : ℕ) → i ≤ t → version_in self.now key.now i ≡ None)
-            (λ v. IsNewestIn self.now key.now t v.now) }
+        ensures newest { MatchOption result.0 ((i : ℕ) → i ≤ t → version_in self.now key.now i ≡ None) (λ v. IsNewestIn self.now key.now t v.now) }
         ensures next { IsNextAbove (version_in self.now key.now) t result.1 }
     {
-        let (newest, next, spot) = self.chains.around(key, t);
-        match next {
-            None => (newest, None, spot),
-            Some(version) => (newest, Some(version.ts.get()), spot),
+        let Some((number, record)) = self.chains.record(key) else {
+            return (None, None, Spot { number: None });
+        };
+        let spot = Spot {
+            number: Some(number),
+        };
+        match record.chain.around(t, &mut Steps::new()) {
+            (newest, None) => (newest, None, spot),
+            (newest, Some(next)) => (newest, Some(next.ts.get()), spot),
         }
     }
 
@@ -114,12 +116,15 @@ impl Store {
     pub fn committed_at(&self, key: &Key, ts: u64) -> Option<&Version>
         ensures { MatchOption result (is_committed_in self.now key.now ts ≡ false) (λ v. IsCommittedAt self.now key.now ts v.now) }
     {
-        self.chains.committed_at(key, ts)
+        let version = self.chains.newest_at(key, ts)?;
+        if version.ts.get() != ts || !version.committed {
+            return None;
+        }
+        Some(version)
     }
 
     /// The places of versions after a place and at or below `through`, by timestamp and then by key. The place is that of
-    /// `key` at `ts`; without a key it is behind all keys of `ts`. It searches the index twice and the keys of `ts` once, and takes no
-    /// memory.
+    /// `key` at `ts`; without a key it is behind all keys of `ts`.
     pub fn versions_after<'a>(
         &'a self,
         ts: u64,
@@ -151,8 +156,7 @@ impl Store {
         Some(keys.above(key))
     }
 
-    /// The keys of the span that have a version, rising, each with its chain, which has at least one
-    /// version. It goes straight to the first, and takes no memory.
+    /// The keys of the span that have a version, rising, each with its chain.
     pub fn in_span<'a>(&'a self, span: &'a Span) -> InSpan<'a>
         ensures found { result ≡ filter (λ (e : Entry). in_span span.now e.0 && has_versions e.1) self.now.entries }
         ensures ordered { RisingKeys (keys_of self.now.entries) }
@@ -163,8 +167,7 @@ impl Store {
     }
 
     /// Puts an undecided version in, in whose place one of the same transaction may stand, unless a reader above it has read
-    /// the version of the key below it: that is told without memory. A new one is listed in the index; where that runs out
-    /// of memory the version goes again. It searches once for the key.
+    /// the version of the key below it. A new one is listed in the index; where that runs out of memory the version goes again.
     pub fn write(&mut self, key: &Key, ts: Ts, after: Option<&Value>) -> Result<Wrote, AllocError>
         ensures crossed { IfOk result (λ wrote. (wrote ≡ Crossed) ↔ IsCrossedIn self.old key.now ts) }
         ensures free { OnErr result (IsCrossedIn self.old key.now ts → ⊥) }
@@ -188,7 +191,7 @@ impl Store {
     }
 
     /// Marks the reader of a key, who read the version of `above`, or none where that is 0. The next version is that of `next`.
-    /// Of the key's readers in this gap the greatest alone stays. The key's record is looked for at the spot first.
+    /// Of the key's readers in this gap the greatest alone stays.
     pub fn mark(
         &mut self,
         key: &Key,
@@ -234,7 +237,7 @@ impl Store {
         }
     }
 
-    /// Marks the versions of `ts` as committed, and says how many there are. It takes no memory.
+    /// Marks the versions of `ts` as committed, and says how many there are.
     pub fn commit(&mut self, ts: Ts) -> u64
         ensures committed { AreCommittedAt self.old self.new ts }
         ensures count { IsCountAt self.old ts result }
@@ -250,7 +253,7 @@ impl Store {
         keys.len() as u64
     }
 
-    /// Drops the versions of `ts`. It takes no memory.
+    /// Drops the versions of `ts`.
     pub fn abort(&mut self, ts: Ts)
         ensures dropped { AreDroppedAt self.old self.new ts }
         ensures marks { HaveSameMarks self.old self.new }
@@ -263,10 +266,8 @@ impl Store {
         self.count -= keys.len() as u64;
     }
 
-    /// Drops the versions that are dead by the horizon, and says how many: a committed one at or below
-    /// it is dead where it is a delete or where a newer one of its key is committed at or below it. It
-    /// visits each key written above the last collection's horizon, or committed below that since, and
-    /// scans that key's versions up to `horizon`, rounded up to a whole block. It takes no memory.
+    /// Drops the versions that are dead by the horizon, and says how many: a committed one at or below it is dead where it is
+    /// a delete or where a newer one of its key is committed at or below it.
     pub fn drop_dead(&mut self, horizon: u64) -> u64
         ensures collected { IsCollectedIn self.old self.new horizon result }
         ensures marks { HaveSameMarks self.old self.new }

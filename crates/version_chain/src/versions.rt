@@ -9,36 +9,16 @@ ghost use Rattle.version_chain.specs.Dead.{is_dead_version};
 use crate::block::FULL;
 use crate::blocks::Blocks;
 use crate::chain::Version;
-use std::alloc::{AllocError, Global};
+use std::alloc::AllocError;
 
-/// Versions in a row. Up to 256 lie in one list, where each that goes in or out moves those above it. Once there have
-/// been more they lie in blocks.
+/// Versions in a row, in one list until there have been more than 256, and then in blocks.
+#[derive(Drop)]
 pub(crate) enum Versions {
     Short(Vec<Version>),
     Long(Blocks),
 }
 
-// for the proof, which has no case for each variant where versions are dropped
-impl Drop for Versions {
-    fn drop(self) {
-        match self {
-            Versions::Short(_) => {}
-            Versions::Long(_) => {}
-        }
-    }
-}
-
 impl Versions {
-    /// One version, with room for no more.
-    pub(crate) fn of(alloc: Global, version: Version) -> Result<Versions, AllocError>
-        ensures { IfOk result (λ versions. versions_in versions ≡ version ∷ []) }
-    {
-        let mut versions = Vec::with_capacity(alloc, 1)?;
-        versions.push_reserved(version);
-        Ok(Versions::Short(versions))
-    }
-
-    /// How many there are.
     pub(crate) fn len(&self) -> usize
         ensures { result ≡ length (versions_in self.now) }
     {
@@ -48,7 +28,6 @@ impl Versions {
         }
     }
 
-    /// The one at a place.
     pub(crate) fn at(&self, place: usize) -> &Version
         requires { place < length (versions_in self.now) }
         ensures { result.now ≡ slice_index_or (versions_in self.now) place result.now }
@@ -59,7 +38,6 @@ impl Versions {
         }
     }
 
-    /// Puts one in the place of another.
     pub(crate) fn set(&mut self, place: usize, version: Version)
         requires { place < length (versions_in self.old) }
         ensures { versions_in self.new ≡ slice_set (versions_in self.old) place version }
@@ -70,7 +48,6 @@ impl Versions {
         }
     }
 
-    /// Marks the one at a place as committed.
     pub(crate) fn commit(&mut self, place: usize)
         requires { place < length (versions_in self.old) }
         ensures { (d : Version) → versions_in self.new ≡ slice_set (versions_in self.old) place (as_committed (slice_index_or (versions_in self.old) place d)) }
@@ -81,7 +58,6 @@ impl Versions {
         }
     }
 
-    /// Puts one in at a place.
     pub(crate) fn insert(&mut self, place: usize, version: Version) -> Result<(), AllocError>
         requires { place ≤ length (versions_in self.old) }
         ensures ok { OnOk result (versions_in self.new ≡ insert (versions_in self.old) place version) }
@@ -110,7 +86,6 @@ impl Versions {
         Ok(())
     }
 
-    /// Takes the one at a place out.
     pub(crate) fn remove(&mut self, place: usize)
         requires { place < length (versions_in self.old) }
         ensures { versions_in self.new ≡ remove (versions_in self.old) place }

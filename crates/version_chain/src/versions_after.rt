@@ -24,12 +24,11 @@ use timestamps::ts_key::TsKey;
 /// ```
 #[derive(Drop)]
 pub struct VersionsAfter<'a> {
-    /// Read by contracts alone.
+    // The first four are read by contracts alone. The place is that of `key` at `ts`, or behind all keys of `ts`.
     pub(crate) chains: &'a Chains,
-    /// Read by contracts alone: the place from which the walk goes on, that of `key` at `ts`, or behind all keys of `ts`.
     pub(crate) ts: u64,
     pub(crate) key: Option<&'a Key>,
-    /// Read by contracts alone: the greatest timestamp of `later`.
+    /// The greatest timestamp of `later`.
     pub(crate) through: u64,
     /// The timestamp of the keys that are ahead.
     pub(crate) at: u64,
@@ -52,7 +51,7 @@ impl<'a> Model for VersionsAfter<'a> {
 }
 
 impl<'a> VersionsAfter<'a> {
-    /// The next place: its timestamp and its key. It searches nothing.
+    /// The next place: its timestamp and its key.
     pub fn next(&mut self) -> Option<(u64, &'a Key)>
         ensures found { IsNextFound self.old result }
         ensures walked { IsWalkedTo self.old self.new result }
@@ -70,7 +69,6 @@ impl<'a> VersionsAfter<'a> {
     }
 }
 
-/// Takes the first of the keys.
 fn first_of<'a>(keys: &mut Option<Keys<'a>>) -> Option<&'a Key>
     ensures { IsFirstTaken (keys_ahead keys.old) (keys_ahead keys.new) result }
 {

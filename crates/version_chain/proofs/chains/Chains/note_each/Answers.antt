@@ -1,6 +1,6 @@
 use Rattle.std.proofs.Common.{arith, sym, ◌∙◌}
 use Rattle.version_chain.proofs.Roaming.{IsNotedAt, next_low, noted_next, noting_ends, room_next, walk_first, walk_next}
-use Rattle.version_chain.proofs.noting.note_each.Goals as goal
+use Rattle.version_chain.proofs.chains.Chains.note_each.Goals as goal
 
 pub loop-number-init : goal.loop-number-init
 loop-number-init c = walk_first (IsNotedAt c.args.records.now.items c.args.ts c.args.forgotten) c.args.keys.now c.args.records.now.items c.args.span.now c.into_iter-number-iterator.result c.numbers_in-number-items.ensures.rising (c.into_iter-number-iterator.ensures.into_iter_gives ∙ c.numbers_in-number-items.ensures.those)

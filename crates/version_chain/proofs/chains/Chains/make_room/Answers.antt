@@ -2,7 +2,7 @@ use Rattle.std.proofs.Common.{arith, refl, sym, ◌∙◌}
 use Rattle.version_chain.proofs.Common.{has_room, readers_of}
 use Rattle.version_chain.specs.declared.record.Record.{Record}
 use Rattle.version_chain.proofs.Roaming.{kept_by, next_low, rooming_ends, walk_first, walk_next}
-use Rattle.version_chain.proofs.noting.make_room.Goals as goal
+use Rattle.version_chain.proofs.chains.Chains.make_room.Goals as goal
 
 pub loop-number-init : goal.loop-number-init
 loop-number-init c = record { walk = walk_first (λ n q. has_room q.readers) c.args.keys.now c.args.records.now.items c.args.span.now c.into_iter-number-iterator.result c.numbers_in-number-items.ensures.rising (c.into_iter-number-iterator.ensures.into_iter_gives ∙ c.numbers_in-number-items.ensures.those); readers = refl }
