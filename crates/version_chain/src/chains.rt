@@ -1,13 +1,12 @@
 //! The records of all keys: found, written, committed, removed and dropped by key, and marked for a reader by key or by span.
-ghost use Rattle.std.specs.Prelude.{◌≡◌, ◌↔◌, ℕ, List, [], Some, None, MatchOption, IfOk, OnOk, OnErr, IfSome, IsTrue, is_some, is_none, option_map, true, false, bytes_eq, ◌&&◌, if◌then◌else◌, ◌<◌, ◌≤◌, ◌-◌, length, nat_lt, vec_len, vec_capacity};
-ghost use Rattle.std.specs.List.{filter};
+ghost use Rattle.std.specs.Prelude.{◌≡◌, ◌↔◌, ℕ, List, Some, None, MatchOption, IfOk, OnOk, OnErr, IfSome, IsTrue, is_some, option_map, true, false, bytes_eq, ◌&&◌, if◌then◌else◌, ◌<◌, ◌≤◌, ◌-◌, length, nat_lt, vec_len, vec_capacity};
 ghost use Rattle.std.specs.Option.{option_copied};
-ghost use Rattle.version_chain.specs.Prelude.{IsOwn, RisingKeys, key_lt, latest_in, number_in};
+ghost use Rattle.version_chain.specs.Prelude.{IsOwn, number_in};
 ghost use Rattle.version_chain.specs.declared.chain.Version.{Version};
 ghost use Rattle.version_chain.specs.declared.record.Record.{Record};
-ghost use Rattle.version_chain.specs.Versions.{as_committed, IsNoneUpTo, IsNewestOf, IsNoneAbove, IsLeastAbove};
+ghost use Rattle.version_chain.specs.Versions.{as_committed, IsNoneUpTo, IsNewestOf};
 ghost use Rattle.version_chain.specs.Chains.{found_in, chain_of, AreChangedAt, HaveSameChains, HaveSameMarks, IsChangedAt, marked_in};
-ghost use Rattle.version_chain.specs.Stores.{is_committed_in, version_in, IsCommittedAt, IsCountOf};
+ghost use Rattle.version_chain.specs.Stores.{IsCountOf};
 ghost use Rattle.version_chain.specs.Marking.{AreMarkedAt, IsCrossedIn, IsMarkedAt};
 ghost use Rattle.version_chain.specs.ByNumber.{AreLow, IsPlaced, chains_in, readers_in};
 ghost use Rattle.version_chain.specs.InSpans.{AreFound};

@@ -1,6 +1,6 @@
 //! The keys of a span: those with a number, and those with a version.
-ghost use Rattle.version_chain.specs.Prelude.{AreApart, MAX_KEY_BYTES, RisingKeys, below_high};
-ghost use Rattle.std.specs.Prelude.{◌≡◌, ◌≤◌, length};
+ghost use Rattle.version_chain.specs.Prelude.{AreApart, RisingKeys};
+ghost use Rattle.std.specs.Prelude.{◌≡◌, length};
 ghost use Rattle.std.specs.Map.{keys_of};
 ghost use Rattle.std.specs.Map.Iter.{TakesFirst, deref_pair};
 ghost use Rattle.std.specs.Iterator.{at_most};

@@ -1,5 +1,5 @@
 //! Where the versions of one key lie: in a list as long as they are few, or in blocks.
-ghost use Rattle.std.specs.Prelude.{◌≡◌, ◌<◌, ◌≤◌, ◌∷◌, [], length, drop, slice_set, slice_index_or, not, false, IfOk, OnOk, OnErr};
+ghost use Rattle.std.specs.Prelude.{◌≡◌, ◌<◌, ◌≤◌, length, drop, slice_set, slice_index_or, not, false, OnOk, OnErr};
 ghost use Rattle.std.specs.List.{All, filter, insert, remove};
 ghost use Rattle.version_chain.specs.declared.chain.Version.{Version};
 ghost use Rattle.version_chain.specs.Versions.{as_committed};
