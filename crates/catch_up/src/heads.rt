@@ -14,12 +14,11 @@ use timestamps::ts::Ts;
 use version_chain::chain::{Chain, Version};
 use version_chain::{Steps, Store};
 
-/// Of each key the first committed version after a place, with the chain of the key: by timestamp and then
-/// by key.
+/// By timestamp and key, the first committed version of each key after a place, with the key's chain.
 type Heads<'a> = BTreeMap<(u64, &'a Key), (&'a Version, &'a Chain)>;
 
-/// The first `n` committed rows of the span after `place` at `ts` and at or below `through`. The first
-/// head is told, and the next version of its key becomes one. So there are never more heads than at first.
+/// The first `n` committed rows of the span after `place` at `ts` and at or below `through`. The first head is told, and the
+/// next version of its key becomes one, so there are never more heads than at first.
 pub(crate) fn rows_of_keys(
     alloc: Global,
     store: &Store,
@@ -44,8 +43,7 @@ pub(crate) fn rows_of_keys(
     Ok(rows)
 }
 
-/// The first `n` heads of the keys of the span after `place` at `ts` and at or below `through`. It keeps
-/// no more than `n` of them, and one more while it looks at a key.
+/// The first `n` heads of the keys of the span. It keeps no more than `n`, and one more while it looks at a key.
 fn heads_after<'a>(
     alloc: Global,
     store: &'a Store,

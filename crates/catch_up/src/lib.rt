@@ -20,8 +20,7 @@
 //!   first row.
 //!
 //! [`next_rows`] walks the index, and searches the chain of a key that the span has, and of no other. From its 16th step on
-//! it counts a key of the span for every eight, and turns to the chains once there is none left. Where nothing can come
-//! after the place it searches nothing.
+//! it counts a key of the span for every eight, and turns to the chains once there is none left.
 //!
 //! Costs, in searches of the store, each O(log n) for n keys and timestamps:
 //!
@@ -32,9 +31,8 @@
 //!   the span's end where fewer are found than are wanted
 //! - a version of the span that isn't committed: one more, where it is passed
 //!
-//! Both calls take memory for the rows told. Where `next_rows` turns to the chains, it also takes memory for places in
-//! them: for as many as it still wants rows, and for one more. `next_snapshot` also takes it for a copy of the span. They
-//! change nothing, so a refusal leaves no trace.
+//! Both calls take memory for the rows told. Where `next_rows` turns to the chains, it also takes it for a place in them for
+//! each row that it still wants, and for one more. `next_snapshot` also takes it for a copy of the span.
 //!
 //! Tests: `unit_tests`, `job_tests`.
 #![tactic(auto)]

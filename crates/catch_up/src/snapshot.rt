@@ -13,8 +13,7 @@ use timestamps::ts::Ts;
 use version_chain::chain::Version;
 use version_chain::{Steps, Store};
 
-/// The first `n` keys of the span after `after` that have a value at `at`, each as a row at `at`. It goes
-/// straight to the first; of versions it looks at one for each key that it passes.
+/// The first `n` keys of the span after `after` that have a value at `at`, each as a row at `at`.
 pub fn next_snapshot(
     alloc: Global,
     store: &Store,
