@@ -1,7 +1,6 @@
 -- The key at which a scan ends, found one entry after another.
 use Rattle.mvto_rules.proofs.Common.{AllByRecursion, Entry, RisingKeys, Span, Stored, chain_of, common_steps, in_span, is_committed_in, keys_of, version_in}
 use Rattle.std.proofs.Common.{List, None, Option, Some, ap, arith, false, refl, true, ℕ, ◌∷◌, ◌≡◌, []}
-use Rattle.spans.specs.Newest.{Version}
 use Rattle.version_chain.specs.declared.chain.Version as stored
 use Rattle.mvto_rules.specs.Room.{end_in, has_room, room_behind, stops_at}
 use Rattle.mvto_rules.specs.Scans.{entries_of, keys_in}

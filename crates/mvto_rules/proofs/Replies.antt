@@ -1,4 +1,4 @@
--- What the reply to each command of a transaction changes, by what was found for it.
+-- What refuses a transaction's reads, and what its write, its commit and its abort are answered and change.
 use Rattle.mvto_rules.proofs.Common.{Abort, Aborted, After, Commit, Committed, Get, IsAbortedBy, IsAlike, IsAnswered, IsCommittedBy, IsLate, IsNumberOf, IsStep, IsWanting, IsWritten, Kept, NoMemory, Refusal, Refused, Reply, Scan, Span, TooLate, Written, common_steps, refusal, unless_refused}
 use Rattle.std.proofs.Common.{arith}
 use Rattle.std.proofs.Common.{Err, List, None, Ok, Result, Some, ap, false, inl, inr, refl, subst, sym, true, ℕ, ◌≡◌}

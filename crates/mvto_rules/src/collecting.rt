@@ -1,4 +1,4 @@
-//! How far a collection can go.
+//! A collection, and how far it can go.
 //!
 //! A read at a closed timestamp needs the newest committed version at or below it, and a feed those above its floor. So the
 //! horizon, by which a collection drops what is dead, moves only as far as none of them needs anything below it. Of each key
@@ -14,14 +14,31 @@
 //! collect 50                40*                  40                                      40        1 removed
 //! collect 10                40*                  40                                      40        none
 //! ```
-ghost use Rattle.std.specs.Prelude.{◌≡◌};
+ghost use Rattle.std.specs.Prelude.{ℕ, ◌≡◌};
 ghost use Rattle.kept.specs.Places.{or_min};
+ghost use Rattle.mvto_rules.specs.Prelude.{Collect, IsLeastFloor, IsStep};
 ghost use Rattle.mvto_rules.specs.Reaching.{IsLimit};
 
 use crate::rules::Rules;
+use spans::calls::{Refusal, Reply};
+use timestamps::ts::MAX;
 
 impl Rules {
-    ghost use Rattle.mvto_rules.specs.Holding.{closing_of};
+    ghost use Rattle.mvto_rules.specs.Holding.{Changes, closing_of};
+
+    /// Collects through `to`, where `floor` is the least floor of the feeds, if any lives. It drops the versions that are
+    /// dead by the horizon that it reaches, and takes no memory.
+    pub fn collect(&mut self, to: u64, floor: Option<u64>) -> Reply
+        ensures step { (seat : ℕ) → Changes self.old self.new (λ k k'. IsLeastFloor k.feed floor → IsStep k k' seat (Collect to) result) }
+    {
+        if to > MAX {
+            return Reply::Refused(Refusal::TsRange);
+        }
+        let horizon = self.horizon.max(to.min(self.limit(floor)));
+        let removed = self.store.drop_dead(horizon);
+        self.horizon = horizon;
+        Reply::Collected { horizon, removed }
+    }
 
     /// How far a collection can go now: to closed, and past no protection and no feed's floor.
     pub fn limit(&self, floor: Option<u64>) -> u64
@@ -36,8 +53,5 @@ impl Rules {
 fn at_most(number: u64, other: Option<u64>) -> u64
     ensures { result ≡ or_min other number }
 {
-    match other {
-        None => number,
-        Some(other) => other.min(number),
-    }
+    other.map_or(number, |other| other.min(number))
 }

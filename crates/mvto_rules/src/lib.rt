@@ -54,7 +54,6 @@
 #![tactic(auto)]
 
 mod collecting;
-mod commands;
 mod forgetting;
 mod holdings;
 mod looking;

@@ -1,13 +1,12 @@
 //! What is told without a command: versions of keys, the oldest undecided transaction, how far timestamps have come,
 //! and whether a command is refused.
 ghost use Rattle.std.specs.Prelude.{◌≡◌, is_some, not};
-ghost use Rattle.mvto_rules.specs.Prelude.{IsOldest, refusal, version_at};
-ghost use Rattle.mvto_rules.specs.Looking.{IsReachedIn, kept_value_version, value_at};
+ghost use Rattle.mvto_rules.specs.Prelude.{IsOldest, refusal};
+ghost use Rattle.mvto_rules.specs.Looking.{IsReachedIn, kept_value_version};
 ghost use Rattle.mvto_rules.specs.Snapshots.{snapshot_refusal};
 
 use crate::rules::Rules;
 use timestamps::key::Key;
-use version_chain::chain::Version;
 
 impl Rules {
     ghost use Rattle.mvto_rules.specs.Holding.{Holds};
@@ -22,7 +21,7 @@ impl Rules {
             let ts = version.ts.get();
             let committed = version.committed;
             if committed {
-                return value_at(version);
+                return version.after.is_some().then_some(ts);
             }
             at = ts - 1;
         }
@@ -59,15 +58,5 @@ impl Rules {
         ensures { Holds self.now (λ k. result ≡ not (is_some (snapshot_refusal k t))) }
     {
         self.snapshot_refusal(t).is_none()
-    }
-}
-
-/// The timestamp of a version that has a value.
-fn value_at(version: &Version) -> Option<u64>
-    ensures { result ≡ value_at (version_at version.now.ts version.now.after) }
-{
-    match &version.after {
-        None => None,
-        Some(_) => Some(version.ts.get()),
     }
 }

@@ -1,9 +1,9 @@
 //! What a scan reads of the versions.
-ghost use Rattle.std.specs.Prelude.{◌≡◌, ◌++◌, [], IfOk, OnErr, OnOk, None};
+ghost use Rattle.std.specs.Prelude.{◌≡◌, ◌≤◌, ◌++◌, [], IfOk, IfSome, OnErr, OnOk, None};
 ghost use Rattle.std.specs.Option.{option_copied};
 ghost use Rattle.std.specs.Map.{keys_of};
 ghost use Rattle.mvto_rules.specs.Prelude.{AreFilled, RisingKeys, with_value};
-ghost use Rattle.mvto_rules.specs.Scans.{entries_of, first_blocker, keys_in};
+ghost use Rattle.mvto_rules.specs.Scans.{entries_of, first_blocker, keys_in, rows_in};
 ghost use Rattle.mvto_rules.specs.Readings.{IsReading};
 ghost use Rattle.mvto_rules.specs.Sights.{value_in};
 
@@ -65,7 +65,7 @@ fn read_rows(alloc: Global, store: &Store, span: &Span, ts: Ts) -> Result<Readin
 }
 
 /// Adds the row of a key, where the version has a value.
-pub(crate) fn add_row(
+fn add_row(
     rows: &mut Vec<(Key, Value)>,
     key: &Key,
     newest: Option<&Version>,
@@ -90,4 +90,34 @@ fn first_blocker(store: &Store, span: &Span, ts: Ts) -> Option<u64>
         }
     }
     None
+}
+
+/// The rows of a span, as a read at a closed timestamp has them.
+pub(crate) fn rows_at(
+    alloc: Global,
+    store: &Store,
+    span: &Span,
+    t: u64,
+) -> Result<Vec<(Key, Value)>, AllocError>
+    ensures rows { IfOk result (λ rows. rows.items ≡ rows_in store.now t (keys_in store.now span.now)) }
+    ensures rising { RisingKeys (keys_of store.now.entries) }
+    ensures filled { AreFilled (entries_of store.now span.now) }
+{
+    let found = store.in_span(span);
+    let mut rows = Vec::new(alloc);
+    for (key, chain) in found {
+        let newest = chain.newest_at(t, &mut Steps::new());
+        is_named(newest);
+        add_row(&mut rows, key, newest)?;
+    }
+    Ok(rows)
+}
+
+/// A version's timestamp is never 0.
+pub(crate) fn is_named(newest: Option<&Version>)
+    ensures { IfSome (option_copied newest.entry) (λ v. 1 ≤ v.ts) }
+{
+    if let Some(version) = newest {
+        let _ts = version.ts.get();
+    }
 }

@@ -16,8 +16,8 @@ ghost use Rattle.mvto_rules.specs.Room.{IsEnd, end_in, has_room, room_behind, st
 ghost use Rattle.mvto_rules.specs.Scans.{entries_of, keys_in};
 ghost use Rattle.mvto_rules.specs.Sights.{value_in};
 
+use crate::reading::is_named;
 use crate::rules::Rules;
-use crate::snapshots::is_named;
 use spans::span::Span;
 use timestamps::key::Key;
 use version_chain::chain::Version;
@@ -85,10 +85,7 @@ fn find_end<'a>(store: &'a Store, span: &'a Span, ts: u64, room: Room) -> Option
 fn stops(newest: Option<&Version>, ts: u64) -> bool
     ensures { result ≡ stops_at ts (option_copied newest.entry) }
 {
-    match newest {
-        None => false,
-        Some(version) => version.ts.get() != ts && !version.committed,
-    }
+    newest.is_some_and(|version| version.ts.get() != ts && !version.committed)
 }
 
 impl Room {

@@ -1,8 +1,8 @@
 //! The versions with the marks of readers, the transactions and what is closed, under the rules that tie them.
 //! `Sight::of` is the read rule, which gets and scans apply. The store judges a write by the write rule.
-ghost use Rattle.std.specs.Prelude.{◌≡◌, ◌<◌, ◌≤◌, is_some, true, Some, None, IfOk, IfErr, OnOk, OnErr};
+ghost use Rattle.std.specs.Prelude.{◌≡◌, ◌≤◌, Some, None, IfOk, IfErr, OnOk, OnErr};
 ghost use Rattle.std.specs.Option.{option_copied};
-ghost use Rattle.mvto_rules.specs.Prelude.{Begin, Get, IsAbortedBy, IsAlike, IsAnswered, IsCommittedBy, IsNextAbove, IsNumberOf, IsReadBy, IsScannedBy, IsWanting, MAX, Scan, TooLate, closed_in, refusal, seen, version_in};
+ghost use Rattle.mvto_rules.specs.Prelude.{Abort, Begin, Commit, Get, IsAbortedBy, IsAlike, IsAnswered, IsWanting, MAX, NoMemory, Refused, Scan, TooLate, closed_in, refusal};
 ghost use Rattle.kept.specs.StandsFor.{nothing_kept};
 ghost use Rattle.mvto_rules.specs.Tables.{AreInRange};
 
@@ -17,7 +17,7 @@ use timestamps::key::Key;
 use timestamps::ts::Ts;
 use timestamps::value::Value;
 use txn_table::{Outcome, Txns};
-use version_chain::{Spot, Store, Wrote};
+use version_chain::{Store, Wrote};
 
 /// The versions with the marks of readers, the transactions, the closed timestamp with the protections, and the
 /// horizon, under the rules that tie them.
@@ -37,7 +37,7 @@ pub struct Rules {
 }
 
 impl Rules {
-    ghost use Rattle.mvto_rules.specs.Holding.{Changes, Holds, Stays, held, holding, versions_of, write_of};
+    ghost use Rattle.mvto_rules.specs.Holding.{Changes, Steps, held, holding, write_of};
 
     /// Nothing has happened.
     pub fn new(alloc: Global) -> Rules
@@ -53,26 +53,31 @@ impl Rules {
     }
 
     /// Begins a transaction of a seat above what is closed, unless one of its timestamp began before.
-    pub(crate) fn try_begin(&mut self, seat: u8, ts: u64) -> Result<Reply, AllocError>
-        ensures answered { IfOk result (λ reply. Changes self.old self.new (λ k k'. IsAnswered k k' seat (Begin ts) reply)) }
-        ensures wanting { OnErr result (Changes self.old self.new (λ k k'. IsWanting k k' seat (Begin ts))) }
+    pub fn begin(&mut self, seat: u8, ts: u64) -> Reply
+        ensures step { Steps self.old self.new seat (Begin ts) result }
     {
         let Some(timestamp) = Ts::new(ts) else {
-            return Ok(Reply::Refused(Refusal::TsRange));
+            return Reply::Refused(Refusal::TsRange);
         };
         let closed = self.closing.closed();
         if closed >= ts {
-            return Ok(Reply::Refused(Refusal::BelowClosed { closed }));
+            return Reply::Refused(Refusal::BelowClosed { closed });
         }
-        if self.txns.begin(timestamp, seat)? {
-            Ok(Reply::Started)
-        } else {
-            Ok(Reply::Refused(Refusal::TsUsed))
+        match self.txns.begin(timestamp, seat) {
+            Ok(true) => Reply::Started,
+            Ok(false) => Reply::Refused(Refusal::TsUsed),
+            Err(_) => Reply::Refused(Refusal::NoMemory),
         }
     }
 
     /// Reads a key, and marks the reader, unless the version is its own.
-    pub(crate) fn try_get(&mut self, seat: u8, ts: u64, key: &Key) -> Result<Reply, AllocError>
+    pub fn get(&mut self, seat: u8, ts: u64, key: &Key) -> Reply
+        ensures step { Steps self.old self.new seat (Get ts key.now) result }
+    {
+        or_no_memory(self.try_get(seat, ts, key))
+    }
+
+    fn try_get(&mut self, seat: u8, ts: u64, key: &Key) -> Result<Reply, AllocError>
         ensures answered { IfOk result (λ reply. Changes self.old self.new (λ k k'. IsAnswered k k' seat (Get ts key.now) reply)) }
         ensures wanting { OnErr result (Changes self.old self.new (λ k k'. IsWanting k k' seat (Get ts key.now))) }
     {
@@ -89,59 +94,40 @@ impl Rules {
             }
             Sight::Other(above) => {
                 let after = value_of(newest)?;
-                self.mark(key, spot, ts, above, next)?;
+                self.store.mark(key, spot, ts, above, next)?;
                 Ok(Reply::Found(after))
             }
         }
     }
 
-    /// Marks the reader of a key, who read the version of `above`, or none where that is 0. The next
-    /// version is that of `next`.
-    fn mark(
-        &mut self,
-        key: &Key,
-        spot: Spot,
-        ts: Ts,
-        above: u64,
-        next: Option<u64>,
-    ) -> Result<(), AllocError>
-        requires low { above < ts }
-        requires in_range { ts ≤ MAX }
-        requires next { IsNextAbove (version_in (versions_of self.old) key.now) ts next }
-        ensures ok { OnOk result (Changes self.old self.new (λ k k'. (seen k key.now ts).ts ≡ above → IsReadBy k k' ts key.now)) }
-        ensures err { OnErr result (Stays self.old self.new) }
-    {
-        self.store.mark(key, spot, ts, above, next)
-    }
-
     /// Writes a value, or a delete where there is none, unless a later reader has read the version
     /// before it. Then the transaction is aborted, which takes no memory.
-    pub(crate) fn try_write(
-        &mut self,
-        seat: u8,
-        ts: u64,
-        key: &Key,
-        after: Option<&Value>,
-    ) -> Result<Reply, AllocError>
-        ensures answered { IfOk result (λ reply. Changes self.old self.new (λ k k'. IsAnswered k k' seat (write_of ts key.now (option_copied after.entry)) reply)) }
-        ensures wanting { OnErr result (Changes self.old self.new (λ k k'. IsWanting k k' seat (write_of ts key.now (option_copied after.entry)))) }
+    pub fn write(&mut self, seat: u8, ts: u64, key: &Key, after: Option<&Value>) -> Reply
+        ensures step { Steps self.old self.new seat (write_of ts key.now (option_copied after.entry)) result }
     {
         let ts = match self.undecided(seat, ts) {
-            Err(refusal) => return Ok(Reply::Refused(refusal)),
+            Err(refusal) => return Reply::Refused(refusal),
             Ok(ts) => ts,
         };
-        match self.store.write(key, ts, after)? {
-            Wrote::Done => Ok(Reply::Written),
-            Wrote::Crossed => {
+        match self.store.write(key, ts, after) {
+            Ok(Wrote::Done) => Reply::Written,
+            Ok(Wrote::Crossed) => {
                 self.take_back(ts);
-                Ok(Reply::Refused(Refusal::TooLate))
+                Reply::Refused(Refusal::TooLate)
             }
+            Err(_) => Reply::Refused(Refusal::NoMemory),
         }
     }
 
     /// Reads the keys of a span, and marks the reader at all of them, those without a version too, but
     /// for keys where the version is its own. That something stops the reader is answered without memory.
-    pub(crate) fn try_scan(&mut self, seat: u8, ts: u64, span: &Span) -> Result<Reply, AllocError>
+    pub fn scan(&mut self, seat: u8, ts: u64, span: &Span) -> Reply
+        ensures step { Steps self.old self.new seat (Scan ts span.now) result }
+    {
+        or_no_memory(self.try_scan(seat, ts, span))
+    }
+
+    fn try_scan(&mut self, seat: u8, ts: u64, span: &Span) -> Result<Reply, AllocError>
         ensures answered { IfOk result (λ reply. Changes self.old self.new (λ k k'. IsAnswered k k' seat (Scan ts span.now) reply)) }
         ensures wanting { OnErr result (Changes self.old self.new (λ k k'. IsWanting k k' seat (Scan ts span.now))) }
     {
@@ -152,33 +138,41 @@ impl Rules {
         match read_span(self.alloc, &self.store, span, ts)? {
             Reading::Stopped(by) => Ok(Reply::Refused(Refusal::Blocked { by })),
             Reading::Through(rows) => {
-                self.mark_all(span, ts)?;
+                self.store.mark_all(span, ts)?;
                 Ok(Reply::Rows(Rows::from_vec(rows)))
             }
         }
     }
 
-    /// Marks the reader of a span.
-    fn mark_all(&mut self, span: &Span, ts: Ts) -> Result<(), AllocError>
-        requires { ts ≤ MAX }
-        ensures ok { OnOk result (Changes self.old self.new (λ k k'. IsScannedBy k k' ts span.now)) }
-        ensures err { OnErr result (Stays self.old self.new) }
+    /// Commits a transaction with what it wrote. It takes no memory.
+    pub fn commit(&mut self, seat: u8, ts: u64) -> Reply
+        ensures step { Steps self.old self.new seat (Commit ts) result }
     {
-        self.store.mark_all(span, ts)
+        match self.undecided(seat, ts) {
+            Err(refusal) => Reply::Refused(refusal),
+            Ok(ts) => {
+                let keys = self.store.commit(ts);
+                self.txns.decide(ts, Outcome::Committed);
+                Reply::Committed { keys }
+            }
+        }
     }
 
-    /// Commits what a transaction wrote, notes that it has committed, and says how many keys it wrote.
-    pub(crate) fn commit_writes(&mut self, ts: Ts) -> u64
-        ensures committed { Changes self.old self.new (λ k k'. IsCommittedBy k k' ts) }
-        ensures count { Holds self.old (λ k. IsNumberOf (λ x. is_some (k.version x ts)) result) }
+    /// Aborts a transaction, and takes back what it wrote. It takes no memory.
+    pub fn abort(&mut self, seat: u8, ts: u64) -> Reply
+        ensures step { Steps self.old self.new seat (Abort ts) result }
     {
-        let keys = self.store.commit(ts);
-        self.txns.decide(ts, Outcome::Committed);
-        keys
+        match self.undecided(seat, ts) {
+            Err(refusal) => Reply::Refused(refusal),
+            Ok(ts) => {
+                self.take_back(ts);
+                Reply::Aborted
+            }
+        }
     }
 
     /// Takes back what a transaction wrote, and notes that it was aborted.
-    pub(crate) fn take_back(&mut self, ts: Ts)
+    fn take_back(&mut self, ts: Ts)
         ensures { Changes self.old self.new (λ k k'. IsAbortedBy k k' ts) }
     {
         self.store.abort(ts);
@@ -207,5 +201,16 @@ impl Rules {
         }
         // each number in the table is one
         Ok(Ts::new(ts).unwrap())
+    }
+}
+
+/// The reply, or that memory was wanting.
+fn or_no_memory(reply: Result<Reply, AllocError>) -> Reply
+    ensures ok { IfOk reply (λ r. result ≡ r) }
+    ensures err { OnErr reply (result ≡ Refused NoMemory) }
+{
+    match reply {
+        Ok(reply) => reply,
+        Err(_) => Reply::Refused(Refusal::NoMemory),
     }
 }

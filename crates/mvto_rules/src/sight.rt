@@ -46,8 +46,5 @@ impl Sight {
 pub(crate) fn value_of(newest: Option<&Version>) -> Result<Option<Value>, AllocError>
     ensures { IfOk result (λ after. after ≡ value_in (option_copied newest.entry)) }
 {
-    match newest {
-        None => Ok(None),
-        Some(version) => copy_after(&version.after),
-    }
+    newest.map_or(Ok(None), |version| copy_after(&version.after))
 }

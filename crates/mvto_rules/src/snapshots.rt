@@ -1,36 +1,25 @@
 //! Reads at a closed timestamp, of what was committed there, which mark nothing; and protections of it.
-ghost use Rattle.std.specs.Prelude.{ℕ, ◌≡◌, ◌<◌, ◌≤◌, IfOk, IfSome, OnErr};
-ghost use Rattle.std.specs.Map.{keys_of};
-ghost use Rattle.std.specs.Option.{option_copied};
-ghost use Rattle.mvto_rules.specs.Prelude.{AreFilled, IsAnswered, IsWanting, Protect, ReadAt, RisingKeys, ScanAt, made_in};
-ghost use Rattle.mvto_rules.specs.Scans.{entries_of, keys_in, rows_in};
+ghost use Rattle.std.specs.Prelude.{ℕ, ◌≡◌, ◌<◌};
+ghost use Rattle.mvto_rules.specs.Prelude.{Protect, ReadAt, Release, ScanAt, made_in};
 ghost use Rattle.mvto_rules.specs.Snapshots.{horizon_refusal, snapshot_refusal};
 
-use crate::reading::add_row;
+use crate::reading::{is_named, rows_at};
 use crate::rules::Rules;
 use crate::sight::value_of;
 use spans::calls::{Refusal, Reply, Rows};
 use spans::span::Span;
-use std::alloc::{AllocError, Global};
 use timestamps::key::Key;
 use timestamps::ts::MAX;
-use timestamps::value::Value;
-use version_chain::chain::Version;
-use version_chain::{Steps, Store};
 
 impl Rules {
-    ghost use Rattle.mvto_rules.specs.Holding.{Changes, Holds, closing_of, held};
+    ghost use Rattle.mvto_rules.specs.Holding.{Holds, Steps, closing_of, held};
 
     /// A refusal where `t` is below the horizon: what was there may be gone.
     pub fn horizon_refusal(&self, t: u64) -> Option<Refusal>
         ensures { Holds self.now (λ k. result ≡ horizon_refusal k t) }
     {
         let horizon = self.horizon;
-        if t < horizon {
-            Some(Refusal::BelowHorizon { horizon })
-        } else {
-            None
-        }
+        (t < horizon).then_some(Refusal::BelowHorizon { horizon })
     }
 
     /// Why nothing is read at `t`.
@@ -44,75 +33,59 @@ impl Rules {
         self.horizon_refusal(t)
     }
 
-    /// The value that the newest version of a key at or below `t` left.
-    pub(crate) fn try_read_at(&self, t: u64, key: &Key) -> Result<Reply, AllocError>
-        ensures answered { (seat : ℕ) → IfOk result (λ reply. Holds self.now (λ k. IsAnswered k k seat (ReadAt t key.now) reply)) }
-        ensures wanting { (seat : ℕ) → OnErr result (Holds self.now (λ k. IsWanting k k seat (ReadAt t key.now))) }
+    /// Reads a key at a closed timestamp: the value that its newest version there left.
+    pub fn read_at(&self, t: u64, key: &Key) -> Reply
+        ensures step { (seat : ℕ) → Steps self.now self.now seat (ReadAt t key.now) result }
     {
         if let Some(refusal) = self.snapshot_refusal(t) {
-            return Ok(Reply::Refused(refusal));
+            return Reply::Refused(refusal);
         }
         let newest = self.store.newest_at(key, t);
         is_named(newest);
-        let after = value_of(newest)?;
-        Ok(Reply::Found(after))
+        match value_of(newest) {
+            Ok(after) => Reply::Found(after),
+            Err(_) => Reply::Refused(Refusal::NoMemory),
+        }
     }
 
-    /// The keys of a span whose newest version at or below `t` has a value, with it.
-    pub(crate) fn try_scan_at(&self, t: u64, span: &Span) -> Result<Reply, AllocError>
-        ensures answered { (seat : ℕ) → IfOk result (λ reply. Holds self.now (λ k. IsAnswered k k seat (ScanAt t span.now) reply)) }
-        ensures wanting { (seat : ℕ) → OnErr result (Holds self.now (λ k. IsWanting k k seat (ScanAt t span.now))) }
+    /// Reads the keys of a span at a closed timestamp: those whose newest version there has a value, with it.
+    pub fn scan_at(&self, t: u64, span: &Span) -> Reply
+        ensures step { (seat : ℕ) → Steps self.now self.now seat (ScanAt t span.now) result }
     {
         if let Some(refusal) = self.snapshot_refusal(t) {
-            return Ok(Reply::Refused(refusal));
+            return Reply::Refused(refusal);
         }
-        let rows = rows_at(self.alloc, &self.store, span, t)?;
-        Ok(Reply::Rows(Rows::from_vec(rows)))
+        match rows_at(self.alloc, &self.store, span, t) {
+            Ok(rows) => Reply::Rows(Rows::from_vec(rows)),
+            Err(_) => Reply::Refused(Refusal::NoMemory),
+        }
     }
 
-    /// Protects `t`, and answers the protection's number.
-    pub(crate) fn try_protect(&mut self, t: u64) -> Result<Reply, AllocError>
+    /// Protects a timestamp, and answers the protection's number.
+    pub fn protect(&mut self, t: u64) -> Reply
         requires room { made_in (closing_of self.old) < 18446744073709551615 }
-        ensures answered { (seat : ℕ) → IfOk result (λ reply. Changes self.old self.new (λ k k'. IsAnswered k k' seat (Protect t) reply)) }
-        ensures wanting { (seat : ℕ) → OnErr result (Changes self.old self.new (λ k k'. IsWanting k k' seat (Protect t))) }
+        ensures step { (seat : ℕ) → Steps self.old self.new seat (Protect t) result }
     {
         if t > MAX {
-            return Ok(Reply::Refused(Refusal::TsRange));
+            return Reply::Refused(Refusal::TsRange);
         }
         if let Some(refusal) = self.horizon_refusal(t) {
-            return Ok(Reply::Refused(refusal));
+            return Reply::Refused(refusal);
         }
-        let id = self.closing.protect(t)?;
-        Ok(Reply::Protected { id })
+        match self.closing.protect(t) {
+            Ok(id) => Reply::Protected { id },
+            Err(_) => Reply::Refused(Refusal::NoMemory),
+        }
     }
-}
 
-/// The rows of a span.
-fn rows_at(
-    alloc: Global,
-    store: &Store,
-    span: &Span,
-    t: u64,
-) -> Result<Vec<(Key, Value)>, AllocError>
-    ensures rows { IfOk result (λ rows. rows.items ≡ rows_in store.now t (keys_in store.now span.now)) }
-    ensures rising { RisingKeys (keys_of store.now.entries) }
-    ensures filled { AreFilled (entries_of store.now span.now) }
-{
-    let found = store.in_span(span);
-    let mut rows = Vec::new(alloc);
-    for (key, chain) in found {
-        let newest = chain.newest_at(t, &mut Steps::new());
-        is_named(newest);
-        add_row(&mut rows, key, newest)?;
-    }
-    Ok(rows)
-}
-
-/// A version's timestamp is never 0.
-pub(crate) fn is_named(newest: Option<&Version>)
-    ensures { IfSome (option_copied newest.entry) (λ v. 1 ≤ v.ts) }
-{
-    if let Some(version) = newest {
-        let _ts = version.ts.get();
+    /// Ends a protection. It takes no memory.
+    pub fn release(&mut self, id: u64) -> Reply
+        ensures step { (seat : ℕ) → Steps self.old self.new seat (Release id) result }
+    {
+        if self.closing.release(id) {
+            Reply::Released
+        } else {
+            Reply::Refused(Refusal::NoProtection)
+        }
     }
 }

@@ -1,9 +1,10 @@
-use Rattle.std.proofs.Common.{None, Some, refl, subst, sym, ◌∙◌}
-use Rattle.mvto_rules.proofs.Common.{IsScanReply, IsScannedBy, Rows, alike_self, any_err}
+use Rattle.std.proofs.Common.{None, Some, refl, subst, sym, ◌∙◌, ◌≤◌}
+use Rattle.mvto_rules.proofs.Common.{IsScanReply, MAX, IsScannedBy, Rows, alike_self, any_err}
 use Rattle.mvto_rules.specs.Holding.{holding}
 use Rattle.mvto_rules.specs.Readings.{IsReading}
+use Rattle.mvto_rules.proofs.Noting.{stays}
 use Rattle.mvto_rules.proofs.Replies.{scan_refused}
-use Rattle.mvto_rules.proofs.Scanning.{scan_found}
+use Rattle.mvto_rules.proofs.Scanning.{scan_found, scanned}
 use Rattle.mvto_rules.proofs.rules.Rules.try_scan.Goals as goal
 
 pub returns-in-Err-clause-answered : goal.returns-in-Err-clause-answered
@@ -22,7 +23,8 @@ returns-in_ok-mark_all-in-Through-clause-answered c = λ k.
     record {
       right = subst (λ rows. IsScanReply (holding k c.args.self.now) c.args.seat c.args.ts c.args.span.now (Rows rows)) (sym (c.from_vec.ensures ∙ through.1))
           (scan_found k c.args.self.now c.args.seat c.args.ts c.in-Ok.ts c.args.span.now None c.in-Ok.ensures.ok c.in-Ok.ensures.none c.in_ok-by.ensures.rising c.in_ok-by.ensures.filled through.0);
-      change = subst (λ t. IsScannedBy (holding k c.args.self.now) (holding k c.mark_all.new.self) t c.args.span.now) c.in-Ok.ensures.ok (c.in_ok-mark_all-in-Through.ensures.ok k);
+      change = subst (λ t. IsScannedBy (holding k c.args.self.now) (holding k (record c.args.self.now { store = c.mark_all.new.self })) t c.args.span.now) c.in-Ok.ensures.ok
+          (scanned k c.args.self.now c.mark_all.new.self c.in-Ok.ts c.args.span.now (subst (λ t. t ≤ MAX) (sym c.in-Ok.ensures.ok) c.in-Ok.ensures.in_range.1) c.in_ok-mark_all-in-Through.ensures.ok c.mark_all.ensures.versions);
     }
 
 pub returns-in_err-by-clause-wanting : goal.returns-in_err-by-clause-wanting
@@ -38,5 +40,5 @@ returns-in_err-mark_all-in-Through-clause-wanting c = any_err c.from_residual-in
     record {
       may = refl;
       accepting = (Rows _, scan_found k c.args.self.now c.args.seat c.args.ts c.in-Ok.ts c.args.span.now None c.in-Ok.ensures.ok c.in-Ok.ensures.none c.in_ok-by.ensures.rising c.in_ok-by.ensures.filled through.0, refl);
-      alike = c.in_err-mark_all-in-Through.ensures.err k;
+      alike = stays k c.args.self.now c.mark_all.new.self c.mark_all.ensures.versions c.in_err-mark_all-in-Through.ensures.err;
     })

@@ -2,7 +2,7 @@ use Rattle.std.proofs.Common.{◌∙◌, refl, rules, subst, ◌≡◌, []}
 use Rattle.mvto_rules.proofs.Common.{deref_pair, option_copied, rest_all}
 use Rattle.mvto_rules.proofs.Listing.{IsListing, list_begins, list_ends, list_goes_on}
 use Rattle.mvto_rules.proofs.Walking.{there_at}
-use Rattle.mvto_rules.proofs.snapshots.rows_at.Goals as goal
+use Rattle.mvto_rules.proofs.reading.rows_at.Goals as goal
 
 pub loop-key-init : goal.loop-key-init
 loop-key-init c = list_begins c.args.store.now c.args.t c.args.span.now c.into_iter-key-iterator.result c.new-rows.result.items (c.into_iter-key-iterator.ensures.into_iter_gives ∙ c.in_span-found.ensures.found) c.in_span-found.ensures.ordered (search rules)
