@@ -48,6 +48,7 @@ module _ {T E : Type 0} (stands : T → ℕ → List E → Type 0) (seat_of : E 
     pub come : serving ≡ key.first + length history
     pub ahead : serving ≤ ticket
     pub stood : stands last key.first history
+    -- while nobody has the turn, the floor word is no higher than the value's floor
     pub capped : away ≡ false → floor ≤ floor_of last
     pub named : (k : ℕ) (e : E) → get_elem? history k ≡ some e → seat_of e < key.count
 

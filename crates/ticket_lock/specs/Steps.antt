@@ -6,8 +6,8 @@ use Rattle.ticket_lock.specs.Views.{SeatState, nobody, caught_up, met_spent, dra
 use Rattle.ticket_lock.specs.Turns.{HasLooked}
 use Rattle.ticket_lock.specs.declared.rule.Look.TheVariants.{Ignored}
 use Rattle.ticket_lock.specs.declared.rule.View.{View}
-use Rattle.ticket_lock.specs.declared.denied.Denied.{Denied}
-use Rattle.ticket_lock.specs.declared.denied.Denied.TheVariants.{Busy, Spent}
+use Rattle.ticket_lock.specs.declared.lock.Denied.{Denied}
+use Rattle.ticket_lock.specs.declared.lock.Denied.TheVariants.{Busy, Spent}
 
 module _ {T E : Type 0} where
   abbrev pub saw_ticket : Step (Option T) → SeatState T E → ℕ → SeatState T E → Type 0

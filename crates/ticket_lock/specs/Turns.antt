@@ -2,8 +2,8 @@
 use Rattle.std.specs.Prelude.{◌≡◌, ℕ, ◌+◌, ◌<◌, ◌≤◌, ◌⊎◌, List, ◌∷◌, length, Some, None, true, false}
 use Rattle.ticket_lock.specs.declared.rule.Look.{Look}
 use Rattle.ticket_lock.specs.declared.rule.Look.TheVariants.{Serving, Next}
-use Rattle.ticket_lock.specs.declared.denied.Denied.{Denied}
-use Rattle.ticket_lock.specs.declared.denied.Denied.TheVariants.{Busy, Spent}
+use Rattle.ticket_lock.specs.declared.lock.Denied.{Denied}
+use Rattle.ticket_lock.specs.declared.lock.Denied.TheVariants.{Busy, Spent}
 use Rattle.ticket_lock.specs.declared.chronicle.Chronicle.{Ghosts}
 use Rattle.ticket_lock.specs.declared.lock.Seat.{Seat}
 use Rattle.ticket_lock.specs.Lists.{StartsWith}

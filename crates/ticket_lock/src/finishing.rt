@@ -37,9 +37,7 @@ impl<T: Chronicle> TicketLock<T> {
         let all = self.gather(seats);
         let TicketLock { board, .. } = self;
         let mut closed = board.close_with(all);
-        let Some(value) = closed.take(HOME) else {
-            unreachable!()
-        };
+        let value = closed.take(HOME).unwrap();
         closed.free();
         Ok(value)
     }

@@ -38,8 +38,7 @@ impl<T: Chronicle> TicketLock<T> {
         ensures looked { (was : ℕ) × (looks seat.new ≡ Floor was ∷ looks seat.old) × (known seat.new ≡ max was (T.floor_of held.now.value)) }
     {
         let floor = held.value.floor();
-        self.board
-            .shared
-            .fetch_max::<RaiseFloor>(&mut seat.pass, FLOOR, floor);
+        let shared = &self.board.shared;
+        shared.fetch_max::<RaiseFloor>(&mut seat.pass, FLOOR, floor);
     }
 }

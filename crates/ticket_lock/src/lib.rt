@@ -38,7 +38,6 @@
 #![tactic(auto)]
 
 mod chronicle;
-mod denied;
 mod finishing;
 mod floors;
 mod issuing;
@@ -52,5 +51,4 @@ mod tests;
 mod turns;
 
 pub use chronicle::Chronicle;
-pub use denied::Denied;
-pub use lock::{Held, Seat, SeatsMissing, Spent, TicketLock};
+pub use lock::{Denied, Held, Seat, SeatsMissing, Spent, TicketLock};

@@ -1,4 +1,4 @@
-//! The types: the lock, a seat, and the value that a seat holds for one turn.
+//! The types: the lock, a seat, the value that a seat holds for one turn, and how calls end.
 ghost use Rattle.std.specs.Prelude.{◌≡◌, ◌≤◌, ◌<◌, ◌^◌, ◌+◌, ◌-◌};
 ghost use Rattle.ticket_lock.specs.Views.{setup};
 ghost use Rattle.ticket_lock.specs.Proper.{IsProper};
@@ -37,6 +37,16 @@ pub struct Held<T> {
 /// No ticket is left: the next one would be 18446744073709551615.
 #[derive(Drop)]
 pub struct Spent;
+
+/// Why `TicketLock::try_turn` gave no turn.
+#[derive(Drop)]
+pub enum Denied {
+    /// The ticket `served` had its turn, and the tickets from there up to `next` were drawn. Both were
+    /// loaded in this call, `next` after `served`.
+    Busy { served: u64, next: u64 },
+    /// No ticket is left.
+    Spent,
+}
 
 /// `TicketLock::finish` was not given all seats. The lock and those that it was given come back.
 #[derive(Drop)]

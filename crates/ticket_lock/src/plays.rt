@@ -1,5 +1,7 @@
 //! The kinds of step on the table's words: what each tells the seat that makes it.
 ghost use Rattle.std.specs.Prelude.{List, []};
+ghost use Rattle.ticket_lock.specs.Steps.{awaited, compared, drew, entered, raised_to, released, saw_floor, saw_serving, saw_ticket, stored_bed};
+ghost use Rattle.ticket_lock.specs.Views.{after_issue, gathering, hearing, issued, nobody, report_of, telling};
 
 use crate::chronicle::Chronicle;
 use crate::rule::View;
@@ -10,8 +12,6 @@ use std::marker::{Brand, PhantomData};
 pub struct LoadTicket;
 
 impl<T: Chronicle> Play<Option<T>, View<T::Entry>> for LoadTicket {
-    ghost use Rattle.ticket_lock.specs.Steps.{saw_ticket};
-
     ghost then = { saw_ticket };
 }
 
@@ -19,8 +19,6 @@ impl<T: Chronicle> Play<Option<T>, View<T::Entry>> for LoadTicket {
 pub struct DrawTicket;
 
 impl<T: Chronicle> Play<Option<T>, View<T::Entry>> for DrawTicket {
-    ghost use Rattle.ticket_lock.specs.Steps.{drew};
-
     ghost then = { drew };
 }
 
@@ -28,8 +26,6 @@ impl<T: Chronicle> Play<Option<T>, View<T::Entry>> for DrawTicket {
 pub struct LoadServing;
 
 impl<T: Chronicle> Play<Option<T>, View<T::Entry>> for LoadServing {
-    ghost use Rattle.ticket_lock.specs.Steps.{saw_serving};
-
     ghost then = { saw_serving };
 }
 
@@ -37,8 +33,6 @@ impl<T: Chronicle> Play<Option<T>, View<T::Entry>> for LoadServing {
 pub struct AwaitTurn;
 
 impl<T: Chronicle> Play<Option<T>, View<T::Entry>> for AwaitTurn {
-    ghost use Rattle.ticket_lock.specs.Steps.{awaited};
-
     ghost then = { awaited T.stands T.floor_of };
 }
 
@@ -53,13 +47,9 @@ impl<E> EndsWith<E> for Brand {
 }
 
 /// A store of the serving word, which gives the value back.
-pub struct EndTurn<J> {
-    marker: PhantomData<J>,
-}
+pub struct EndTurn<J>(PhantomData<J>);
 
 impl<T: Chronicle, J: EndsWith<T::Entry>> Play<Option<T>, View<T::Entry>> for EndTurn<J> {
-    ghost use Rattle.ticket_lock.specs.Steps.{released};
-
     ghost then = { released T.seat_of T.floor_of J.entries };
 }
 
@@ -67,8 +57,6 @@ impl<T: Chronicle, J: EndsWith<T::Entry>> Play<Option<T>, View<T::Entry>> for En
 pub struct CatchUp;
 
 impl<T: Chronicle> Play<Option<T>, View<T::Entry>> for CatchUp {
-    ghost use Rattle.ticket_lock.specs.Steps.{compared};
-
     ghost then = { compared T.seat_of };
 }
 
@@ -76,8 +64,6 @@ impl<T: Chronicle> Play<Option<T>, View<T::Entry>> for CatchUp {
 pub struct RaiseFloor;
 
 impl<T: Chronicle> Play<Option<T>, View<T::Entry>> for RaiseFloor {
-    ghost use Rattle.ticket_lock.specs.Steps.{raised_to};
-
     ghost then = { raised_to };
 }
 
@@ -85,8 +71,6 @@ impl<T: Chronicle> Play<Option<T>, View<T::Entry>> for RaiseFloor {
 pub struct LoadFloor;
 
 impl<T: Chronicle> Play<Option<T>, View<T::Entry>> for LoadFloor {
-    ghost use Rattle.ticket_lock.specs.Steps.{saw_floor};
-
     ghost then = { saw_floor };
 }
 
@@ -94,8 +78,6 @@ impl<T: Chronicle> Play<Option<T>, View<T::Entry>> for LoadFloor {
 pub struct MarkBed;
 
 impl<T: Chronicle> Play<Option<T>, View<T::Entry>> for MarkBed {
-    ghost use Rattle.ticket_lock.specs.Steps.{stored_bed};
-
     ghost then = { stored_bed };
 }
 
@@ -103,8 +85,6 @@ impl<T: Chronicle> Play<Option<T>, View<T::Entry>> for MarkBed {
 pub struct EnterGatherer;
 
 impl<T: Chronicle> Play<Option<T>, View<T::Entry>> for EnterGatherer {
-    ghost use Rattle.ticket_lock.specs.Steps.{entered};
-
     ghost then = { entered };
 }
 
@@ -112,8 +92,6 @@ impl<T: Chronicle> Play<Option<T>, View<T::Entry>> for EnterGatherer {
 pub struct SplitReport;
 
 impl<E> Split<View<E>> for SplitReport {
-    ghost use Rattle.ticket_lock.specs.Views.{telling, report_of};
-
     ghost left = { telling };
 
     ghost right = { report_of };
@@ -123,8 +101,6 @@ impl<E> Split<View<E>> for SplitReport {
 pub struct HearReport;
 
 impl<E> Join<View<E>> for HearReport {
-    ghost use Rattle.ticket_lock.specs.Views.{hearing, nobody};
-
     ghost both = { hearing };
 
     ghost spent = { nobody };
@@ -134,8 +110,6 @@ impl<E> Join<View<E>> for HearReport {
 pub struct GatherSeat;
 
 impl<E> Join<View<E>> for GatherSeat {
-    ghost use Rattle.ticket_lock.specs.Views.{gathering, nobody};
-
     ghost both = { gathering };
 
     ghost spent = { nobody };
@@ -145,8 +119,6 @@ impl<E> Join<View<E>> for GatherSeat {
 pub struct IssueSeat;
 
 impl<E> Split<View<E>> for IssueSeat {
-    ghost use Rattle.ticket_lock.specs.Views.{after_issue, issued};
-
     ghost left = { after_issue };
 
     ghost right = { issued };

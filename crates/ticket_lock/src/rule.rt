@@ -98,9 +98,7 @@ pub struct Setup {
 }
 
 /// The rule of the table.
-pub struct TurnOrder<T> {
-    marker: PhantomData<T>,
-}
+pub struct TurnOrder<T>(PhantomData<T>);
 
 impl<T: Chronicle> TableRule<Option<T>, View<T::Entry>, Setup> for TurnOrder<T> {
     ghost use Rattle.ticket_lock.specs.Rule.{Ordered};

@@ -9,8 +9,7 @@ ghost use Rattle.ticket_lock.specs.Steps.{DeniedAt, Draws, DrawsServed, PutOffAt
 ghost use Rattle.ticket_lock.specs.Proper.{IsSamePass};
 
 use crate::chronicle::Chronicle;
-use crate::denied::Denied;
-use crate::lock::TicketLock;
+use crate::lock::{Denied, TicketLock};
 use crate::plays::{AwaitTurn, DrawTicket, EndTurn, EndsWith, LoadServing, LoadTicket, MarkBed};
 use crate::rule::{ASLEEP, AWAKE, BEDS, HOME, LOOKS, NEAR, Pass, SERVING, TICKET};
 use crossbeam_utils::Backoff;
@@ -58,15 +57,11 @@ impl<T: Chronicle> TicketLock<T> {
         if served < next {
             return Err(Denied::Busy { served, next });
         }
-        let found = shared.compare_exchange::<DrawTicket>(pass, TICKET, served, served + 1);
-        if found == served {
-            Ok(served)
-        } else {
-            Err(Denied::Busy {
-                served,
-                next: found,
-            })
+        let next = shared.compare_exchange::<DrawTicket>(pass, TICKET, served, served + 1);
+        if next != served {
+            return Err(Denied::Busy { served, next });
         }
+        Ok(served)
     }
 
     // Draws a ticket that is served at once, unless others keep the turn for long. Meanwhile it has
@@ -98,10 +93,7 @@ impl<T: Chronicle> TicketLock<T> {
     {
         let _ = ticket;
         self.board.shared.load::<AwaitTurn>(pass, SERVING);
-        let Some(value) = self.board.shared.exchange(pass, HOME, None) else {
-            unreachable!()
-        };
-        value
+        self.board.shared.exchange(pass, HOME, None).unwrap()
     }
 
     // Waits for the turn of the ticket, and takes the value. While its turn is near it spins and then
@@ -120,10 +112,7 @@ impl<T: Chronicle> TicketLock<T> {
         for _ in rt.forever() {
             let serving = shared.load::<AwaitTurn>(pass, SERVING);
             if serving == ticket {
-                let Some(value) = shared.exchange(pass, HOME, None) else {
-                    unreachable!()
-                };
-                return value;
+                return shared.exchange(pass, HOME, None).unwrap();
             }
             if announced {
                 shared.park(rt, bed, ASLEEP as u32);
@@ -162,11 +151,10 @@ impl<T: Chronicle> TicketLock<T> {
         ensures own_before { pass.old.me.0.kept.mine ≡ of_seat T.seat_of pass.old.me.0.kept.number pass.old.me.0.found }
     {
         let _ = entry;
-        let empty = self.board.shared.exchange(pass, HOME, Some(value));
+        let shared = &self.board.shared;
+        let empty = shared.exchange(pass, HOME, Some(value));
         let None = empty else { unreachable!() };
-        self.board
-            .shared
-            .store::<EndTurn<J>>(pass, SERVING, ticket + 1);
+        shared.store::<EndTurn<J>>(pass, SERVING, ticket + 1);
         self.wake(pass, ticket + 1);
     }
 

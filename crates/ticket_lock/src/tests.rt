@@ -1,21 +1,46 @@
 //! Turns of a lock over a counter: their tickets, who is refused meanwhile, the floor; and what no caller sees, that a
 //! seat which waits for long sleeps.
 ghost use Rattle.std.specs.Prelude.{◌≡◌, length, None};
+ghost use Rattle.std.proofs.Common.{arith, length-append};
 ghost use Rattle.ticket_lock.specs.Seats.{AllNew, IsOf, number, ticket};
 
-mod counter;
-
 use crate::rule::ASLEEP;
-use crate::{Denied, Seat, TicketLock};
-use counter::{Counter, Mark};
+use crate::{Chronicle, Denied, Seat, TicketLock};
+use std::alloc::AllocError;
 use std::process::Abort;
 use std::sync::Wait;
 use std::sync::atomic::Ordering::SeqCst;
 use std::sync::atomic::{AtomicBool, AtomicU64};
 use std::test::Fail;
-use std::thread::{Threads, join, yield_now};
+use std::thread::{Threads, join, map_vec, yield_now};
 
+/// How often a test looks for something before it gives up.
 const PATIENCE: u64 = 1_000_000;
+
+/// How many seats sleep at once.
+const SLEEPERS: u64 = 4;
+
+/// It stands for the numbers of the seats that counted, and is its own floor.
+#[derive(Drop)]
+struct Counter {
+    count: u64,
+}
+
+impl Chronicle for Counter {
+    type Entry = u8;
+
+    ghost stands = { λ counter first numbers. counter.count ≡ length numbers };
+
+    ghost seat_of = { λ number. number };
+
+    ghost floor_of = { λ counter. counter.count };
+
+    fn floor(&self) -> u64 {
+        self.count
+    }
+
+    ghost floor_rises = { λ x y first before after p q. Prim.omega (arith, length-append before after) };
+}
 
 /// How far the seats of a test are.
 #[derive(Drop)]
@@ -24,27 +49,6 @@ struct Progress {
     begun: AtomicBool,
     /// How many seats have had all their turns.
     done: AtomicU64,
-}
-
-impl Progress {
-    fn new() -> Progress {
-        Progress {
-            begun: AtomicBool::new(false),
-            done: AtomicU64::new(0),
-        }
-    }
-
-    /// Waits until so many seats have had their turns. One that nobody wakes would sleep for ever, so
-    /// after the limit the test ends here.
-    fn watch(&self, rt: &impl Abort, seats: u64) {
-        for _ in 0..PATIENCE {
-            if self.done.load(SeqCst) == seats {
-                return;
-            }
-            yield_now();
-        }
-        panic!(rt; "a seat had no turn within the limit");
-    }
 }
 
 /// The last of the new seats.
@@ -64,7 +68,7 @@ fn last(
     seat
 }
 
-/// One turn, which adds a mark. The ticket that it had.
+/// One turn, which counts. The ticket that it had.
 fn tick<R: Wait>(rt: &R, lock: &TicketLock<Counter>, seat: &mut Seat<Counter>) -> Option<u64>
     requires own { IsOf lock.now seat.old × (ticket seat.old ≡ None) }
     ensures own { IsOf lock.now seat.new × (ticket seat.new ≡ None) }
@@ -72,10 +76,8 @@ fn tick<R: Wait>(rt: &R, lock: &TicketLock<Counter>, seat: &mut Seat<Counter>) -
     let mut held = lock.turn(rt, seat).ok()?;
     let ticket = held.ticket();
     held.value.count += 1;
-    let mark = Mark {
-        seat: seat.number(),
-    };
-    lock.end(seat, held, &mark);
+    let number = seat.number();
+    lock.end(seat, held, &number);
     Some(ticket)
 }
 
@@ -87,10 +89,8 @@ fn try_tick(lock: &TicketLock<Counter>, seat: &mut Seat<Counter>) -> Result<u64,
     let mut held = lock.try_turn(seat)?;
     let ticket = held.ticket();
     held.value.count += 1;
-    let mark = Mark {
-        seat: seat.number(),
-    };
-    lock.end(seat, held, &mark);
+    let number = seat.number();
+    lock.end(seat, held, &number);
     Ok(ticket)
 }
 
@@ -124,10 +124,8 @@ fn raises<R: Wait>(
     lock.raise_floor(seat, &held);
     let busy = is_busy(lock, other, 5, 6) && is_busy(lock, other, 5, 6);
     let floor = lock.floor(other);
-    let mark = Mark {
-        seat: seat.number(),
-    };
-    lock.end(seat, held, &mark);
+    let number = seat.number();
+    lock.end(seat, held, &number);
     busy && floor == 1
 }
 
@@ -169,10 +167,12 @@ fn tickets_are_used_up(rt: HostRuntime) -> Result<(), Fail> {
     Ok(())
 }
 
-/// Waits until the flag is set, but not for ever.
-fn saw(flag: &AtomicBool) -> bool {
+/// Waits until something is so, but not for ever.
+fn comes<F: Fn() -> bool + Drop>(is_so: F) -> bool
+    requires { F.IsAlwaysCallable is_so }
+{
     for _ in 0..PATIENCE {
-        if flag.load(SeqCst) {
+        if is_so() {
             return true;
         }
         yield_now();
@@ -186,47 +186,44 @@ fn follow<R: Wait>(
     lock: &TicketLock<Counter>,
     mut seat: Seat<Counter>,
     progress: &Progress,
-) -> (Seat<Counter>, Option<u64>)
+) -> Option<u64>
     requires own { IsOf lock.now seat × (ticket seat ≡ None) }
-    ensures own { IsOf lock.now result.0 × (ticket result.0 ≡ None) }
 {
-    if !saw(&progress.begun) {
-        return (seat, None);
+    if !comes(|| progress.begun.load(SeqCst)) {
+        return None;
     }
     let ticket = tick(rt, lock, &mut seat);
     progress.done.fetch_add(1, SeqCst);
-    (seat, ticket)
+    ticket
 }
 
-/// The seat with this ticket sleeps, or is about to.
-fn sleeps(lock: &TicketLock<Counter>, ticket: u64) -> bool {
-    lock.board.shared.peek(lock.bed(ticket)) == ASLEEP
+/// The seats follow, each in a thread. Their tickets.
+fn follow_all<R: Threads + Wait + Sync>(
+    rt: &R,
+    lock: &TicketLock<Counter>,
+    seats: Vec<Seat<Counter>>,
+    progress: &Progress,
+) -> Result<Vec<Option<u64>>, AllocError>
+    requires new { AllNew lock.now seats.items }
+{
+    map_vec(
+        rt,
+        seats,
+        &|seat: Seat<Counter>| -> Option<u64>
+            requires { IsOf lock.now seat × (ticket seat ≡ None) }
+        { follow(rt, lock, seat, progress) },
+    )
 }
 
-/// Waits until the seats with the tickets from 1 to `sleepers` sleep at once, but not for ever.
-fn all_sleep(lock: &TicketLock<Counter>, sleepers: u64) -> bool {
-    for _ in 0..PATIENCE {
-        let mut asleep = true;
-        for ticket in 0..sleepers {
-            asleep = asleep && sleeps(lock, ticket + 1);
-        }
-        if asleep {
-            return true;
-        }
-        yield_now();
-    }
-    false
-}
-
-/// The first turn, which lasts until the seats that follow sleep. Then they have to be woken. Before that, one more
-/// seat is told how many tickets are out.
+/// The first turn, which lasts until the seats that follow sleep: each ticket behind the first has marked its bed. Then
+/// they have to be woken, and one that nobody wakes ends the test. Before that, one more seat is told how many tickets
+/// are out.
 fn lead<R: Wait + Abort>(
     rt: &R,
     lock: &TicketLock<Counter>,
     mut seat: Seat<Counter>,
     mut asking: Seat<Counter>,
     progress: &Progress,
-    sleepers: u64,
 ) -> (Seat<Counter>, bool)
     requires own { IsOf lock.now seat × (ticket seat ≡ None) }
     requires asks { IsOf lock.now asking × (ticket asking ≡ None) }
@@ -237,88 +234,44 @@ fn lead<R: Wait + Abort>(
     };
     held.value.count += 1;
     progress.begun.store(true, SeqCst);
-    let asleep = all_sleep(lock, sleepers);
-    let busy = is_busy(lock, &mut asking, 0, sleepers.saturating_add(1));
-    let mark = Mark {
-        seat: seat.number(),
-    };
-    lock.end(&mut seat, held, &mark);
-    progress.watch(rt, sleepers);
+    let sleeps = |ticket: u64| lock.board.shared.peek(lock.bed(ticket)) == ASLEEP;
+    let asleep = comes(|| (1..=SLEEPERS).all(sleeps));
+    let busy = is_busy(lock, &mut asking, 0, SLEEPERS + 1);
+    let number = seat.number();
+    lock.end(&mut seat, held, &number);
+    if !comes(|| progress.done.load(SeqCst) == SLEEPERS) {
+        panic!(rt; "a seat had no turn within the limit");
+    }
     (seat, asleep && busy)
-}
-
-/// Two seats follow, each in a thread. The sum of their tickets.
-fn follow_both<R: Threads + Wait + Sync>(
-    rt: &R,
-    lock: &TicketLock<Counter>,
-    one: Seat<Counter>,
-    two: Seat<Counter>,
-    progress: &Progress,
-) -> Option<u64>
-    requires one { IsOf lock.now one × (ticket one ≡ None) }
-    requires two { IsOf lock.now two × (ticket two ≡ None) }
-{
-    let ((_, by_one), (_, by_two)) = join(
-        rt,
-        || -> (Seat<Counter>, Option<u64>)
-            requires { IsOf lock.now one × (ticket one ≡ None) }
-        { follow(rt, lock, one, progress) },
-        || -> (Seat<Counter>, Option<u64>)
-            requires { IsOf lock.now two × (ticket two ≡ None) }
-        { follow(rt, lock, two, progress) },
-    );
-    Some(by_one?.saturating_add(by_two?))
-}
-
-/// Four seats follow, each in a thread.
-fn follow_all<R: Threads + Wait + Sync>(
-    rt: &R,
-    lock: &TicketLock<Counter>,
-    a: Seat<Counter>,
-    b: Seat<Counter>,
-    c: Seat<Counter>,
-    d: Seat<Counter>,
-    progress: &Progress,
-) -> Option<u64>
-    requires first { (IsOf lock.now a × (ticket a ≡ None)) × (IsOf lock.now b × (ticket b ≡ None)) }
-    requires second { (IsOf lock.now c × (ticket c ≡ None)) × (IsOf lock.now d × (ticket d ≡ None)) }
-{
-    let (by_two, by_others) = join(
-        rt,
-        || -> Option<u64>
-            requires { (IsOf lock.now a × (ticket a ≡ None)) × (IsOf lock.now b × (ticket b ≡ None)) }
-        { follow_both(rt, lock, a, b, progress) },
-        || -> Option<u64>
-            requires { (IsOf lock.now c × (ticket c ≡ None)) × (IsOf lock.now d × (ticket d ≡ None)) }
-        { follow_both(rt, lock, c, d, progress) },
-    );
-    Some(by_two?.saturating_add(by_others?))
 }
 
 #[test]
 fn many_seats_that_sleep_are_woken_in_turn(rt: HostRuntime) -> Result<(), Fail> {
     let (lock, mut seats) = TicketLock::new(rt.alloc(), Counter { count: 0 }, 0, 6)?;
     let asking = last(&rt, &lock, &mut seats);
-    let e = last(&rt, &lock, &mut seats);
-    let d = last(&rt, &lock, &mut seats);
-    let c = last(&rt, &lock, &mut seats);
-    let b = last(&rt, &lock, &mut seats);
-    let a = last(&rt, &lock, &mut seats);
-    let progress = Progress::new();
+    let leading = last(&rt, &lock, &mut seats);
+    let progress = Progress {
+        begun: AtomicBool::new(false),
+        done: AtomicU64::new(0),
+    };
     let (shared, host, progress) = (&lock, &rt, &progress);
-    let ((mut a, led), total) = join(
+    let ((mut leading, led), tickets) = join(
         &rt,
         || -> (Seat<Counter>, bool)
-            requires { (IsOf shared.now a × (ticket a ≡ None)) × (IsOf shared.now asking × (ticket asking ≡ None)) }
+            requires { (IsOf shared.now leading × (ticket leading ≡ None)) × (IsOf shared.now asking × (ticket asking ≡ None)) }
             ensures { IsOf shared.entry.now result.0 × (ticket result.0 ≡ None) }
-        { lead(host, shared, a, asking, progress, 4) },
-        || -> Option<u64>
-            requires first { (IsOf shared.now b × (ticket b ≡ None)) × (IsOf shared.now c × (ticket c ≡ None)) }
-            requires second { (IsOf shared.now d × (ticket d ≡ None)) × (IsOf shared.now e × (ticket e ≡ None)) }
-        { follow_all(host, shared, b, c, d, e, progress) },
+        { lead(host, shared, leading, asking, progress) },
+        || -> Result<Vec<Option<u64>>, AllocError>
+            requires { AllNew shared.now seats.items }
+        { follow_all(host, shared, seats, progress) },
     );
     assert!(rt; led, "four seats sleep at once, and a fifth is told so");
-    assert!(rt; total == Some(1 + 2 + 3 + 4), "each has its turn");
-    assert!(rt; tick(&rt, &lock, &mut a) == Some(5));
+    let mut tickets = tickets?;
+    tickets.sort_unstable();
+    assert_eq!(rt;
+        tickets.as_slice(),
+        [Some(1), Some(2), Some(3), Some(4)].as_slice()
+    );
+    assert!(rt; tick(&rt, &lock, &mut leading) == Some(5));
     Ok(())
 }

@@ -6,8 +6,7 @@ ghost use Rattle.ticket_lock.specs.declared.rule.Look.TheVariants.{Serving, Next
 ghost use Rattle.ticket_lock.specs.Turns.{HasMetSpent, HasTurn, IsSpent, IsDenied};
 
 use crate::chronicle::Chronicle;
-use crate::denied::Denied;
-use crate::lock::{Held, Seat, Spent, TicketLock};
+use crate::lock::{Denied, Held, Seat, Spent, TicketLock};
 use std::marker::Brand;
 use std::sync::Wait;
 
@@ -35,9 +34,7 @@ impl<T: Chronicle> TicketLock<T> {
             }
             Err(Denied::Spent) => Err(Spent),
             Err(Denied::Busy { .. }) => {
-                let Some(ticket) = self.draw(rt, &mut seat.pass) else {
-                    return Err(Spent);
-                };
+                let ticket = self.draw(rt, &mut seat.pass).ok_or(Spent)?;
                 let value = self.await_turn(rt, &mut seat.pass, ticket);
                 Ok(Held { value, ticket })
             }
