@@ -1,4 +1,4 @@
--- What is kept after a collection.
+-- A greater horizon, and lists that grow by it.
 use Rattle.std.proofs.lemmas.Grind.{common_steps}
 use Rattle.std.proofs.Common.{List, not, refl, arith, true, length, ◌≡◌, ◌≤◌, ◌+◌, ◌&&◌, ◌∷◌, ℕ, [], Bool}
 use Rattle.kept.proofs.Common.{Collects, Effect, and_from, by_test, dead_is, horizon_of, is_dead, le-leb, lt-ltb, ltb-true, newest_is, or_left, or_right, version_name}

@@ -1,4 +1,4 @@
--- What is dead by a new horizon is seen in what is kept alone.
+-- What is dead by a new horizon is seen in what is kept alone, and what is kept after a collection.
 use Rattle.kept.proofs.Marking.{marks_fewer}
 use Rattle.kept.proofs.Staying.{Keeps}
 use Rattle.kept.proofs.Common.{After, AllAllowed, Allowed, Collects, Effect, IsKeptOf, Kept, VersionName, both_ways, by_test, committed_is, committed_version_of, common_steps, dead_is, dead_of, distinct_filter, has_filter, has_versions, horizon_of, is_committed, is_dead, kept_version, ltb-true, nat_tests, newest, newest_fewer, newest_is, newest_reaches, older_dead, same_length, version_name, version_of, version_wrote, versions_distinct, versions_of, write_of, IsCrossed, closed_of, too_late, horizon_low}

@@ -8,7 +8,6 @@ pub mod AfterReads
 pub mod AfterWrites
 pub mod AfterCloses
 pub mod AfterCollects
-pub mod Late
 pub mod Noting
 pub mod DeadSeen
 pub mod Counts

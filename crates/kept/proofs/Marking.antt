@@ -72,10 +72,6 @@ marks_read p all x j above until m m' free others quiet marks i high fresh befor
               let no : None ≡ Some (visible p x j).after = sym none ∙ some.1 in cc)
         ]))
 
--- an own read marks nothing
-pub own_read : (p : List Effect) (x : List ℕ) (j i : ℕ) → (visible p x j).ts ≡ j → ((nat_lt (visible p x j).ts i && nat_lt i j) || too_late p x i) ≡ too_late p x i
-own_read p x j i own = grind (arith, common_steps)
-
 -- where versions that weren't too late come, nobody crosses who didn't, and all who did do
 pub marks_written : (k : Kept) (p : List Effect) → IsKeptOf k p → (x : List ℕ) (g : ℕ → Option After) → ((n : ℕ) → g n ≡ None → k.version x n ≡ None)
     → ((n : ℕ) → (g n ≡ k.version x n) ⊎ ((closed_of p < n) × (committed_version_of p x n ≡ None) × (too_late p x n ≡ false)))

@@ -1,5 +1,5 @@
 -- A report of what is kept is the live report of the history.
-use Rattle.kept.proofs.Common.{All-contains, All-weaker, AllAllowed, Effect, Event, Feed, Has, IsKeptOf, Kept, LiveFeed, Message, ResolvedRise, Transaction, all_of, and_parts, common_steps, effects_of, feed_of, feed_rises, feeding, is_undecided, last_resolved, legal_allowed, live_feeds, map-append, not-true, owner_of, place_with, reverse-append, told_to, write_count, Row}
+use Rattle.kept.proofs.Common.{All-contains, All-weaker, AllAllowed, Effect, Event, Feed, Has, IsKeptOf, Kept, LiveFeed, Message, ResolvedRise, Transaction, all_of, and_parts, common_steps, effects_of, feed_of, feed_rises, feeding, is_undecided, last_resolved, legal_allowed, live_feeds, map-append, not-true, owner_of, place_with, reverse-append, told_to, write_count}
 use Rattle.std.proofs.Common.{List, None, Some, [], ap, arith, false, map, refl, reverse, subst, sym, true, ℕ, ◌++◌, ◌∙◌, ◌∷◌, ◌≡◌, ◌≤◌}
 use Rattle.std.specs.Prelude.{Contains, option_map, ◌↔◌}
 use Rattle.spans.specs.Report.{AreFeeds, AreUndecided, IsFeedReport, IsReport, last_told, protection_report}

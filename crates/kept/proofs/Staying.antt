@@ -1,5 +1,5 @@
 -- What an effect leaves as it is.
-use Rattle.kept.proofs.Common.{After, AllAllowed, Allowed, Commits, Effect, IsCrossed, IsKeptOf, Kept, Writes, by_test, closed_of, closed_stays, common_steps, horizon_low, horizon_of, is_committed, is_dead, kept_version, nat_tests, newest_same, version_name, version_of, write_of, feeds_opened}
+use Rattle.kept.proofs.Common.{After, AllAllowed, Allowed, Commits, Effect, IsCrossed, IsKeptOf, Kept, Writes, by_test, closed_of, closed_stays, common_steps, horizon_low, horizon_of, is_committed, is_dead, kept_version, nat_tests, newest_same, version_name, version_of, write_of}
 use Rattle.std.proofs.Common.{Bool, List, None, Option, ap, arith, cond, false, refl, ℕ, ◌<◌, ◌==◌, ◌∷◌, ◌≡◌, ◌≤◌}
 use Rattle.std.specs.Prelude.{◌↔◌}
 use Rattle.kept.specs.Changes.{IsAlike}

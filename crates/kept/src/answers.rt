@@ -8,8 +8,6 @@ ghost use Rattle.kept.specs.Replies.{begin_reply, get_reply, abort_reply, read_a
 /// Each reply that is made of `k` is the answer after the history that `k` stands for. Some replies rest on what a layer
 /// finds in `k`: the keys of a span, the test of the marks, the oldest undecided transaction, the least floor, the rows
 /// left for a feed.
-///
-/// It does nothing. Its contract is the theorem.
 #[tactic(auto, using(crate::proofs::Answering::reply_is_answer))]
 pub fn kept_answers()
     ensures begin { (k : Kept) (seat t : ℕ) → Answers k seat (Begin t) (begin_reply k t) }

@@ -4,13 +4,9 @@ ghost use Rattle.kept.specs.Prelude.{Event, Kept, Place, Row, VersionName, start
 ghost use Rattle.kept.specs.StandsFor.{StandsFor};
 ghost use Rattle.kept.specs.Places.{AreFirsts, AreLeftAt, AreNext, AreParts, first_of};
 
-/// The rows left for a feed are first those that an initial feed has left of the values at its cursor, and
-/// then the stored rows beyond its place. The first part is empty for a feed of another kind, for one
-/// that resolved its cursor or more, and for one that was told a row above its cursor; a poll for at
-/// most `max` rows asks for the second part only as far as the first leaves room. What was told lies
-/// at or above a feed's start, which is its cursor, or just below that of an initial one.
-///
-/// It does nothing. Its contract is the theorem.
+/// The rows left for a feed are first those that an initial feed has left of the values at its cursor, and then the stored
+/// rows beyond its place. A poll for at most `max` rows asks for the second part only as far as the first leaves room. The
+/// last four clauses say where the first part is empty, and from where on all is told.
 #[tactic(auto, using(crate::proofs::LeftRows::parts_left, crate::proofs::LeftRows::parts_next, crate::proofs::LeftRows::another_none, crate::proofs::LeftRows::resolved_none, crate::proofs::LeftRows::past_none, crate::proofs::LeftRows::placed_above))]
 pub fn rows_left()
     ensures joined { (k : Kept) (place : Place) (first more : List Row) → AreParts k place first more → AreLeftAt k place (first ++ more) }

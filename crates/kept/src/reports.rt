@@ -5,8 +5,6 @@ ghost use Rattle.kept.specs.Reports.{IsKeptReport};
 ghost use Rattle.kept.specs.StandsFor.{StandsFor};
 
 /// A report of what is kept is the live report of the history that it stands for.
-///
-/// It does nothing. Its contract is the theorem.
 #[tactic(auto, using(crate::proofs::Reporting::report_is))]
 pub fn kept_report()
     ensures { (k : Kept) (h : List Event) (r : Report) → StandsFor k h → IsKeptReport k r → IsReport false (effects_of h) r }

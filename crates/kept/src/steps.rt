@@ -6,12 +6,9 @@ ghost use Rattle.kept.specs.StandsFor.{StandsFor, nothing_kept};
 ghost use Rattle.kept.specs.Leading.{LeadsTo, LeadsOn, Pairs};
 ghost use Rattle.kept.specs.Changes.{IsAlike, IsBegun, IsReadBy, IsScannedBy, IsWritten, IsCommittedBy, IsAbortedBy, IsClosedAt, IsHardClosedAt, IsCollectedTo, IsProtectedBy, IsReleasedFrom, IsOpenedAt, IsMovedBy, IsCancelledFrom};
 
-/// Simulation: if `k` stands for the history `h`, an event is legal after `h`, and `k'` is `k` changed by the event's
-/// effect, then `k'` stands for the history with the event. At first nothing is kept, which stands for no event, and what
-/// is alike stands for the same history. The clause `step` is all of them at once: a command that is answered by what is
-/// kept, and changes it by its effect, or wants memory, leads on.
-///
-/// It does nothing. Its contract is the theorem.
+/// Simulation: if `k` stands for a history, an event is legal after it, and `k'` is `k` changed by the event's effect, then
+/// `k'` stands for the history with the event. The clause `step` is all of them at once: a command that is answered by what
+/// is kept, and changes it by its effect, or wants memory, leads on.
 #[tactic(auto, using(crate::proofs::AfterBegins::new_is_kept, crate::proofs::Standing::alike_stands, crate::proofs::Staying::alike_self, crate::proofs::Answering::changed_stands, crate::proofs::Answering::step_stands))]
 pub fn kept_steps()
     ensures new { StandsFor nothing_kept [] }
