@@ -6,9 +6,8 @@ ghost use Rattle.spans.specs.Report.{protection_report};
 ghost use Rattle.spans.specs.Transactions.{least_of};
 ghost use Rattle.kept.specs.Places.{or_min};
 ghost use Rattle.kept.specs.Table.{reach};
-ghost use Rattle.closing.specs.Standing.{closed_in, made_in, protections_in, protection};
+ghost use Rattle.closing.specs.Standing.{closed_in, entry_report, made_in, protections_in, protection};
 
-use crate::report::protection_reports;
 use spans::report::ProtectionReport;
 use std::alloc::{AllocError, Global};
 use std::collections::{BTreeMap, BTreeSet};
@@ -74,11 +73,7 @@ impl Closing {
         ensures protections { protections_in self.new ≡ protections_in self.old }
         ensures made { made_in self.new ≡ made_in self.old }
     {
-        let reached = match oldest {
-            None => to,
-            Some(oldest) => to.min(oldest.saturating_sub(1)),
-        };
-        self.close_hard(reached)
+        self.close_hard(oldest.map_or(to, |oldest| to.min(oldest.saturating_sub(1))))
     }
 
     /// Closes through `to` whatever is undecided, and answers where closed then stands.
@@ -107,16 +102,12 @@ impl Closing {
     {
         let id = self.made + 1;
         self.by_timestamp.insert((t, id))?;
-        match self.by_number.insert(id, t) {
-            Ok(_) => {
-                self.made = id;
-                Ok(id)
-            }
-            Err(_) => {
-                self.by_timestamp.remove(&(t, id));
-                Err(AllocError)
-            }
-        }
+        let Ok(_) = self.by_number.insert(id, t) else {
+            self.by_timestamp.remove(&(t, id));
+            return Err(AllocError);
+        };
+        self.made = id;
+        Ok(id)
     }
 
     /// Ends a protection, and answers whether one of this number stood. It takes no memory.
@@ -140,10 +131,7 @@ impl Closing {
     pub fn least_protection(&self) -> Option<u64>
         ensures { (n : ℕ) → or_min result n ≡ least_of n (map (λ (p : Protection). p.at) (protections_in self.now)) }
     {
-        match self.by_timestamp.first() {
-            None => None,
-            Some(first) => Some(first.0),
-        }
+        Some(self.by_timestamp.first()?.0)
     }
 
     /// The protections that stand, numbers rising. It takes memory for them alone.
@@ -152,4 +140,18 @@ impl Closing {
     {
         protection_reports(self.alloc, &self.by_number)
     }
+}
+
+/// The protections of these numbers with their timestamps.
+fn protection_reports(
+    alloc: Global,
+    by_number: &BTreeMap<u64, u64>,
+) -> Result<Vec<ProtectionReport>, AllocError>
+    ensures { IfOk result (λ ns. ns.items ≡ map entry_report by_number.now.entries) }
+{
+    let reports = by_number.iter().map(|(number, timestamp)| ProtectionReport {
+        number: *number,
+        timestamp: *timestamp,
+    });
+    reports.collect(alloc)
 }

@@ -34,6 +34,5 @@
 #![tactic(auto)]
 
 mod closing;
-mod report;
 
 pub use closing::Closing;
