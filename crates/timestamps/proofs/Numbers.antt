@@ -1,7 +1,7 @@
 -- Blocks and their timestamps.
 use Rattle.std.proofs.lemmas.Bool.Decides.{nat_tests}
 use Rattle.std.proofs.lemmas.Grind.{common_steps}
-use Rattle.std.proofs.Common.{◌⊎◌, ◌≡◌, ℕ, zero, suc, ◌+◌, ◌*◌, ◌<◌, ◌≤◌, List, [], ◌∷◌, ◌++◌, length, sym, refl, subst, ⊎_elim, arith}
+use Rattle.std.proofs.Common.{◌≡◌, ℕ, zero, suc, ◌+◌, ◌*◌, ◌<◌, ◌≤◌, List, [], ◌∷◌, ◌++◌, length, sym, refl, subst, ⊎_elim, arith}
 use Rattle.timestamps.proofs.Common.{All, All-contains, Contains, Contains-append_cases, IsStrictlyIncreasing, count_by, flat_map, get_or-le-sum_by, slice_index}
 use Rattle.std.specs.Prelude.{◌==◌, cond}
 use Rattle.std.proofs.lemmas.List.Concat.{flat_map-cons}
@@ -37,9 +37,6 @@ counted_once xs b (k, l, e) = let q = get_or-le-sum_by (λ x. cond (x == b) 1 0)
 -- a number of a rising list is below the next, which stands at `suc k`
 abbrev Rises : List ℕ → Type 0
 Rises xs = (k : ℕ) → suc k < length xs → slice_index xs k < slice_index xs (suc k)
-
-next_place : (k : ℕ) → k + 1 ≡ suc k
-next_place k = omega arith
 
 rises_more : (xs : List ℕ) (n : ℕ) → Rises xs → All (λ b. b < n) xs → Rises (xs ++ n ∷ [])
 rises_more [] n r below k l = absurd (omega arith)

@@ -1,12 +1,9 @@
 -- What a contract says of a pass.
 use Rattle.std.specs.Prelude.{◌≡◌, ℕ, List, []}
 use Rattle.std.specs.List.{flat_map}
-use Rattle.atomic_table.specs.declared.shared.Seat.{Seat}
-use Rattle.timestamps.specs.declared.blocks.Draws.{Draws}
 use Rattle.timestamps.specs.declared.oracle.Oracle.{Oracle}
 use Rattle.timestamps.specs.declared.oracle.OraclePass.{OraclePass}
 use Rattle.timestamps.specs.Numbers.{timestamps_of}
-use Rattle.timestamps.specs.Blocks.{NoSlot, opener}
 
 -- the blocks that the pass drew, the oldest first
 abbrev pub drawn : OraclePass → List ℕ
@@ -39,7 +36,3 @@ IsSame p q = q.seat.table_id ≡ p.seat.table_id
 -- a pass of this oracle that has drawn nothing, and knows the first block
 abbrev pub IsNew : Oracle → ℕ → OraclePass → Type 0
 IsNew oracle first p = IsOf oracle p × (drawn p ≡ []) × (loaded p ≡ first)
-
--- what the passes are cut from
-abbrev pub IsSource : Oracle → Seat NoSlot Draws → Type 0
-IsSource oracle s = (s.table_id ≡ oracle.board.shared.table_id) × (s.me ≡ (opener s.me.0.loaded, []))

@@ -1,4 +1,3 @@
-//! A search by halves for the place where timestamps above one begin.
 ghost use Rattle.std.specs.Prelude.{◌≡◌, ◌+◌, ◌/◌, ◌≤◌, nat_le, if◌then◌else◌};
 ghost use Rattle.timestamps.specs.BinarySearch.{StillLeft};
 
@@ -12,8 +11,7 @@ ghost use Rattle.timestamps.specs.BinarySearch.{StillLeft};
 /// after 40         low 3  size 0    place 3
 /// ```
 ///
-/// Each step leaves half of the size, rounded down, so that there are at most as many as the length has
-/// binary digits.
+/// Each step leaves half of the size, rounded down, so that there are at most as many as the length has binary digits.
 #[derive(Debug, Clone, Copy)]
 pub struct BinarySearch {
     pub low: usize,

@@ -1,9 +1,8 @@
 //! The one word of an oracle, and what each pass knows of it.
 //!
-//! The word is the number of the next block. A pass loads it, and draws the block that it found by a
-//! compare-exchange to the next number. Between any two steps the word is at least each number that
-//! a pass loaded; each block from the first to the word stands among the blocks of one pass, once;
-//! no other block stands among those of any.
+//! A pass loads the number of the next block, and draws that block by a compare-exchange to the number above. Between any
+//! two steps the word is at least each number that a pass loaded, and each block from the first to the word stands among
+//! the blocks of one pass, once; no other block stands among those of any.
 //!
 //! ```text
 //! first 0                word 0     pass 1: []          pass 2: []
@@ -12,8 +11,9 @@
 //! pass 1 draws           word 3     pass 1: [0, 2]      pass 2: [1]
 //! ```
 //!
-//! Two passes that meet compare their blocks: one lends its blocks to the other, which finds in a
-//! load of the word that no block is in both, and gives them back. Those lists stand in proofs alone.
+//! Where two passes meet, one lends its blocks to the other, which finds in a load of the word that no block is in both,
+//! and gives them back. Those lists stand in proofs alone.
+ghost use Rattle.timestamps.specs.Blocks.{Compares, DrawsNext, IsDrawnOnce, Looks, borrowing, itself, newcomer, nobody, only_drawn, only_lent, opener, taking_back, without_drawn, without_lent};
 
 use atomic_table::{Join, Play, Seat, Split, Table, TableRule};
 use std::alloc::Global;
@@ -39,8 +39,6 @@ pub struct Draws {
 pub struct EachOnce;
 
 impl TableRule<(), Draws, u64> for EachOnce {
-    ghost use Rattle.timestamps.specs.Blocks.{IsDrawnOnce, opener};
-
     ghost holds = { IsDrawnOnce };
 
     ghost first = { opener };
@@ -54,8 +52,6 @@ pub type Pass = Seat<(), Draws>;
 pub struct Load;
 
 impl Play<(), Draws> for Load {
-    ghost use Rattle.timestamps.specs.Blocks.{Looks};
-
     ghost then = { Looks };
 }
 
@@ -63,8 +59,6 @@ impl Play<(), Draws> for Load {
 pub struct Draw;
 
 impl Play<(), Draws> for Draw {
-    ghost use Rattle.timestamps.specs.Blocks.{DrawsNext};
-
     ghost then = { DrawsNext };
 }
 
@@ -72,8 +66,6 @@ impl Play<(), Draws> for Draw {
 pub struct Compare;
 
 impl Play<(), Draws> for Compare {
-    ghost use Rattle.timestamps.specs.Blocks.{Compares};
-
     ghost then = { Compares };
 }
 
@@ -81,8 +73,6 @@ impl Play<(), Draws> for Compare {
 pub struct Enter;
 
 impl Split<Draws> for Enter {
-    ghost use Rattle.timestamps.specs.Blocks.{itself, newcomer};
-
     ghost left = { itself };
 
     ghost right = { newcomer };
@@ -92,8 +82,6 @@ impl Split<Draws> for Enter {
 pub struct HandOut;
 
 impl Split<Draws> for HandOut {
-    ghost use Rattle.timestamps.specs.Blocks.{without_drawn, only_drawn};
-
     ghost left = { without_drawn };
 
     ghost right = { only_drawn };
@@ -103,8 +91,6 @@ impl Split<Draws> for HandOut {
 pub struct Borrow;
 
 impl Join<Draws> for Borrow {
-    ghost use Rattle.timestamps.specs.Blocks.{borrowing, nobody};
-
     ghost both = { borrowing };
 
     ghost spent = { nobody };
@@ -114,8 +100,6 @@ impl Join<Draws> for Borrow {
 pub struct Return;
 
 impl Split<Draws> for Return {
-    ghost use Rattle.timestamps.specs.Blocks.{without_lent, only_lent};
-
     ghost left = { without_lent };
 
     ghost right = { only_lent };
@@ -125,8 +109,6 @@ impl Split<Draws> for Return {
 pub struct TakeBack;
 
 impl Join<Draws> for TakeBack {
-    ghost use Rattle.timestamps.specs.Blocks.{taking_back, nobody};
-
     ghost both = { taking_back };
 
     ghost spent = { nobody };

@@ -12,9 +12,6 @@ pub(crate) const FEW: usize = 24;
 /// The bytes of one word.
 const WORD_BYTES: usize = 8;
 
-/// The words of those bytes.
-const WORDS: usize = 3;
-
 /// Up to [`FEW`] bytes, ordered byte by byte, a beginning before what it begins.
 ///
 /// Zeros stand behind the last byte. So two of them are compared as words, which are numbers of eight bytes with the
@@ -91,7 +88,7 @@ impl FewBytes {
     pub(crate) fn order(&self, other: &FewBytes) -> Ordering
         ensures { result ≡ key_cmp self.now other.now }
     {
-        for i in 0..WORDS {
+        for i in 0..FEW / WORD_BYTES {
             let word = self.word(i);
             let others = other.word(i);
             if word != others {

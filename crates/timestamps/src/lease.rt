@@ -1,17 +1,14 @@
 //! Leases: the 32 timestamps of a block, given one by one.
 //!
-//! A contract sees a lease as the list of the timestamps that it still gives.
+//! A contract sees a lease as the list of the timestamps that it still gives. A call of `next` takes no memory.
 //!
 //! ```text
 //! the lease of block 1      [33, 34, .., 64]
 //! next()  Some(33)          [34, .., 64]
-//! next()  Some(34)          [35, .., 64]
 //! ..
 //! next()  Some(64)          []
 //! next()  None              []
 //! ```
-//!
-//! Cost: a call of `next` is an addition and a comparison, and takes no memory.
 ghost use Rattle.std.specs.Prelude.{◌≡◌, ◌<◌, List, ℕ, [], ◌∷◌, IfSome, IfNone};
 ghost use Rattle.timestamps.specs.Numbers.{timestamps_of};
 ghost use Rattle.timestamps.specs.declared.lease.TheConstants.{BLOCKS};
@@ -22,8 +19,7 @@ use std::marker::Model;
 /// How many timestamps a block has.
 pub const BLOCK_SIZE: u64 = 32;
 
-/// How many blocks there are: the numbers of block `b` are `32b + 1` to `32b + 32`, and those of
-/// block 288230376151711743 would pass the greatest timestamp.
+/// How many blocks there are: the numbers of one more would pass the greatest timestamp.
 pub const BLOCKS: u64 = 288230376151711743;
 
 /// The timestamps of one block, each to be given once.

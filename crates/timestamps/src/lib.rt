@@ -1,12 +1,10 @@
 //! The smallest words of the database: timestamps, keys, values and the rows that join them.
 //!
-//! A [`Timestamp`](ts::Ts) is a number from 1 to 9223372036854775807, so that 0 can mean "before all"
-//! and one more still fits a `u64`. A key is 1 to 256 bytes, ordered byte by byte; a value is 0 to 65536
-//! bytes. Both hold their bytes as [`SmallBytes`](small_bytes::SmallBytes), and a key lends its own to maps that are
-//! searched by bytes. Contracts see a timestamp as its number, a key or a value as its list of bytes. Threads that
-//! want timestamps of their own lease them, 32 at a time, from an [`Oracle`](oracle::Oracle). A rising
-//! list of timestamps is searched by [`BinarySearch`](binary_search::BinarySearch), and a map by
-//! [`TsKey`](ts_key::TsKey)s, which are keys that are ordered as timestamps are.
+//! A [`Timestamp`](ts::Ts) is a number from 1 to 9223372036854775807, so that 0 can mean "before all" and one more still
+//! fits a `u64`. A key is 1 to 256 bytes, ordered byte by byte; a value is 0 to 65536 bytes. Contracts see a timestamp as
+//! its number, a key or a value as its list of bytes. Both keep these as [`SmallBytes`](small_bytes::SmallBytes). Threads
+//! that want timestamps of their own lease them, 32 at a time, from an [`Oracle`](oracle::Oracle). A rising list of
+//! timestamps is searched by [`BinarySearch`](binary_search::BinarySearch), and a map by [`TsKey`](ts_key::TsKey)s.
 //!
 //! ```text
 //! Ts::new(0)            None                  Key::new(alloc, b"")      Err(KeyLength)

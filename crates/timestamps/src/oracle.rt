@@ -1,8 +1,7 @@
 //! The oracle: it hands out blocks of timestamps to many threads, and no thread waits for another.
 //!
-//! Block `b` has the timestamps `32b + 1` to `32b + 32`. The oracle is one word, the number of the
-//! next block. Each thread has a pass of its own; a draw loads the word and tries one
-//! compare-exchange to the next number. No block is drawn twice, so no two leases share a timestamp.
+//! Block `b` has the timestamps `32b + 1` to `32b + 32`. The oracle is one word, the number of the next block. Each
+//! thread has a pass of its own, and no block is drawn twice, so no two leases share a timestamp.
 //!
 //! ```text
 //! Oracle::new(alloc, 0, 2)      word 0
@@ -55,11 +54,10 @@ pub enum DrawError {
 }
 
 impl Oracle {
-    ghost use Rattle.timestamps.specs.Passes.{drawn, loaded, earlier, looks, leased, IsOf, IsSame, IsSource, IsNew};
+    ghost use Rattle.timestamps.specs.Passes.{drawn, loaded, earlier, looks, leased, IsOf, IsSame, IsNew};
     ghost use Rattle.timestamps.specs.Reasons.{IsReason, steps_of};
 
-    /// An oracle whose first lease is of block `first_block`, and as many passes as asked. One that
-    /// begins at [`BLOCKS`] or above has no lease to give.
+    /// An oracle whose first lease is of block `first_block`, and its passes. At [`BLOCKS`] or above there is no lease.
     pub fn new(
         alloc: Global,
         first_block: u64,
@@ -70,38 +68,20 @@ impl Oracle {
         ensures limits { (BLOCK_SIZE ≡ 32) × (BLOCKS ≡ 288230376151711743) }
         ensures passes { IfOk result (λ r. All (IsNew r.0 first_block) r.1.items) }
     {
-        let (board, source) = Table::of_words(alloc, &[first_block], &first_block)?;
-        let oracle = Oracle { board };
-        let made = oracle.make(alloc, source, passes)?;
-        Ok((oracle, made))
-    }
-
-    // So many passes, none of which has drawn.
-    fn make(
-        &self,
-        alloc: Global,
-        mut source: Pass,
-        passes: u32,
-    ) -> Result<Vec<OraclePass>, AllocError>
-        requires { IsSource self.now source }
-        ensures count { IfOk result (λ v. length v.items ≡ passes) }
-        ensures new { IfOk result (λ v. All (IsNew self.now source.me.0.loaded) v.items) }
-    {
+        let (board, mut source) = Table::of_words(alloc, &[first_block], &first_block)?;
         let mut made = Vec::new(alloc);
         for _ in 0..passes {
-            let seat = self.board.shared.split_seat::<Enter>(&mut source);
+            let seat = board.shared.split_seat::<Enter>(&mut source);
             made.push(OraclePass { seat })?;
         }
-        Ok(made)
+        Ok((Oracle { board }, made))
     }
 
-    /// The next block, by a load and a compare-exchange. `Contended` and `Spent` draw nothing; after
-    /// `Spent` each later draw of the pass is `Spent` as well.
+    /// The next block, by a load and a compare-exchange. After `Spent` each later draw of the pass is `Spent` as well.
     pub fn draw(&self, pass: &mut OraclePass) -> Result<Lease, DrawError>
         requires own { IsOf self.now pass.old }
         ensures same { IsSame pass.old pass.new }
         ensures rises { loaded pass.old ≤ loaded pass.new }
-        // So what it compares was loaded in this call.
         ensures steps { looks pass.new ≡ looks pass.old + steps_of result }
 
         // The block is the one that the load found, and none of the pass before had its timestamps.

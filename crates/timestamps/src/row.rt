@@ -1,4 +1,3 @@
-//! Rows: committed versions as a feed tells them.
 ghost use Rattle.std.specs.Prelude.{◌≡◌, IfOk};
 
 use crate::key::Key;
@@ -20,12 +19,10 @@ impl Row {
     pub fn copy(&self) -> Result<Row, AllocError>
         ensures { IfOk result (λ row. row ≡ self.now) }
     {
-        let key = self.key.copy()?;
-        let after = copy_after(&self.after)?;
         Ok(Row {
             ts: self.ts,
-            key,
-            after,
+            key: self.key.copy()?,
+            after: copy_after(&self.after)?,
         })
     }
 }
@@ -36,9 +33,6 @@ pub fn copy_after(after: &Option<Value>) -> Result<Option<Value>, AllocError>
 {
     match after {
         None => Ok(None),
-        Some(value) => {
-            let copy = value.copy()?;
-            Ok(Some(copy))
-        }
+        Some(value) => Ok(Some(value.copy()?)),
     }
 }

@@ -1,4 +1,3 @@
-//! Bytes of any length, in place where they are few.
 ghost use Rattle.std.specs.Prelude.{◌≡◌, ◌<◌, ◌++◌, ◌∷◌, ◌↔◌, [], ◌≤◌, Some, refl, length, bytes_eq, IfOk, OnErr, IsTrue};
 ghost use Rattle.std.specs.Cmp.{partial_equiv_from_equiv};
 ghost use Rattle.std.specs.Cmp.Lexicographic.{nat_list_eq_equiv, nat_list_cmp_total, texts_ties, texts_po};
@@ -9,8 +8,7 @@ use std::alloc::{AllocError, Global};
 use std::cmp::Ordering;
 use std::marker::Model;
 
-/// Bytes of any length, ordered byte by byte, a beginning before what it begins. Up to 24 lie in place. Only more
-/// take memory.
+/// Bytes of any length, ordered byte by byte, a beginning before what it begins. Only more than 24 take memory.
 #[derive(Debug, Drop)]
 pub struct SmallBytes {
     place: Place,
@@ -37,10 +35,7 @@ enum Place {
 // for the proof, which has no case for each place of them where bytes are dropped
 impl Drop for Place {
     fn drop(self) {
-        match self {
-            Place::Few(_) => {}
-            Place::Many(_) => {}
-        }
+        let (Place::Few(_) | Place::Many(_)) = self;
     }
 }
 
@@ -50,9 +45,8 @@ impl SmallBytes {
     pub fn empty() -> SmallBytes
         ensures { result ≡ [] }
     {
-        SmallBytes {
-            place: Place::Few(FewBytes::new(&[])),
-        }
+        let place = Place::Few(FewBytes::new(&[]));
+        SmallBytes { place }
     }
 
     /// These bytes. It copies them.
@@ -60,15 +54,12 @@ impl SmallBytes {
         ensures bytes { IfOk result (λ b. b ≡ bytes.now) }
         ensures many { OnErr result (24 < length bytes.now) }
     {
-        if bytes.len() <= FEW {
-            return Ok(SmallBytes {
-                place: Place::Few(FewBytes::new(bytes)),
-            });
-        }
-        let bytes = bytes.to_vec(alloc)?;
-        Ok(SmallBytes {
-            place: Place::Many(bytes),
-        })
+        let place = if bytes.len() <= FEW {
+            Place::Few(FewBytes::new(bytes))
+        } else {
+            Place::Many(bytes.to_vec(alloc)?)
+        };
+        Ok(SmallBytes { place })
     }
 
     /// The bytes.
@@ -89,10 +80,7 @@ impl SmallBytes {
     {
         let place = match &self.place {
             Place::Few(few) => Place::Few(few.copy()),
-            Place::Many(many) => {
-                let many = many.clone()?;
-                Place::Many(many)
-            }
+            Place::Many(many) => Place::Many(many.clone()?),
         };
         Ok(SmallBytes { place })
     }
@@ -102,20 +90,18 @@ impl SmallBytes {
         ensures bytes { IfOk result (λ b. b ≡ self.now ++ 0 ∷ []) }
         ensures many { OnErr result (24 ≤ length self.now) }
     {
-        if let Place::Few(few) = &self.place {
-            if few.as_slice().len() < FEW {
-                return Ok(SmallBytes {
-                    place: Place::Few(few.with_zero()),
-                });
-            }
+        if let Place::Few(few) = &self.place
+            && few.as_slice().len() < FEW
+        {
+            let place = Place::Few(few.with_zero());
+            return Ok(SmallBytes { place });
         }
         let bytes = self.as_slice();
         let mut longer = Vec::with_capacity(alloc, bytes.len() + 1)?;
         longer.extend_from_slice(bytes)?;
         longer.push(0)?;
-        Ok(SmallBytes {
-            place: Place::Many(longer),
-        })
+        let place = Place::Many(longer);
+        Ok(SmallBytes { place })
     }
 
     /// Whether they are others and a zero behind them.

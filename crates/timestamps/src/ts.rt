@@ -1,4 +1,3 @@
-//! Timestamps of transactions.
 ghost use Rattle.std.specs.Prelude.{◌≡◌, ℕ, ◌<◌, ◌≤◌, ◌↔◌, IsSome, IfSome};
 ghost use Rattle.timestamps.specs.declared.ts.TheConstants.{MAX};
 

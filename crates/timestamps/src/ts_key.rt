@@ -1,4 +1,3 @@
-//! Numbers as the keys of maps that are ordered by timestamp.
 ghost use Rattle.std.specs.Prelude.{◌≡◌, ◌≤◌, ℕ, Some};
 ghost use Rattle.std.specs.Ordering.{nat_cmp};
 ghost use Rattle.std.specs.Cmp.Rules.{comparing};
@@ -9,9 +8,8 @@ use std::marker::Model;
 
 /// A timestamp as the key of an ordered map, or any other number that such a map is asked for.
 ///
-/// Its order is that of `u64`. A search asks at each key that it passes whether what it looks for is
-/// above. This order answers that by one comparison and a branch, where `u64`'s first computes which of
-/// three answers it is: a search takes less than half the instructions.
+/// Its order is that of `u64`. A search asks at each key whether what it looks for is above. `u64`'s order computes which
+/// of three answers it is. This one compares once and branches, so a search takes less than half the instructions.
 #[derive(Clone, Copy, Debug, PartialEq, Eq)]
 pub struct TsKey(pub u64);
 
@@ -24,8 +22,7 @@ impl Model for TsKey {
 }
 
 impl TsKey {
-    // The order of one that isn't above. It is a call of its own, so that a search branches at each key
-    // that it passes and computes no order for it.
+    // The order of one that isn't above, in a call of its own: a search computes no order for a key that it passes.
     #[inline(never)]
     fn unless_above(&self, other: &TsKey) -> Ordering
         requires { self.now ≤ other.now }
