@@ -1,6 +1,6 @@
 -- Each feed tells its list.
 use Rattle.spans.proofs.Common.{Row, append-nil, common_steps, eq-eqb, eqb-true, filter_map-append}
-use Rattle.std.proofs.Common.{◌≡◌, ℕ, zero, suc, ◌+◌, ◌-◌, ◌<◌, ◌≤◌, ◌==◌, Bool, true, false, not, cond, List, [], ◌∷◌, ◌++◌, map, length, take, drop, Some, None, refl, sym, ◌∙◌, ap, subst, arith, append_assoc, Option}
+use Rattle.std.proofs.Common.{◌≡◌, ℕ, zero, suc, ◌+◌, ◌<◌, ◌≤◌, ◌==◌, Bool, true, false, not, cond, List, [], ◌∷◌, ◌++◌, map, length, take, drop, Some, None, refl, sym, ◌∙◌, ap, subst, arith, append_assoc, Option}
 use Rattle.std.specs.Prelude.{max, filter}
 use Rattle.std.proofs.Math.Seq.{drop-append_seam}
 use Rattle.spans.specs.declared.calls.messages.Message.{Message}

@@ -3,7 +3,7 @@ use Rattle.spans.proofs.Histories.{wanting_does_nothing}
 use Rattle.spans.proofs.Common.{and_parts, both_ways, common_steps, leb-false, ltb-false, not-false, or_parts}
 use Rattle.std.proofs.Common.{arith}
 use Rattle.std.proofs.Common.{rules}
-use Rattle.std.proofs.Common.{◌≡◌, ℕ, Bool, true, false, List, [], ◌∷◌, ◌++◌, ◌-◌, Some}
+use Rattle.std.proofs.Common.{◌≡◌, ℕ, Bool, true, false, List, [], ◌∷◌, ◌++◌, Some}
 use Rattle.std.specs.Prelude.{map, filter, nat_lt}
 use Rattle.spans.specs.declared.calls.commands.Cmd.{Cmd}
 use Rattle.spans.specs.declared.calls.commands.Cmd.TheVariants.{Scan, ScanAt}

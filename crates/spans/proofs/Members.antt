@@ -1,5 +1,4 @@
 -- Lists that stand for sets: distinct lists of the same are of one length.
-use Rattle.spans.proofs.Sets.{one_less}
 use Rattle.spans.proofs.Common.{All-cons, All-nil, common_steps}
 use Rattle.std.proofs.Common.{Bool, List, refl, arith, inr, false, suc, ap, true, inl, sym, length, ◌≡◌, ◌≤◌, ◌⊎◌, ◌∷◌, ◌++◌, ◌∙◌, ℕ, []}
 use Rattle.std.specs.Prelude.{All, filter, is_some, not, ◌+◌, ◌↔◌}

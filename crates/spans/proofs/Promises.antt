@@ -1,7 +1,6 @@
 -- Allowed deeds keep what the guide promises.
 use Rattle.spans.proofs.Common.{common_steps, eqb-true}
-use Rattle.std.proofs.Common.{rules, ◌≡◌, ℕ, ◌+◌, ◌-◌, ◌≤◌, List, [], ◌∷◌, ◌++◌, length, Some, refl, sym, ◌∙◌, subst, inl, inr, arith}
-use Rattle.spans.specs.declared.calls.replies.Reply.TheVariants as replies
+use Rattle.std.proofs.Common.{rules, ◌≡◌, ℕ, ◌+◌, ◌≤◌, List, [], ◌∷◌, ◌++◌, length, Some, refl, sym, ◌∙◌, subst, inl, inr, arith}
 use Rattle.spans.specs.declared.calls.events.Event.{Event}
 use Rattle.spans.specs.Legal.{IsLegal}
 use Rattle.spans.specs.Effects.{effects_of, After, Effect, Reads, Scans, Protects, Releases}

@@ -8,7 +8,6 @@ use Rattle.spans.specs.declared.calls.events.Event.{Event}
 use Rattle.spans.specs.declared.report.Limit.{Limit}
 use Rattle.spans.specs.declared.report.Report.{Report}
 use Rattle.spans.specs.declared.report.FeedReport.{FeedReport}
-use Rattle.spans.specs.declared.report.Holder.TheVariants as holders
 use Rattle.spans.specs.Effects.{Effect, effects_of}
 use Rattle.spans.specs.Feeds.{Feed, feed_of}
 use Rattle.spans.specs.Collection.{Protection, LiveFeed, live_feeds, protections_of}

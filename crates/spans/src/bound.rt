@@ -1,4 +1,3 @@
-//! Bounds of spans: 1 to 257 bytes, so that the place just above any key is one.
 ghost use Rattle.std.specs.Prelude.{◌≡◌, ℕ, suc, List, Some, ◌<◌, ◌≤◌, ◌⊎◌, length, take, bytes_eq, IfOk, IfErr, OnOk, OnErr};
 ghost use Rattle.std.specs.Cmp.{partial_equiv_from_equiv};
 ghost use Rattle.std.specs.Cmp.Lexicographic.{nat_list_eq_equiv};
@@ -20,8 +19,8 @@ pub const MAX_BOUND_BYTES: usize = 257;
 
 /// A place among the keys: 1 to [`MAX_BOUND_BYTES`] bytes, compared with keys byte by byte.
 ///
-/// Its first bytes, as many as a key may have, are kept as a key. So a map of keys is searched by a bound, and no
-/// search makes a key. The few bounds that have one byte more keep all their bytes beside that.
+/// Its first bytes, as many as a key may have, are kept as a key, so that no search of a map of keys makes one. The few
+/// bounds that have one byte more keep all their bytes beside that.
 #[derive(Debug, Drop)]
 pub struct Bound {
     bytes: BoundBytes,
@@ -57,10 +56,7 @@ struct LongBytes {
 // for the proof, which has no case for each place of its bytes where a bound is dropped
 impl Drop for BoundBytes {
     fn drop(self) {
-        match self {
-            BoundBytes::Short(_) => {}
-            BoundBytes::Long(_) => {}
-        }
+        let (BoundBytes::Short(_) | BoundBytes::Long(_)) = self;
     }
 }
 
@@ -86,10 +82,7 @@ impl Bound {
         if bytes.is_empty() || bytes.len() > MAX_BOUND_BYTES {
             return Err(BoundError::BoundLength);
         }
-        match Bound::of(alloc, bytes) {
-            Ok(bound) => Ok(bound),
-            Err(_) => Err(BoundError::NoMemory),
-        }
+        Bound::of(alloc, bytes).map_err(|_| BoundError::NoMemory)
     }
 
     /// The bound of so many bytes.
@@ -100,21 +93,18 @@ impl Bound {
         ensures many { OnErr result (24 < length bytes.now) }
     {
         if bytes.len() <= MAX_KEY_BYTES {
-            let key = key_of(alloc, bytes)?;
-            return Ok(Bound::short(key));
+            return Ok(Bound::short(key_of(alloc, bytes)?));
         }
         let first = key_of(alloc, &bytes[..MAX_KEY_BYTES])?;
-        let all = SmallBytes::new(alloc, bytes)?;
-        Bound::long(alloc, first, all)
+        Bound::long(alloc, first, SmallBytes::new(alloc, bytes)?)
     }
 
     /// The bound of as many bytes as a key may have.
     fn short(key: Key) -> Bound
         ensures { result ≡ key }
     {
-        Bound {
-            bytes: BoundBytes::Short(key),
-        }
+        let bytes = BoundBytes::Short(key);
+        Bound { bytes }
     }
 
     /// The bound of one byte more. `first` are all but the last.
@@ -123,20 +113,15 @@ impl Bound {
         requires first { first ≡ take MAX_KEY_BYTES all }
         ensures { IfOk result (λ b. b ≡ all) }
     {
-        match Box::new(alloc, LongBytes { first, all }) {
-            Ok(long) => Ok(Bound {
-                bytes: BoundBytes::Long(long),
-            }),
-            Err(_) => Err(AllocError),
-        }
+        let bytes = BoundBytes::Long(Box::new(alloc, LongBytes { first, all })?);
+        Ok(Bound { bytes })
     }
 
     /// The bound at which a key begins: its bytes.
     pub fn of_key(key: &Key) -> Result<Bound, AllocError>
         ensures { IfOk result (λ b. b ≡ key.now) }
     {
-        let key = key.copy()?;
-        Ok(Bound::short(key))
+        Ok(Bound::short(key.copy()?))
     }
 
     /// The least bound above the key: its bytes and a zero byte.
@@ -145,12 +130,10 @@ impl Bound {
         ensures least { IfOk result (λ b. (x : List ℕ) → from_low (Some b) x ≡ key_lt key.now x) }
     {
         if key.bytes().len() < MAX_KEY_BYTES {
-            let above = key.successor(alloc)?;
-            return Ok(Bound::short(above));
+            return Ok(Bound::short(key.successor(alloc)?));
         }
-        let first = key.copy()?;
         let all = key.as_small_bytes().with_zero(alloc)?;
-        let above = Bound::long(alloc, first, all)?;
+        let above = Bound::long(alloc, key.copy()?, all)?;
         Ok(above)
     }
 
@@ -176,8 +159,8 @@ impl Bound {
         }
     }
 
-    /// The beginning of the keys at or above the bound, as a map of keys is asked for a range. A bound may have one byte
-    /// more than a key. Then the keys above it are those above its first bytes.
+    /// The beginning of the keys at or above the bound, as a map of keys is asked for a range. Of a bound with one byte more
+    /// than a key they are those above its first bytes.
     pub fn start(&self) -> ops::Bound<&Key>
         ensures { bound_map (λ k. k.now) result ≡ start_of (Some self.now) }
     {
@@ -199,14 +182,9 @@ impl Bound {
         ensures { IfOk result (λ b. b ≡ self.now) }
     {
         match &self.bytes {
-            BoundBytes::Short(key) => {
-                let key = key.copy()?;
-                Ok(Bound::short(key))
-            }
+            BoundBytes::Short(key) => Bound::of_key(key),
             BoundBytes::Long(long) => {
-                let first = long.first.copy()?;
-                let all = long.all.copy()?;
-                Bound::long(*Box::allocator(long), first, all)
+                Bound::long(*Box::allocator(long), long.first.copy()?, long.all.copy()?)
             }
         }
     }
@@ -233,30 +211,21 @@ fn key_of(alloc: Global, bytes: &[u8]) -> Result<Key, AllocError>
     ensures bytes { IfOk result (λ k. k ≡ bytes.now) }
     ensures many { OnErr result (24 < length bytes.now) }
 {
-    match Key::new(alloc, bytes) {
-        Ok(key) => Ok(key),
-        Err(_) => Err(AllocError),
-    }
+    Key::new(alloc, bytes).map_err(|_| AllocError)
 }
 
 /// Whether the key is at or above the bound, where there is one.
 pub fn is_from(low: &Option<Bound>, key: &Key) -> bool
     ensures { result ≡ from_low low.now key.now }
 {
-    match low {
-        None => true,
-        Some(low) => !low.is_above(key),
-    }
+    low.as_ref().is_none_or(|low| !low.is_above(key))
 }
 
 /// Whether the key is below the bound, where there is one.
 pub fn is_below(high: &Option<Bound>, key: &Key) -> bool
     ensures { result ≡ below_high high.now key.now }
 {
-    match high {
-        None => true,
-        Some(high) => high.is_above(key),
-    }
+    high.as_ref().is_none_or(|high| high.is_above(key))
 }
 
 /// The same bound once more, where there is one.
@@ -265,9 +234,6 @@ pub fn copy_bound(bound: &Option<Bound>) -> Result<Option<Bound>, AllocError>
 {
     match bound {
         None => Ok(None),
-        Some(bound) => {
-            let copy = bound.copy()?;
-            Ok(Some(copy))
-        }
+        Some(bound) => Ok(Some(bound.copy()?)),
     }
 }

@@ -1,4 +1,3 @@
-//! The kinds of feeds.
 ghost use Rattle.std.specs.Prelude.{true, ◌≡◌, ◌<◌};
 
 /// A feed's kind: what it tells first, and how far apart its resolved messages lie.
@@ -29,9 +28,6 @@ impl Kind {
         ensures due { result ≡ is_due self resolved closed }
         ensures above { result ≡ true → resolved < closed }
     {
-        match self.gap {
-            None => resolved < closed,
-            Some(gap) => resolved < closed && gap <= closed - resolved,
-        }
+        resolved < closed && self.gap.unwrap_or(0) <= closed - resolved
     }
 }

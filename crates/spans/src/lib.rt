@@ -1,8 +1,7 @@
 //! The language of the database: spans of keys, and the commands, replies, messages and events that cross its edge.
 //!
-//! The definitions in `specs/` give each of them its meaning. Every crate that handles keys of a span or a command
-//! calls it: the layers of `engine`, the plain database, the readers of texts, and the front ends. Only `timestamps`
-//! lies below.
+//! The definitions in `specs/` give each of them its meaning. Every crate that handles keys of a span or a command calls
+//! it. Only `timestamps` lies below.
 //!
 //! 1. A bound has 1 to 257 bytes, so that the place just above any key is one.
 //! 2. A span holds the keys at or above its lower bound and below its upper bound. It may hold no key.
@@ -31,8 +30,7 @@
 //! - `Report::limit`: O(protections + feeds)
 //! - `Kind::start`, `Kind::is_due`, `Rows::from_vec`, `Messages::from_vec`: O(1)
 //!
-//! A bound of up to 24 bytes lies in place. A longer one takes memory, in the four calls that copy bytes.
-//! `Span::without` takes it also for its list. The other calls take none.
+//! A bound of more than 24 bytes takes memory, in the four calls that copy bytes, and `Span::without` for its list.
 //!
 //! Tests: `unit_tests`.
 #![tactic(auto)]
@@ -42,7 +40,6 @@ pub mod calls;
 pub mod kind;
 pub mod law;
 pub mod limits;
-mod pieces;
 pub mod report;
 pub mod span;
 pub mod state;

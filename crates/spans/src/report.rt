@@ -72,7 +72,7 @@ pub struct FeedReport {
 }
 
 /// The report of a database. Its lists rise by timestamp, and by number.
-#[derive(Debug)]
+#[derive(Debug, Drop)]
 pub struct Report {
     pub closed: u64,
     pub horizon: u64,
@@ -83,21 +83,6 @@ pub struct Report {
     pub transactions: Vec<TransactionReport>,
     pub protections: Vec<ProtectionReport>,
     pub feeds: Vec<FeedReport>,
-}
-
-// for the proof, which has no case for each part of it where a report is dropped
-impl Drop for Report {
-    fn drop(self) {
-        let Report {
-            closed: _,
-            horizon: _,
-            versions: _,
-            removable: _,
-            transactions: _,
-            protections: _,
-            feeds: _,
-        } = self;
-    }
 }
 
 /// The holder that keeps a collection from going further.
@@ -141,12 +126,13 @@ impl Report {
 
 impl Limit {
     ghost use Rattle.std.specs.Prelude.{nat_lt, if◌then◌else◌};
+    ghost use Rattle.spans.specs.Report.{limit};
 
-    /// The other one, where that is lower.
-    fn or_lower(self, other: Limit) -> Limit
-        ensures { result ≡ (if nat_lt other.at self.at then other else self) }
+    /// The limit of another holder, where that is lower.
+    fn or_lower(self, at: u64, by: Holder) -> Limit
+        ensures { result ≡ (if nat_lt at self.at then limit at by else self) }
     {
-        if other.at < self.at { other } else { self }
+        if at < self.at { Limit { at, by } } else { self }
     }
 }
 
@@ -156,12 +142,8 @@ fn least_protection(limit: Limit, protections: &[ProtectionReport]) -> Limit
 {
     let mut least = limit;
     for protection in protections {
-        least = least.or_lower(Limit {
-            at: protection.timestamp,
-            by: Holder::Protection {
-                number: protection.number,
-            },
-        });
+        let number = protection.number;
+        least = least.or_lower(protection.timestamp, Holder::Protection { number });
     }
     least
 }
@@ -172,12 +154,8 @@ fn least_feed(limit: Limit, feeds: &[FeedReport]) -> Limit
 {
     let mut least = limit;
     for feed in feeds {
-        least = least.or_lower(Limit {
-            at: feed.floor,
-            by: Holder::Feed {
-                number: feed.number,
-            },
-        });
+        let number = feed.number;
+        least = least.or_lower(feed.floor, Holder::Feed { number });
     }
     least
 }

@@ -1,5 +1,3 @@
-//! How a transaction stands.
-
 /// How a transaction stands.
 #[derive(Clone, Copy, Debug, PartialEq, Eq)]
 pub enum State {

@@ -1,4 +1,3 @@
-//! What a session asks for.
 ghost use Rattle.std.specs.Prelude.{◌≡◌};
 ghost use Rattle.spans.specs.Parts.{asked_span};
 
@@ -6,8 +5,7 @@ use crate::span::Span;
 use timestamps::key::Key;
 use timestamps::value::Value;
 
-/// A command. Numbers range over the whole of `u64`: the database answers those that it can't take
-/// with a [`Refusal`](crate::calls::Refusal).
+/// What a session asks for. Any number is taken: what it can't be is a [`Refusal`](crate::calls::Refusal).
 #[derive(Debug, PartialEq, Eq)]
 pub enum Cmd {
     /// Begins the transaction of this timestamp.
@@ -42,11 +40,9 @@ pub enum Cmd {
     Open { span: Span, cursor: u64 },
     /// Opens a feed that tells what a span holds at a closed timestamp, and then the versions above it.
     OpenInitial { span: Span, cursor: u64 },
-    /// Opens a feed of the versions of a span above a timestamp, whose resolved messages lie at least
-    /// a gap apart.
+    /// Opens a feed of the versions of a span above a timestamp, whose resolved messages lie at least a gap apart.
     OpenEvery { span: Span, cursor: u64, gap: u64 },
-    /// Opens a feed that tells what a span holds at a closed timestamp, and then the versions above it,
-    /// and whose resolved messages lie at least a gap apart.
+    /// Opens such an initial feed, whose resolved messages lie at least a gap apart.
     OpenInitialEvery { span: Span, cursor: u64, gap: u64 },
     /// Takes the next messages of a feed, at most `max`.
     Poll { feed: u64, max: u64 },
@@ -60,26 +56,18 @@ pub enum Cmd {
 impl Drop for Cmd {
     fn drop(self) {
         match self {
-            Cmd::Begin { ts: _ } => {}
-            Cmd::Get { ts: _, key: _ } => {}
-            Cmd::Scan { ts: _, span: _ } => {}
+            Cmd::Begin { ts: _ } | Cmd::Commit { ts: _ } | Cmd::Abort { ts: _ } | Cmd::Stats => {}
+            Cmd::Close { to: _ } | Cmd::CloseHard { to: _ } | Cmd::Collect { to: _ } => {}
+            Cmd::Protect { t: _ } | Cmd::Release { id: _ } | Cmd::Cancel { feed: _ } => {}
+            Cmd::Get { ts: _, key: _ } | Cmd::Del { ts: _, key: _ } => {}
+            Cmd::ReadAt { t: _, key: _ } | Cmd::Poll { feed: _, max: _ } => {}
+            Cmd::Scan { ts: _, span: _ } | Cmd::ScanAt { t: _, span: _ } => {}
+            Cmd::Open { span: _, cursor: _ } | Cmd::OpenInitial { span: _, cursor: _ } => {}
             Cmd::Put {
                 ts: _,
                 key: _,
                 value: _,
             } => {}
-            Cmd::Del { ts: _, key: _ } => {}
-            Cmd::Commit { ts: _ } => {}
-            Cmd::Abort { ts: _ } => {}
-            Cmd::Close { to: _ } => {}
-            Cmd::CloseHard { to: _ } => {}
-            Cmd::ReadAt { t: _, key: _ } => {}
-            Cmd::ScanAt { t: _, span: _ } => {}
-            Cmd::Protect { t: _ } => {}
-            Cmd::Release { id: _ } => {}
-            Cmd::Collect { to: _ } => {}
-            Cmd::Open { span: _, cursor: _ } => {}
-            Cmd::OpenInitial { span: _, cursor: _ } => {}
             Cmd::OpenEvery {
                 span: _,
                 cursor: _,
@@ -90,9 +78,6 @@ impl Drop for Cmd {
                 cursor: _,
                 gap: _,
             } => {}
-            Cmd::Poll { feed: _, max: _ } => {}
-            Cmd::Cancel { feed: _ } => {}
-            Cmd::Stats => {}
         }
     }
 }

@@ -1,4 +1,3 @@
-//! What a feed tells.
 ghost use Rattle.std.specs.Prelude.{◌≡◌};
 
 use std::marker::Model;

@@ -1,4 +1,3 @@
-//! What a command is answered.
 ghost use Rattle.std.specs.Prelude.{◌≡◌};
 ghost use Rattle.spans.specs.Parts.{answered_rows};
 
@@ -49,22 +48,14 @@ pub enum Reply {
 impl Drop for Reply {
     fn drop(self) {
         match self {
-            Reply::Started => {}
-            Reply::Found(_) => {}
-            Reply::Rows(_) => {}
-            Reply::Written => {}
-            Reply::Committed { keys: _ } => {}
-            Reply::Aborted => {}
-            Reply::Closed { at: _, aborted: _ } => {}
-            Reply::Protected { id: _ } => {}
-            Reply::Released => {}
+            Reply::Found(_) | Reply::Rows(_) | Reply::Messages(_) | Reply::Refused(_) => {}
+            Reply::Started | Reply::Written | Reply::Aborted | Reply::Released => {}
+            Reply::Committed { keys: _ } | Reply::Protected { id: _ } | Reply::Cancelled => {}
+            Reply::Closed { at: _, aborted: _ } | Reply::Opened { feed: _ } => {}
             Reply::Collected {
                 horizon: _,
                 removed: _,
             } => {}
-            Reply::Opened { feed: _ } => {}
-            Reply::Messages(_) => {}
-            Reply::Cancelled => {}
             Reply::Stats {
                 versions: _,
                 undecided: _,
@@ -72,7 +63,6 @@ impl Drop for Reply {
                 closed: _,
                 horizon: _,
             } => {}
-            Reply::Refused(_) => {}
         }
     }
 }

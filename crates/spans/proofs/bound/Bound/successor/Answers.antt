@@ -13,7 +13,7 @@ long-requires-clause-first c =
     let bytes : c.in_ok-all.all ≡ successor key = c.in_ok-all.ensures.bytes ∙ ap successor c.as_small_bytes.ensures in
     let read = ap length c.bytes.ensures.bytes in
     let full : length key ≡ 256 = omega (arith, c.bytes.ensures.in_range) in
-    c.in_ok-first.ensures.bytes ∙ sym (ap (take 256) bytes ∙ take_at key (0 ∷ []) 256 full)
+    c.in_ok-copy.ensures.bytes ∙ sym (ap (take 256) bytes ∙ take_at key (0 ∷ []) 256 full)
 
 pub returns-clause-least : goal.returns-clause-least
-returns-clause-least c = λ x. let bytes : c.in_ok-above-2.above ≡ successor c.args.key.now = search rules in rw bytes (above_successor c.args.key.now x)
+returns-clause-least c = λ x. let bytes : c.in_ok-above.above ≡ successor c.args.key.now = search rules in rw bytes (above_successor c.args.key.now x)
