@@ -1,4 +1,3 @@
-//! The closed timestamp and the protections.
 ghost use Rattle.std.specs.Prelude.{◌≡◌, ◌==◌, ◌<◌, ◌≤◌, ◌∷◌, ℕ, [], IfOk, OnOk, OnErr, false, filter, map, max, not, reverse, suc};
 ghost use Rattle.std.specs.List.{list_any};
 ghost use Rattle.spans.specs.Collection.{Protection};
@@ -88,8 +87,7 @@ impl Closing {
         self.closed()
     }
 
-    /// Protects a timestamp, and answers the protection's number. Where it is out of memory, nothing is
-    /// protected.
+    /// Protects a timestamp, and answers the protection's number. Where it is out of memory, nothing is protected.
     #[tactic(auto, using(crate::proofs::Numbers::number_stands, crate::proofs::Numbers::none_beyond, crate::proofs::Numbers::insert_last, crate::proofs::Numbers::newest_push))]
     pub fn protect(&mut self, t: u64) -> Result<u64, AllocError>
         requires room { made_in self.old < u64.MAX }

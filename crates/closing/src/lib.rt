@@ -1,9 +1,7 @@
-//! Up to where timestamps are closed, and the protections that hold a collection back. `mvto_rules` holds both and is the
-//! caller.
+//! Up to where timestamps are closed, and the protections that hold a collection back. `mvto_rules` is the caller.
 //!
-//! At or below the closed timestamp nothing changes any more. A collection drops versions at or below its horizon. It
-//! drops only those that no read at or above the horizon needs. A protection keeps the horizon at or below its
-//! timestamp.
+//! At or below the closed timestamp nothing changes any more. A collection drops versions at or below its horizon that no
+//! read at or above it needs. A protection keeps the horizon at or below its timestamp.
 //!
 //! 1. The closed timestamp never falls.
 //! 2. A protection has a number, from 1 on in the order of making, and the timestamp that it protects. No number is
@@ -27,8 +25,7 @@
 //! - `protect`, `release`, `least_protection`: O(log n)
 //! - `protections`: O(n)
 //!
-//! `protect` takes memory, for a place in the map and one in the set. Where it finds none, nothing is protected.
-//! `protections` takes it for its answer. The other calls take none.
+//! `protect` takes memory, for a place in the map and one in the set, and `protections` for its answer. Others take none.
 //!
 //! Tests: `layer_tests`.
 #![tactic(auto)]

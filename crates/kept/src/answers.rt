@@ -1,4 +1,3 @@
-//! The replies made of what is kept are the answers of the definitions.
 ghost use Rattle.std.specs.Prelude.{List, ℕ, Some, None, true, false};
 ghost use Rattle.kept.specs.Prelude.{Abort, Begin, Cancel, Close, CloseHard, Collect, Commit, Del, Get, Kept, Open, OpenEvery, OpenInitial, OpenInitialEvery, Poll, Protect, Put, ReadAt, Release, Reply, Scan, ScanAt, Span, Stats, kind_of};
 ghost use Rattle.kept.specs.Leading.{Answers};
