@@ -1,5 +1,5 @@
 -- A feed that is served from the store.
-use Rattle.std.proofs.Common.{List, None, Option, Some, [], ap, arith, false, length, max, min, refl, subst, sym, take, true, zero, suc, ℕ, ◌+◌, ◌-◌, ◌<◌, ◌&&◌, ◌==◌, ◌≡◌, ◌++◌, ◌∷◌, ◌∙◌}
+use Rattle.std.proofs.Common.{List, None, Option, Some, [], ap, arith, false, length, max, min, refl, subst, sym, take, true, zero, suc, ℕ, ◌-◌, ◌<◌, ◌&&◌, ◌==◌, ◌≡◌, ◌++◌, ◌∷◌, ◌∙◌}
 use Rattle.std.specs.Prelude.{nat_lt}
 use Rattle.feed.proofs.Common.{AreNextFirsts, AreNextIn, Kept, Place, Row, Stored, VersionName, and_from, and_parts, by_test, is_after_name, is_committed_in, is_past, length-take, lt-ltb, ltb-true, name_lt, nat_tests, or_left, take_both, version_in}
 use Rattle.spans.specs.KeyOrder.{key_lt}

@@ -1,4 +1,3 @@
-//! All live feeds.
 ghost use Rattle.std.specs.Prelude.{true, ◌≡◌, ◌<◌, ℕ, None, Some, is_some, option_map, suc, IfErr, IfOk, OnOk, OnErr};
 ghost use Rattle.std.specs.BTreeSet.{contains};
 ghost use Rattle.feed.specs.Prelude.{AreLive, IsLeastFloor, place_floor};
@@ -75,10 +74,7 @@ impl Feeds {
     pub fn seat(&self, feed: u64) -> Option<u8>
         ensures { result ≡ seat_in self.now feed }
     {
-        match self.live.get(&feed) {
-            None => None,
-            Some(live) => Some(live.seat()),
-        }
+        Some(self.live.get(&feed)?.seat())
     }
 
     /// Opens a feed at its cursor and answers its number. A cursor above the greatest timestamp counts as that. Where it is
@@ -178,20 +174,14 @@ impl Feeds {
     pub fn least_floor(&self) -> Option<u64>
         ensures { IsLeastFloor (place_in self.now) result }
     {
-        match self.floors.first() {
-            None => None,
-            Some(first) => Some(first.0),
-        }
+        Some(self.floors.first()?.0)
     }
 
     /// Up to where a feed has told all, if it lives: below that it needs no version.
     pub fn floor(&self, feed: u64) -> Option<u64>
         ensures { result ≡ option_map place_floor (place_in self.now feed) }
     {
-        match self.live.get(&feed) {
-            None => None,
-            Some(live) => Some(live.floor()),
-        }
+        Some(self.live.get(&feed)?.floor())
     }
 
     /// The feeds that live, numbers rising, and how far each has come. It takes memory for them alone.

@@ -78,14 +78,7 @@ impl LiveFeed {
     pub(crate) fn floor(&self) -> u64
         ensures { result ≡ place_floor self.now }
     {
-        floor_of(self.cursor, self.after, &self.row)
-    }
-
-    /// Up to where all is told before its last row.
-    pub(crate) fn after(&self) -> u64
-        ensures { result ≡ self.now.after }
-    {
-        self.after
+        self.cursor.max(told_through(self.after, &self.row))
     }
 
     /// Up to where all is told at a place behind messages.
@@ -96,7 +89,7 @@ impl LiveFeed {
             None => &self.row,
             Some(_) => &place.row,
         };
-        floor_of(self.cursor, place.after, row)
+        self.cursor.max(told_through(place.after, row))
     }
 
     /// The timestamp of the resolved message that is due, if one is.
@@ -115,14 +108,7 @@ impl LiveFeed {
         ensures { self.new ≡ arrived_at place.after place.row self.old }
     {
         self.after = place.after;
-        self.pass_row(place.row);
-    }
-
-    /// Has told a row, if there is one.
-    fn pass_row(&mut self, row: Option<RowName>)
-        ensures { self.new ≡ arrived_at self.old.after row self.old }
-    {
-        let Some(row) = row else {
+        let Some(row) = place.row else {
             return;
         };
         self.row = Some(row);
@@ -170,13 +156,10 @@ impl LiveFeed {
     fn told_at(&self, at: Ts) -> Option<&Key>
         ensures { option_copied result ≡ key_at at self.now.row }
     {
-        let Some(row) = &self.row else {
-            return None;
-        };
-        if row.ts != at {
-            return None;
+        match &self.row {
+            Some(row) if row.ts == at => Some(&row.key),
+            _ => None,
         }
-        Some(&row.key)
     }
 
     /// The first `n` stored rows that are left for it, above its cursor.
@@ -204,13 +187,13 @@ fn is_above(row: &Option<RowName>, ts: u64) -> bool
     }
 }
 
-/// Up to where all is told, where all is through `after`, and `row` is the last row.
-fn floor_of(cursor: u64, after: u64, row: &Option<RowName>) -> u64
-    ensures { result ≡ max cursor (max after (row_floor row.now)) }
+/// Up to where all is told behind `row`, the last one, where all is through `after`.
+fn told_through(after: u64, row: &Option<RowName>) -> u64
+    ensures { result ≡ max after (row_floor row.now) }
 {
     match row {
-        None => cursor.max(after),
-        Some(row) => cursor.max(after.max(row.ts.get() - 1)),
+        None => after,
+        Some(row) => after.max(row.ts.get() - 1),
     }
 }
 
@@ -218,11 +201,8 @@ fn floor_of(cursor: u64, after: u64, row: &Option<RowName>) -> u64
 fn place_in(after: u64, last: &Option<RowName>) -> (u64, Option<&Key>)
     ensures { (r : Row) → (nat_lt after r.ts && is_after_name last.now r) ≡ is_after_place result.0 (option_copied result.1) r.key r.ts }
 {
-    let Some(row) = last else {
-        return (after, None);
-    };
-    if row.ts.get() <= after {
-        return (after, None);
+    match last {
+        Some(row) if after < row.ts.get() => (row.ts.get(), Some(&row.key)),
+        _ => (after, None),
     }
-    (row.ts.get(), Some(&row.key))
 }

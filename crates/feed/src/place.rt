@@ -47,10 +47,9 @@ pub(crate) fn place_behind(after: u64, messages: &[Message]) -> Result<Arrival, 
             Message::Resolved(ts) => reached = reached.max(ts.get()),
         }
     }
-    let row = named(last)?;
     Ok(Arrival {
         after: reached,
-        row,
+        row: named(last)?,
     })
 }
 
@@ -58,11 +57,9 @@ pub(crate) fn place_behind(after: u64, messages: &[Message]) -> Result<Arrival, 
 fn named(row: Option<&Row>) -> Result<Option<RowName>, AllocError>
     ensures { IfOk result (λ name. name ≡ option_map name_of (option_copied row.entry)) }
 {
-    match row {
-        None => Ok(None),
-        Some(row) => {
-            let key = row.key.copy()?;
-            Ok(Some(RowName { ts: row.ts, key }))
-        }
-    }
+    let Some(row) = row else {
+        return Ok(None);
+    };
+    let key = row.key.copy()?;
+    Ok(Some(RowName { ts: row.ts, key }))
 }

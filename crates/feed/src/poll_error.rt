@@ -1,5 +1,3 @@
-//! Why a poll tells nothing.
-
 /// Why a feed tells a seat nothing.
 #[derive(Clone, Copy, Debug, PartialEq, Eq)]
 pub enum PollError {

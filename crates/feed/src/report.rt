@@ -1,4 +1,3 @@
-//! What a report tells of the feeds.
 ghost use Rattle.std.specs.Prelude.{◌≡◌, IfOk, filter_map, is_some, nat_eq};
 ghost use Rattle.std.specs.List.{IsDistinct};
 ghost use Rattle.std.specs.List.Sorted.{IsStrictlyIncreasing};
@@ -18,7 +17,8 @@ pub(crate) fn feed_reports(
 ) -> Result<Vec<FeedReport>, AllocError>
     ensures { IfOk result (λ ns. AreLive (place_at live.now.entries) ns.items) }
 {
-    let numbers = rising_numbers(alloc, live)?;
+    let mut numbers = numbers_of(alloc, live)?;
+    numbers.sort_unstable();
     reports_of(alloc, live, numbers.as_slice())
 }
 
@@ -37,16 +37,6 @@ fn reports_of(
         }
     }
     Ok(reports)
-}
-
-/// Their numbers, rising.
-fn rising_numbers(alloc: Global, live: &IndexMap<u64, LiveFeed>) -> Result<Vec<u64>, AllocError>
-    ensures rising { IfOk result (λ fs. IsStrictlyIncreasing fs.items) }
-    ensures those { IfOk result (λ fs. AreThose (λ f. is_some (place_at live.now.entries f)) fs.items) }
-{
-    let mut numbers = numbers_of(alloc, live)?;
-    numbers.sort_unstable();
-    Ok(numbers)
 }
 
 /// Their numbers.

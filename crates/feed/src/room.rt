@@ -1,5 +1,5 @@
-//! How many messages of a feed find room in so many bytes. A look reads what a poll would tell, and tells nothing. It
-//! reads the first messages, in chunks that grow, so that it goes little further than there is room for.
+//! How many messages of a feed find room in so many bytes. A look reads what a poll would tell, in chunks that grow, so
+//! that it goes little further than there is room for, and tells nothing.
 //!
 //! ```text
 //! left for a feed: rows of 20, 30 and 18 bytes, and a resolved message of 17
@@ -17,7 +17,6 @@ use crate::live::LiveFeed;
 use crate::live::telling::Told;
 use spans::calls::Message;
 use std::alloc::{AllocError, Global};
-use timestamps::row::Row;
 use timestamps::value::Value;
 use version_chain::Store;
 
@@ -40,15 +39,11 @@ pub(crate) fn count_left(
     ensures { IfOk result (IsCountLeft store.now closed max bytes live.now) }
 {
     let mut chunk = max.min(CHUNK);
-    while chunk < max {
+    loop {
         if let Some(count) = count_first(alloc, live, store, closed, chunk, max, bytes)? {
             return Ok(count);
         }
         chunk = chunk.saturating_add(chunk).saturating_add(1).min(max);
-    }
-    match count_first(alloc, live, store, closed, max, max, bytes)? {
-        Some(count) => Ok(count),
-        None => Ok(max),
     }
 }
 
@@ -68,7 +63,8 @@ fn count_first(
     ensures more { IfOk result (λ count. count ≡ None → chunk < max) }
 {
     let Told { messages, .. } = live.next_messages(alloc, store, closed, chunk)?;
-    let (count, all) = count_all(messages, bytes);
+    let count = count_within(messages.as_slice(), bytes);
+    let all = messages.len() as u64;
     if count < all {
         return Ok(Some(count));
     }
@@ -76,15 +72,6 @@ fn count_first(
         return Ok(Some(max));
     }
     Ok(None)
-}
-
-/// How many of the messages find room, and how many there are.
-fn count_all(messages: Vec<Message>, bytes: u64) -> (u64, u64)
-    ensures count { result.0 ≡ count_within bytes messages.items }
-    ensures all { result.1 ≡ length messages.items }
-{
-    let count = count_within(messages.as_slice(), bytes);
-    (count, messages.len() as u64)
 }
 
 /// How many of the messages, from the first on, have at most so many bytes together.
@@ -110,15 +97,8 @@ fn message_weight(message: &Message) -> u64
 {
     match message {
         Message::Resolved(_) => HEAD,
-        Message::Row(row) => row_weight(row),
+        Message::Row(row) => HEAD + row.key.bytes().len() as u64 + value_weight(&row.after),
     }
-}
-
-/// The bytes of a row.
-fn row_weight(row: &Row) -> u64
-    ensures { result ≡ message_weight (Message.Row row.now) }
-{
-    HEAD + row.key.bytes().len() as u64 + value_weight(&row.after)
 }
 
 /// The bytes of a value, none of a delete.
@@ -126,8 +106,5 @@ fn value_weight(after: &Option<Value>) -> u64
     ensures bytes { result ≡ value_weight after.now }
     ensures few { result ≤ 65536 }
 {
-    match after {
-        None => 0,
-        Some(value) => value.bytes().len() as u64,
-    }
+    after.as_ref().map_or(0, |value| value.bytes().len() as u64)
 }

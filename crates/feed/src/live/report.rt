@@ -1,8 +1,7 @@
-//! What a report tells of a feed.
-ghost use Rattle.std.specs.Prelude.{◌≡◌, IfOk, max};
-ghost use Rattle.feed.specs.Prelude.{complete_at, feed_report, resolved_at, row_floor, told_through};
+ghost use Rattle.std.specs.Prelude.{◌≡◌, IfOk};
+ghost use Rattle.feed.specs.Prelude.{complete_at, feed_report, resolved_at};
 
-use crate::live::LiveFeed;
+use crate::live::{LiveFeed, told_through};
 use crate::place::RowName;
 use spans::report::{FeedReport, ToldRow};
 use std::alloc::AllocError;
@@ -30,10 +29,7 @@ impl LiveFeed {
     fn resolved(&self) -> Option<u64>
         ensures { result ≡ resolved_at self.now }
     {
-        if self.kind.start(self.cursor) < self.after {
-            return Some(self.after);
-        }
-        None
+        (self.kind.start(self.cursor) < self.after).then_some(self.after)
     }
 
     /// Up to where its consumer knows that all was told.
@@ -41,20 +37,7 @@ impl LiveFeed {
         ensures { result ≡ complete_at self.now }
     {
         let through = told_through(self.after, &self.row);
-        if through < self.cursor {
-            return None;
-        }
-        Some(through)
-    }
-}
-
-/// Up to where all was told, where all is through `after`, and `row` is the last row.
-fn told_through(after: u64, row: &Option<RowName>) -> u64
-    ensures { result ≡ max after (row_floor row.now) }
-{
-    match row {
-        None => after,
-        Some(row) => after.max(row.ts.get() - 1),
+        (self.cursor <= through).then_some(through)
     }
 }
 

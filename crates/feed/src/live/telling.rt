@@ -34,7 +34,7 @@ impl LiveFeed {
         let rows = self.next_rows(alloc, store, closed, max)?;
         let rows = row_messages(alloc, rows)?;
         let messages = with_due(rows, self.due(closed), max)?;
-        let place = place_behind(self.after(), messages.as_slice())?;
+        let place = place_behind(self.after, messages.as_slice())?;
         Ok(Told { messages, place })
     }
 }
