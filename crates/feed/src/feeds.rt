@@ -77,8 +77,7 @@ impl Feeds {
         Some(self.live.get(&feed)?.seat())
     }
 
-    /// Opens a feed at its cursor and answers its number. A cursor above the greatest timestamp counts as that. Where it is
-    /// out of memory, nothing is opened.
+    /// Opens a feed and answers its number. A cursor above the greatest timestamp counts as that. An `Err` opens nothing.
     pub fn open(
         &mut self,
         seat: u8,

@@ -1,8 +1,7 @@
-ghost use Rattle.std.specs.Prelude.{◌≡◌, IfOk, filter_map, is_some, nat_eq};
+ghost use Rattle.std.specs.Prelude.{◌≡◌, IfOk, filter_map, nat_eq};
 ghost use Rattle.std.specs.List.{IsDistinct};
-ghost use Rattle.std.specs.List.Sorted.{IsStrictlyIncreasing};
 ghost use Rattle.std.specs.Map.{keys_of};
-ghost use Rattle.feed.specs.Prelude.{AreLive, AreThose};
+ghost use Rattle.feed.specs.Prelude.{AreLive};
 ghost use Rattle.feed.specs.Reports.{place_at, report_at};
 
 use crate::live::LiveFeed;
@@ -10,11 +9,11 @@ use indexmap::IndexMap;
 use spans::report::FeedReport;
 use std::alloc::{AllocError, Global};
 
+/// Feeds by number.
+type Lives = IndexMap<u64, LiveFeed>;
+
 /// The feeds that live, numbers rising.
-pub(crate) fn feed_reports(
-    alloc: Global,
-    live: &IndexMap<u64, LiveFeed>,
-) -> Result<Vec<FeedReport>, AllocError>
+pub(crate) fn feed_reports(alloc: Global, live: &Lives) -> Result<Vec<FeedReport>, AllocError>
     ensures { IfOk result (λ ns. AreLive (place_at live.now.entries) ns.items) }
 {
     let mut numbers = numbers_of(alloc, live)?;
@@ -23,11 +22,7 @@ pub(crate) fn feed_reports(
 }
 
 /// Those of these numbers.
-fn reports_of(
-    alloc: Global,
-    live: &IndexMap<u64, LiveFeed>,
-    numbers: &[u64],
-) -> Result<Vec<FeedReport>, AllocError>
+fn reports_of(alloc: Global, live: &Lives, numbers: &[u64]) -> Result<Vec<FeedReport>, AllocError>
     ensures { IfOk result (λ ns. ns.items ≡ filter_map (report_at live.now.entries) numbers.now) }
 {
     let mut reports = Vec::new(alloc);
@@ -40,7 +35,7 @@ fn reports_of(
 }
 
 /// Their numbers.
-fn numbers_of(alloc: Global, live: &IndexMap<u64, LiveFeed>) -> Result<Vec<u64>, AllocError>
+fn numbers_of(alloc: Global, live: &Lives) -> Result<Vec<u64>, AllocError>
     ensures keys { IfOk result (λ fs. fs.items ≡ keys_of live.now.entries) }
     ensures distinct { IsDistinct nat_eq (keys_of live.now.entries) }
 {

@@ -9,7 +9,7 @@
 //! max 2, bytes 50      2      all that were asked for
 //! ```
 
-ghost use Rattle.std.specs.Prelude.{◌≡◌, ◌<◌, ◌≤◌, None, length, IfOk, IfSome};
+ghost use Rattle.std.specs.Prelude.{◌≡◌, ◌<◌, ◌≤◌, None, IfOk, IfSome};
 ghost use Rattle.timestamps.specs.declared.ts.TheConstants.{MAX};
 ghost use Rattle.feed.specs.Room.{IsCountLeft, count_within, message_weight, value_weight};
 
