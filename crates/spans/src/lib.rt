@@ -3,10 +3,8 @@
 //! The definitions in `specs/` give each of them its meaning. Every crate that handles keys of a span or a command calls
 //! it. Only `timestamps` lies below.
 //!
-//! 1. A bound has 1 to 257 bytes, so that the place just above any key is one.
-//! 2. A span holds the keys at or above its lower bound and below its upper bound. It may hold no key.
-//!
-//! A history is a list of events. The definitions speak of their effects:
+//! A bound has 1 to 257 bytes, so that the place just above any key is one. A history is a list of events. The definitions
+//! speak of their effects:
 //!
 //! ```text
 //! event                                effect                 after it

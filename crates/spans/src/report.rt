@@ -1,8 +1,7 @@
 //! What an operator may ask of a database: how far it is closed and collected, what holds both back, and how far each
 //! feed has come.
 //!
-//! `engine` makes the live report of the database that it holds, and `report_lines` writes it as text. `specs/Report.antt`
-//! says what each part is.
+//! `engine` makes the live report, and `report_lines` writes it as text. `specs/Report.antt` says what each part is.
 //!
 //! ```text
 //! closed 30   horizon 9   feed 1 - -, its floor at 9   feed 2 - -, its floor at 9   transaction 31 of seat 0

@@ -9,9 +9,6 @@ use std::marker::Model;
 /// The most bytes that lie in place.
 pub(crate) const FEW: usize = 24;
 
-/// The bytes of one word.
-const WORD_BYTES: usize = 8;
-
 /// Up to [`FEW`] bytes, ordered byte by byte, a beginning before what it begins.
 ///
 /// Zeros stand behind the last byte. So two of them are compared as words, which are numbers of eight bytes with the
@@ -88,7 +85,7 @@ impl FewBytes {
     pub(crate) fn order(&self, other: &FewBytes) -> Ordering
         ensures { result ≡ key_cmp self.now other.now }
     {
-        for i in 0..FEW / WORD_BYTES {
+        for i in 0..FEW / 8 {
             let word = self.word(i);
             let others = other.word(i);
             if word != others {
@@ -98,7 +95,7 @@ impl FewBytes {
         self.len.cmp(&other.len)
     }
 
-    /// One of their words.
+    /// One of their words, of eight bytes each.
     #[inline]
     fn word(&self, i: usize) -> u64
         requires { i < 3 }
@@ -106,7 +103,7 @@ impl FewBytes {
         ensures bytes { AreBytes self.now }
     {
         // so many bytes are there
-        let bytes = self.bytes[WORD_BYTES * i..].first_chunk().unwrap();
+        let bytes = self.bytes[8 * i..].first_chunk().unwrap();
         u64::from_be_bytes(*bytes)
     }
 }

@@ -18,7 +18,6 @@
 //! - `new`, `copy` of a key or a value: its bytes, once; up to 24 lie in place and take no memory
 //! - `cmp` of keys: at most three numbers where both have up to 24 bytes, else their bytes
 //! - `draw`: 32 timestamps by two steps on one word; it takes no memory
-//! - a search by `BinarySearch`: as many timestamps as the length of the list has binary digits
 //!
 //! Tests: `unit_tests`; leases also in `session_tests`.
 #![tactic(auto)]

@@ -15,8 +15,7 @@
 //! word 288230376151711743       Err(Spent), from here on
 //! ```
 //!
-//! Cost: `new` takes memory for the word and the passes; `draw` is a load and a compare-exchange;
-//! `meet` is five loads. Neither takes memory or waits.
+//! Cost: `new` takes memory. `draw` is a load and a compare-exchange, `meet` five loads; neither takes memory or waits.
 ghost use Rattle.std.specs.Prelude.{◌≡◌, ◌<◌, ◌≤◌, ◌+◌, ◌++◌, [], ◌∷◌, length, All, IfOk, IfErr, OnOk, OnErr};
 ghost use Rattle.std.specs.List.Sorted.{IsStrictlyIncreasing};
 ghost use Rattle.timestamps.specs.Numbers.{timestamps_of, AreApart};
