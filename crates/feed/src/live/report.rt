@@ -1,3 +1,4 @@
+//! What a report tells of a feed.
 ghost use Rattle.std.specs.Prelude.{◌≡◌, IfOk};
 ghost use Rattle.feed.specs.Prelude.{complete_at, feed_report, resolved_at};
 

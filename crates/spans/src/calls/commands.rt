@@ -5,7 +5,7 @@ use crate::span::Span;
 use timestamps::key::Key;
 use timestamps::value::Value;
 
-/// What a session asks for. Any number is taken: what it can't be is a [`Refusal`](crate::calls::Refusal).
+/// A command. The database answers a number that it can't take with a [`Refusal`](crate::calls::Refusal).
 #[derive(Debug, PartialEq, Eq)]
 pub enum Cmd {
     /// Begins the transaction of this timestamp.
