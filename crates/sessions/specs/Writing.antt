@@ -2,7 +2,7 @@
 use Rattle.std.specs.Prelude.{◌≡◌, List, [], ℕ, ◌+◌, ◌++◌, Result, Ok, Err, Vec}
 use Rattle.std.specs.Global.{Global}
 use Rattle.sessions.specs.declared.output.Output.{Output}
-use Rattle.sessions.specs.declared.sink.WriteFailed.{WriteFailed}
+use Rattle.sessions.specs.declared.devices.WriteFailed.{WriteFailed}
 use Rattle.sessions.specs.declared.ending.ServeEnd.{ServeEnd}
 use Rattle.sessions.specs.declared.ending.ServeEnd.TheVariants as end
 use Rattle.sessions.specs.Devices.{Reads, Writes, EndsOnce}

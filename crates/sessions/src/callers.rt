@@ -65,15 +65,10 @@ impl Callers {
         ensures spent { OnErr result (HasSpent self.new.seats.items) }
         ensures kept { OnErr result (event.new ≡ event.old) }
     {
-        catch_up(
-            &self.db,
-            &mut self.seats,
-            usize::from(self.latest),
-            usize::from(caller),
-        );
+        let place = usize::from(caller);
+        catch_up(&self.db, &mut self.seats, usize::from(self.latest), place);
         self.latest = caller;
-        self.db
-            .call_in_place(rt, &mut self.seats[usize::from(caller)], event)
+        self.db.call_in_place(rt, &mut self.seats[place], event)
     }
 
     /// The engine, now that all calls are made.

@@ -1,12 +1,43 @@
-//! Any reader as a source, and any writer as a sink.
+//! What a script is read from and what a transcript is written to, with any reader as a source and any writer as a sink.
 ghost use Rattle.std.specs.Prelude.{◌≡◌, ◌≤◌, ◌<◌, [], false, take, length, IfOk, OnErr};
-ghost use Rattle.sessions.specs.Devices.{reads_of, writes_of, with_given, with_failed_read, with_taken, with_failed_write};
+ghost use Rattle.sessions.specs.Devices.{Reads, Writes, reads_of, writes_of, with_given, with_failed_read, with_taken, with_failed_write};
 ghost use Rattle.std.specs.Io.KnownBytes.{ReadConsumes, WriteAppends};
 
-use crate::sink::{Sink, WriteFailed};
-use crate::source::{ReadFailed, Source};
 use byte_log::{ByteLog, Growth};
 use std::io::{Read, Write};
+
+/// A device failed to read. It is not tried again.
+#[derive(Clone, Copy, Debug, PartialEq, Eq)]
+pub struct ReadFailed;
+
+/// A device that gives bytes, read by read. Proofs know what it gave and how often it failed.
+pub trait Source {
+    ghost reads: { Self → Reads };
+
+    /// Reads once, into the front of the block. It may wait for the device. No bytes are its end.
+    fn read(&mut self, block: &mut [u8]) -> Result<usize, ReadFailed>
+        requires room { 0 < length block.old }
+        ensures count { IfOk result (λ n. n ≤ length block.new) }
+        ensures given { IfOk result (λ n. reads self.new ≡ with_given (reads self.old) (take n block.new)) }
+        ensures failed { OnErr result (reads self.new ≡ with_failed_read (reads self.old)) };
+}
+
+/// A device failed to write, or took nothing. It is not tried again.
+#[derive(Clone, Copy, Debug, PartialEq, Eq)]
+pub struct WriteFailed;
+
+/// A device that takes bytes, write by write. Proofs know what it took and how often it failed.
+pub trait Sink {
+    ghost writes: { Self → Writes };
+
+    /// Writes once: as many bytes from the front as the device takes.
+    fn write(&mut self, bytes: &[u8]) -> Result<usize, WriteFailed>
+        requires some { 0 < length bytes.now }
+        ensures least { IfOk result (λ n. 0 < n) }
+        ensures most { IfOk result (λ n. n ≤ length bytes.now) }
+        ensures taken { IfOk result (λ n. writes self.new ≡ with_taken (writes self.old) (take n bytes.now)) }
+        ensures failed { OnErr result (writes self.new ≡ with_failed_write (writes self.old)) };
+}
 
 /// A reader, with what proofs know of its reads: what they gave, and one byte for each that found the end, or failed.
 #[derive(Drop)]
@@ -49,9 +80,8 @@ impl<R: Read> Source for Reading<R> {
     {
         match self.reader.read(block) {
             Ok(count) => {
-                self.given = self.given.and(&Growth {
-                    bytes: &block[..count],
-                });
+                let bytes = &block[..count];
+                self.given = self.given.and(&Growth { bytes });
                 self.ended = count == 0;
                 if count == 0 {
                     self.ends = self.ends.and(&Growth { bytes: &[0] });
@@ -101,17 +131,12 @@ impl<W: Write> Sink for Writing<W> {
         ensures known { WriteAppends (W.contents self.old.writer) (W.contents self.new.writer) result bytes.now }
     {
         match self.writer.write(bytes) {
-            Ok(0) => {
-                self.failed = self.failed.and(&Growth { bytes: &[0] });
-                Err(WriteFailed)
-            }
-            Ok(count) => {
-                self.taken = self.taken.and(&Growth {
-                    bytes: &bytes[..count],
-                });
+            Ok(count) if count > 0 => {
+                let bytes = &bytes[..count];
+                self.taken = self.taken.and(&Growth { bytes });
                 Ok(count)
             }
-            Err(_) => {
+            _ => {
                 self.failed = self.failed.and(&Growth { bytes: &[0] });
                 Err(WriteFailed)
             }

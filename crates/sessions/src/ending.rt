@@ -1,8 +1,8 @@
 //! How a run ends.
 ghost use Rattle.std.specs.Prelude.{◌≡◌};
+ghost use Rattle.sessions.specs.declared.ending.ServeEnd.TheVariants as end;
 
-use crate::sink::WriteFailed;
-use crate::source::ReadFailed;
+use crate::devices::{ReadFailed, WriteFailed};
 use shared_db::OpenError;
 use std::alloc::AllocError;
 use word_lines::fault::LineFault;
@@ -28,8 +28,6 @@ pub enum ServeEnd {
 }
 
 impl From<AllocError> for ServeEnd {
-    ghost use Rattle.sessions.specs.declared.ending.ServeEnd.TheVariants as end;
-
     ghost from_gives = { λ _ e. e ≡ end.Memory };
 
     fn from(_failed: AllocError) -> ServeEnd {
@@ -38,8 +36,6 @@ impl From<AllocError> for ServeEnd {
 }
 
 impl From<OpenError> for ServeEnd {
-    ghost use Rattle.sessions.specs.declared.ending.ServeEnd.TheVariants as end;
-
     ghost from_gives = { λ reason e. e ≡ end.Open reason };
 
     fn from(refused: OpenError) -> ServeEnd {
@@ -48,8 +44,6 @@ impl From<OpenError> for ServeEnd {
 }
 
 impl From<ReadFailed> for ServeEnd {
-    ghost use Rattle.sessions.specs.declared.ending.ServeEnd.TheVariants as end;
-
     ghost from_gives = { λ _ e. e ≡ end.Input };
 
     fn from(_failed: ReadFailed) -> ServeEnd {
@@ -58,8 +52,6 @@ impl From<ReadFailed> for ServeEnd {
 }
 
 impl From<WriteFailed> for ServeEnd {
-    ghost use Rattle.sessions.specs.declared.ending.ServeEnd.TheVariants as end;
-
     ghost from_gives = { λ _ e. e ≡ end.Output };
 
     fn from(_failed: WriteFailed) -> ServeEnd {

@@ -1,6 +1,4 @@
 //! The line that ends an output, with its room made before any line is read.
-//!
-//! A run that comes to a faulty line, or to one for which no position is left, so tells of it without wanting memory.
 ghost use Rattle.std.specs.Prelude.{◌≡◌, ◌+◌, ◌++◌, ◌<◌, ◌≤◌, [], vec_len, vec_capacity, OnOk, OnErr};
 ghost use Rattle.sessions.specs.Runs.{last_line};
 
@@ -27,20 +25,12 @@ impl LastLine {
         ensures { result.items ≡ last_line end }
     {
         let LastLine { mut bytes } = self;
-        let Ok(()) = put_line(&mut bytes, end) else {
-            unreachable!()
+        let written = match end {
+            ServeEnd::Fault { line, fault } => write_fault(&mut bytes, line, fault),
+            ServeEnd::Spent { line } => write_spent(&mut bytes, line),
+            _ => return bytes,
         };
+        let Ok(()) = written else { unreachable!() };
         bytes
-    }
-}
-
-fn put_line(out: &mut Vec<u8>, end: ServeEnd) -> Result<(), AllocError>
-    ensures ok { OnOk result (out.new.items ≡ out.old.items ++ last_line end) }
-    ensures room { OnErr result (vec_capacity out.old < vec_len out.old + 64) }
-{
-    match end {
-        ServeEnd::Fault { line, fault } => write_fault(out, line, fault),
-        ServeEnd::Spent { line } => write_spent(out, line),
-        _ => Ok(()),
     }
 }

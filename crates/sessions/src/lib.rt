@@ -48,16 +48,12 @@ mod last_line;
 mod lines;
 mod output;
 mod serving;
-mod sink;
-mod source;
 mod whole;
 
-pub use devices::{Reading, Writing};
+pub use devices::{ReadFailed, Reading, Sink, Source, WriteFailed, Writing};
 pub use ending::ServeEnd;
 pub use lines::Lines;
 pub use output::Output;
 pub use serving::serve;
 pub use shared_db::{Config, OpenError};
-pub use sink::{Sink, WriteFailed};
-pub use source::{ReadFailed, Source};
 pub use whole::{read_whole, write_transcript, write_whole};

@@ -13,16 +13,12 @@
 ghost use Rattle.std.specs.Prelude.{◌≡◌, ◌≤◌, ◌<◌, ◌+◌, ◌-◌, [], true, false, position, take, drop, length, vec_len, IfOk, IfSome, OnOk, OnErr};
 ghost use Rattle.sessions.specs.Prelude.{is_newline, line_limit};
 
+use crate::devices::{ReadFailed, Sink, Source};
 use crate::ending::ServeEnd;
-use crate::output::Output;
-use crate::sink::Sink;
-use crate::source::{ReadFailed, Source};
+use crate::output::{BLOCK, Output};
 use memchr::memchr;
 use std::alloc::{AllocError, Global};
 use text_format::Format;
-
-/// How many bytes are asked for at once at least, whatever waits.
-pub(crate) const BLOCK: usize = 65536;
 
 /// The bytes of an input that were read and wait to be taken, line by line. It has no device: each read
 /// is handed one.

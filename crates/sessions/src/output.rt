@@ -12,13 +12,13 @@ ghost use Rattle.std.specs.Prelude.{◌≡◌, ◌<◌, ◌++◌, [], length, If
 ghost use Rattle.sessions.specs.Prelude.{command_line, event_text};
 ghost use Rattle.sessions.specs.Writing.{pending_of, HasWritten};
 
-use crate::sink::{Sink, WriteFailed};
+use crate::devices::{Sink, WriteFailed};
 use crate::whole::write_whole;
 use spans::calls::Event;
 use std::alloc::{AllocError, Global};
 use word_lines::events::{write_echo, write_event};
 
-/// How many bytes are kept before they are written.
+/// How many bytes are asked for at once at least, and how many are kept before they are written.
 pub(crate) const BLOCK: usize = 65536;
 
 /// The bytes that wait to be written.

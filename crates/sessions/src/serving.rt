@@ -1,16 +1,18 @@
 //! Serving a script: its calls are made in their order, and what happened is written.
-ghost use Rattle.std.specs.Prelude.{◌≡◌, ◌<◌, ◌≤◌, vec_len, length, take, IfOk, IfErr, OnOk};
+ghost use Rattle.std.specs.Prelude.{◌≡◌, ◌<◌, ◌≤◌, Some, vec_len, length, take, IfOk, IfErr, OnOk};
 ghost use Rattle.word_lines.specs.Commands.{command_line};
 ghost use Rattle.word_lines.specs.Limits.{IsCommand};
 ghost use Rattle.sessions.specs.Runs.{IsServed};
+ghost use Rattle.sessions.specs.NextLines.{IsNextLine};
+ghost use Rattle.sessions.specs.Waiting.{waiting};
+ghost use Rattle.sessions.specs.Going.{IsStopped, IsFresh, IsRefused, MakesCall, StopsBefore, CallsLine, StopsAtLine, ServesAs, end_of};
 
 use crate::callers::Callers;
+use crate::devices::{Sink, Source};
 use crate::ending::ServeEnd;
 use crate::last_line::LastLine;
 use crate::lines::Lines;
 use crate::output::Output;
-use crate::sink::Sink;
-use crate::source::Source;
 use shared_db::Config;
 use spans::calls::{Cmd, Event, Reply};
 use std::alloc::Global;
@@ -22,10 +24,9 @@ use word_lines::fault::ReadError;
 /// Opens a database, makes the calls of a script of a format in their order, and writes the transcript. Once the
 /// database is open the output begins with the format's header.
 ///
-/// A line is the call of the seat that it names. A faulty line ends the transcript with its fault,
-/// and so does one for which no position is left; what was answered before it stands. The room of that
-/// last line is made first, so that telling of either wants no memory. The output is written in large
-/// blocks, at the end, and before each read, since a read may wait.
+/// A line is the call of the seat that it names. A faulty line ends the transcript with its fault, and so does one for
+/// which no position is left; what was answered before it stands. What waits is written before each read, since a read
+/// may wait.
 pub fn serve<S: Source, K: Sink, T: Wait>(
     rt: &T,
     alloc: Global,
@@ -67,9 +68,6 @@ struct Run {
 }
 
 impl Run {
-    ghost use Rattle.sessions.specs.Waiting.{waiting, IsLine};
-    ghost use Rattle.sessions.specs.Going.{IsStopped, IsFresh, IsRefused, MakesCall, StopsBefore, CallsLine, StopsAtLine, ServesAs, end_of};
-
     fn begin(alloc: Global, terms: Terms) -> Result<Run, ServeEnd>
         ensures ok { IfOk result (λ run. IsFresh run × (run.terms ≡ terms)) }
         ensures err { IfErr result (IsRefused terms.config) }
@@ -114,7 +112,9 @@ impl Run {
             };
             self.line(rt, output, before + 1, count, &mut event)?;
         }
-        stay(rt)
+        // No run has so many turns.
+        for _ in rt.forever() {}
+        unreachable!()
     }
 
     /// Reads the command of one line into an event, makes its call, and keeps the event to be written.
@@ -126,8 +126,7 @@ impl Run {
         count: usize,
         event: &mut Event,
     ) -> Result<(), ServeEnd>
-        requires within { count ≤ length (waiting self.old.lines) }
-        requires line { IsLine self.old.lines count }
+        requires { IsNextLine self.old.lines (Some count) }
         ensures terms { self.new.terms ≡ self.old.terms }
         ensures ok { OnOk result (CallsLine self.old self.new number (K.writes output.old) (K.writes output.new)) }
         ensures err { IfErr result (StopsAtLine self.old self.new number (K.writes output.old) (K.writes output.new)) }
@@ -142,29 +141,21 @@ impl Run {
 
     /// Reads the call of a line, which stays: it tells the seat, and writes the command over another.
     #[inline(always)]
-    fn read(&self, number: u64, count: usize, cmd: &mut Cmd) -> Result<u8, ServeEnd>
-        requires within { count ≤ length (waiting self.now.lines) }
-        requires line { IsLine self.now.lines count }
+    fn read(&self, line: u64, count: usize, cmd: &mut Cmd) -> Result<u8, ServeEnd>
+        requires { IsNextLine self.now.lines (Some count) }
         ensures there { IfOk result (λ seat. seat < vec_len self.now.callers.seats) }
         ensures lawful { IfOk result (λ seat. IsCommand self.now.terms.format cmd.new) }
         ensures spelled { IfOk result (λ seat. take count (waiting self.now.lines) ≡ command_line seat cmd.new) }
-        ensures err { IfErr result (StopsBefore self.now self.now number) }
+        ensures err { IfErr result (StopsBefore self.now self.now line) }
     {
-        match read_command(
-            self.alloc,
-            self.lines.line(count),
-            self.callers.count(),
-            self.terms.format,
-        ) {
+        let text = self.lines.line(count);
+        match read_command(self.alloc, text, self.callers.count(), self.terms.format) {
             Ok((seat, read)) => {
                 *cmd = read;
                 Ok(seat)
             }
             Err(ReadError::NoMemory) => Err(ServeEnd::Memory),
-            Err(ReadError::Fault(fault)) => Err(ServeEnd::Fault {
-                line: number,
-                fault,
-            }),
+            Err(ReadError::Fault(fault)) => Err(ServeEnd::Fault { line, fault }),
         }
     }
 
@@ -217,12 +208,4 @@ impl Run {
             Err(failed) => ServeEnd::from(failed),
         }
     }
-}
-
-/// Stays for ever: no run has so many turns.
-fn stay<T: Wait>(rt: &T) -> Result<(), ServeEnd>
-    ensures { ⊥ }
-{
-    for _ in rt.forever() {}
-    unreachable!()
 }

@@ -1,22 +1,20 @@
 //! Whole inputs and whole outputs, for a program that answers once it has read everything.
-ghost use Rattle.std.specs.Prelude.{◌<◌, [], vec_len, IfOk};
+ghost use Rattle.std.specs.Prelude.{[]};
 ghost use Rattle.script.specs.Transcripts.{transcript_text};
 ghost use Rattle.sessions.specs.Writing.{HasWritten, IsReadWhole, IsWrittenWhole};
 
+use crate::devices::{Sink, Source, WriteFailed};
 use crate::ending::ServeEnd;
-use crate::lines::BLOCK;
-use crate::output::Output;
-use crate::sink::{Sink, WriteFailed};
-use crate::source::Source;
+use crate::output::{BLOCK, Output};
 use spans::calls::Event;
-use std::alloc::{AllocError, Global};
+use std::alloc::Global;
 use text_format::Format;
 
 /// Reads a source to its end.
 pub fn read_whole<S: Source>(alloc: Global, source: &mut S) -> Result<Vec<u8>, ServeEnd>
     ensures { IsReadWhole (S.reads source.old) (S.reads source.new) result }
 {
-    let mut block = room(alloc)?;
+    let mut block = vec![in alloc; 0u8; BLOCK]?;
     let mut whole = Vec::new(alloc);
     for _turn in 0..u64::MAX {
         let count = source.read(&mut block)?;
@@ -27,13 +25,6 @@ pub fn read_whole<S: Source>(alloc: Global, source: &mut S) -> Result<Vec<u8>, S
     }
     // each turn has read a byte, and no list is so long
     unreachable!()
-}
-
-/// Room for one read.
-fn room(alloc: Global) -> Result<Vec<u8>, AllocError>
-    ensures { IfOk result (λ block. 0 < vec_len block) }
-{
-    vec![in alloc; 0u8; BLOCK]
 }
 
 /// Writes the bytes, in as many pieces as the device takes. Where it fails, those before are written.
