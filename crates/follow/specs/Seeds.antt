@@ -1,5 +1,6 @@
 -- What a follower may begin with: the rows that the last scan of a transcript found.
 use Rattle.std.specs.Prelude.{◌≡◌, ◌⊎◌, ℕ, List, [], ◌∷◌, Option, Some, None, Result, Ok, Err}
+use Rattle.std.specs.Option.{option_or}
 use Rattle.text_format.specs.Limits.{format_of}
 use Rattle.spans.specs.declared.span.Span.{Span}
 use Rattle.spans.specs.declared.calls.commands.Cmd.{Cmd}
@@ -11,7 +12,6 @@ use Rattle.script.specs.declared.fault.TranscriptError.{TranscriptError}
 use Rattle.script.specs.declared.fault.TranscriptError.TheVariants as read_errors
 use Rattle.script.specs.Transcripts.{Fault, HasHeader, Transcript, WantsAny, left_of, outcome, transcript_at}
 use Rattle.follow.specs.declared.seed.Seed.{Seed}
-use Rattle.follow.specs.declared.seed.SeedScan.{SeedScan}
 use Rattle.follow.specs.declared.seed.SeedError.{SeedError}
 use Rattle.follow.specs.declared.seed.SeedError.TheVariants as errors
 
@@ -27,11 +27,6 @@ found_by c r = None
 abbrev pub scan_in : Event → Option Found
 scan_in e = found_by e.cmd e.reply
 
--- the first, or else the second
-abbrev pub option_or : {A : Type 0} → Option A → Option A → Option A
-option_or (Some x) other = Some x
-option_or None other = other
-
 -- what the last scan of the events found, or else what was found before them
 abbrev pub last_scan : Option Found → List Event → Option Found
 last_scan before [] = before
@@ -39,9 +34,6 @@ last_scan before (e ∷ events) = last_scan (option_or (scan_in e) before) event
 
 abbrev pub seed_parts : Seed → Found
 seed_parts s = (s.span, s.cursor, s.rows.items)
-
-abbrev pub scan_parts : SeedScan → Found
-scan_parts s = (s.span, s.cursor, s.rows)
 
 -- the events were read, and this is what their last scan found
 abbrev pub IsLastOf : Result (List Event) Fault → Option Found → Type 0
@@ -61,8 +53,8 @@ IsUnseeded text errors.NoMemory =
     ⊎ ((found : Found) × IsLastOf (transcript_at (format_of text) text) (Some found))
 
 -- the same of what is left of a transcript
-abbrev pub IsLastScan : Transcript → SeedScan → Type 0
-IsLastScan left s = IsLastOf (outcome left) (Some (scan_parts s))
+abbrev pub IsLastScan : Transcript → Found → Type 0
+IsLastScan left found = IsLastOf (outcome left) (Some found)
 
 abbrev pub IsUnscanned : Transcript → SeedError → Type 0
 IsUnscanned left (errors.Fault line fault) = outcome left ≡ Err (record { line = line; fault = fault })

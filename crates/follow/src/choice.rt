@@ -1,5 +1,5 @@
 //! Which lines of an input are messages to take.
-ghost use Rattle.std.specs.Prelude.{◌≡◌, ◌&&◌};
+ghost use Rattle.std.specs.Prelude.{◌≡◌, ◌&&◌, is_none};
 ghost use Rattle.follow.specs.Chosen.{begins_message, polled_in, is_feed, is_taking_after};
 
 use json_lines::numbers::number_of;
@@ -14,16 +14,12 @@ pub(crate) struct Choice {
 }
 
 impl Choice {
-    ghost use Rattle.std.specs.Prelude.{is_none};
-
     pub(crate) fn new(feed: Option<u64>) -> Choice
         ensures feed { result.feed ≡ feed }
         ensures taking { result.taking ≡ is_none feed }
     {
-        Choice {
-            feed,
-            taking: feed.is_none(),
-        }
+        let taking = feed.is_none();
+        Choice { feed, taking }
     }
 
     /// Whether a line is a message to take. Of a feed only those messages are that follow its poll: any
@@ -47,29 +43,21 @@ impl Choice {
 fn begins_message(text: &[u8]) -> bool
     ensures { result ≡ begins_message text.now }
 {
-    match text {
-        [] => false,
-        [first, ..] => *first == b'{',
-    }
+    matches!(text, [b'{', ..])
 }
 
 /// Whether a transcript's line polls a feed.
 fn polls(text: &[u8], feed: u64) -> bool
     ensures { result ≡ is_feed feed (polled_in text.now) }
 {
-    match polled_in(text) {
-        None => false,
-        Some(polled) => polled == feed,
-    }
+    matches!(polled_in(text), Some(polled) if polled == feed)
 }
 
 /// The feed that a transcript's line polls: its third word is `poll`, and its fourth the number.
 fn polled_in(text: &[u8]) -> Option<u64>
     ensures { result ≡ polled_in text.now }
 {
-    let Ok(mut words) = words_of(text) else {
-        return None;
-    };
+    let mut words = words_of(text).ok()?;
     let _position = words.take_word()?;
     let _seat = words.take_word()?;
     let name = words.take_word()?;

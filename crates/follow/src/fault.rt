@@ -1,7 +1,7 @@
 //! Why a line can't be followed.
 ghost use Rattle.std.specs.Prelude.{◌≡◌, ◌≢◌};
 ghost use Rattle.follow.specs.declared.fault.FollowError.TheVariants.{NoMemory};
-ghost use Rattle.follow.specs.Followed.{error_of_line, error_of_message, error_of_replica};
+ghost use Rattle.follow.specs.Followed.{code_of, error_of_line, error_of_message, error_of_replica, name_of};
 
 use json_lines::MessageFault;
 use replica::Fault;
@@ -34,8 +34,6 @@ pub enum FollowFault {
 }
 
 impl FollowFault {
-    ghost use Rattle.follow.specs.Followed.{code_of, name_of};
-
     /// Its number.
     pub fn code(self) -> u8
         ensures { result ≡ code_of self }
@@ -72,9 +70,6 @@ pub(crate) enum FollowError {
 }
 
 impl From<AllocError> for FollowError {
-    ghost use Rattle.std.specs.Prelude.{◌≡◌};
-    ghost use Rattle.follow.specs.declared.fault.FollowError.TheVariants.{NoMemory};
-
     ghost from_gives = { λ _ error. error ≡ NoMemory };
 
     fn from(_refused: AllocError) -> FollowError {

@@ -1,6 +1,6 @@
 //! A follower: a replica, with the input that changes it and what is told of it. `IsGoing` in
 //! `specs/Steps.antt` says what holds between two lines.
-ghost use Rattle.std.specs.Prelude.{◌≡◌, ◌≤◌, [], length, IfOk, IfErr, OnOk, OnErr};
+ghost use Rattle.std.specs.Prelude.{◌≡◌, ◌≤◌, [], Some, length, IfOk, IfErr, OnOk, OnErr};
 ghost use Rattle.follow.specs.Prelude.{Follows, format_of};
 ghost use Rattle.follow.specs.Followed.{start_of, IsUnbegun, MayStart};
 
@@ -35,7 +35,8 @@ pub(crate) struct Follower {
 }
 
 impl Follower {
-    ghost use Rattle.sessions.specs.Waiting.{waiting, IsLine};
+    ghost use Rattle.sessions.specs.NextLines.{IsNextLine};
+    ghost use Rattle.sessions.specs.Waiting.{waiting};
     ghost use Rattle.sessions.specs.Writing.{pending_of};
     ghost use Rattle.follow.specs.Taking.{HasRead, IsMisreadAt};
     ghost use Rattle.follow.specs.declared.options.FollowOptions.{FollowOptions};
@@ -107,8 +108,7 @@ impl Follower {
         number: u64,
         count: usize,
     ) -> Result<(), FollowEnd>
-        requires within { count ≤ length (waiting self.old.lines) }
-        requires line { IsLine self.old.lines count }
+        requires { IsNextLine self.old.lines (Some count) }
         ensures ok { OnOk result (TakesLine self.old self.new number (pending_of kept.old) (pending_of kept.new) (K.writes output.old) (K.writes output.new)) }
         ensures err { IfErr result (StopsAtLine self.old number (pending_of kept.old) (pending_of kept.new) (K.writes output.old) (K.writes output.new)) }
     {
@@ -124,8 +124,7 @@ impl Follower {
 
     /// Takes one line, with its message where it is one to take, and keeps what is told of that.
     fn take_line(&mut self, kept: &mut Output, count: usize) -> Result<(), FollowError>
-        requires within { count ≤ length (waiting self.old.lines) }
-        requires line { IsLine self.old.lines count }
+        requires { IsNextLine self.old.lines (Some count) }
         ensures ok { OnOk result (TakesMore self.old self.new (pending_of kept.old) (pending_of kept.new)) }
         ensures err { IfErr result (StopsWithLine self.old) }
         ensures same { OnErr result (pending_of kept.new ≡ pending_of kept.old) }

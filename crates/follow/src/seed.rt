@@ -6,8 +6,8 @@
 //! row a 1
 //! 6 0 open - - 10 => opened 1
 //! ```
-ghost use Rattle.std.specs.Prelude.{◌≡◌, IfOk, IfErr, option_map};
-ghost use Rattle.follow.specs.Seeds.{IsSeedOf, IsUnseeded, IsLastScan, IsUnscanned, option_or, refusal_of, scan_in, scan_parts};
+ghost use Rattle.std.specs.Prelude.{◌≡◌, IfOk, IfErr};
+ghost use Rattle.follow.specs.Seeds.{IsSeedOf, IsUnseeded, IsLastScan, IsUnscanned, refusal_of, scan_in};
 
 use script::events::Events;
 use script::fault::TranscriptError;
@@ -38,13 +38,8 @@ pub enum SeedError {
     NoMemory,
 }
 
-/// A scan that was answered.
-#[derive(Drop)]
-struct SeedScan {
-    span: Span,
-    cursor: u64,
-    rows: Rows,
-}
+/// The span of a scan that was answered, its timestamp, and the rows that it found.
+type Found = (Span, u64, Rows);
 
 /// The seed of a transcript, in the format that its first line says: what its last scan at a timestamp found. That the
 /// transcript is right isn't looked at. No event is kept, so memory is wanted only to read one that may want it, as
@@ -57,61 +52,37 @@ pub fn seed_of(alloc: Global, text: &[u8]) -> Result<Seed, SeedError>
         Ok(events) => events,
         Err(error) => return Err(refusal(error)),
     };
-    let scan = last_scan(alloc, &mut events)?;
-    match copied(alloc, scan.rows.as_slice()) {
-        Ok(rows) => Ok(Seed {
-            span: scan.span,
-            cursor: scan.cursor,
-            rows,
-        }),
+    let (span, cursor, rows) = last_scan(alloc, &mut events)?;
+    match copied(alloc, rows.as_slice()) {
+        Ok(rows) => Ok(Seed { span, cursor, rows }),
         Err(_) => Err(SeedError::NoMemory),
     }
 }
 
 /// The last scan of the events that are left.
-fn last_scan(alloc: Global, events: &mut Events) -> Result<SeedScan, SeedError>
+fn last_scan(alloc: Global, events: &mut Events) -> Result<Found, SeedError>
     ensures found { IfOk result (IsLastScan events.old) }
     ensures refused { IfErr result (IsUnscanned events.old) }
 {
     let mut last = None;
     while let Some(event) = events.next(alloc) {
         match event {
-            Ok(event) => last = later(last, scan_of(event)),
+            Ok(event) => last = scan_of(event).or(last),
             Err(error) => return Err(refusal(error)),
         }
     }
-    match last {
-        Some(scan) => Ok(scan),
-        None => Err(SeedError::NoScan),
-    }
+    last.ok_or(SeedError::NoScan)
 }
 
 /// The scan of an event, if it is one.
-fn scan_of(event: Event) -> Option<SeedScan>
-    ensures { option_map scan_parts result ≡ scan_in event }
+fn scan_of(event: Event) -> Option<Found>
+    ensures { result ≡ scan_in event }
 {
     let Cmd::ScanAt { t, .. } = event.cmd else {
         return None;
     };
     let (cmd, reply) = event.into_parts();
-    match (cmd.into_span(), reply.into_rows()) {
-        (Some(span), Some(rows)) => Some(SeedScan {
-            span,
-            cursor: t,
-            rows,
-        }),
-        _ => None,
-    }
-}
-
-/// The latter of two scans, where it is one.
-fn later(before: Option<SeedScan>, scan: Option<SeedScan>) -> Option<SeedScan>
-    ensures { result ≡ option_or scan before }
-{
-    match scan {
-        Some(scan) => Some(scan),
-        None => before,
-    }
+    Some((cmd.into_span()?, t, reply.into_rows()?))
 }
 
 /// Why there is no seed in a text that can't be read.
@@ -129,10 +100,8 @@ fn copied(alloc: Global, rows: &[(Key, Value)]) -> Result<Vec<(Key, Value)>, All
     ensures { IfOk result (λ copies. copies.items ≡ rows.now) }
 {
     let mut copies = Vec::new(alloc);
-    for row in rows {
-        let key = row.0.copy()?;
-        let value = row.1.copy()?;
-        copies.push((key, value))?;
+    for (key, value) in rows {
+        copies.push((key.copy()?, value.copy()?))?;
     }
     Ok(copies)
 }

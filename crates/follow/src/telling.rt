@@ -11,6 +11,7 @@
 //! ```
 ghost use Rattle.std.specs.Prelude.{◌≡◌, [], OnOk, OnErr};
 ghost use Rattle.replica.specs.Replicas.{view_in};
+ghost use Rattle.follow.specs.Telling.{named_in, ShowsRows, TellsAt, NamesKey};
 
 use crate::options::Shown;
 use crate::texts::{put_changes, put_count, put_rows};
@@ -30,8 +31,6 @@ pub(crate) struct Telling {
 }
 
 impl Telling {
-    ghost use Rattle.follow.specs.Telling.{named_in, ShowsRows, TellsAt, NamesKey};
-
     /// Nothing is named.
     pub(crate) fn new(alloc: Global, shown: Shown) -> Telling
         ensures shown { result.shown ≡ shown }

@@ -3,7 +3,7 @@ ghost use Rattle.std.specs.Prelude.{◌≡◌, ◌++◌, OnOk};
 ghost use Rattle.std.specs.List.{flat_map};
 ghost use Rattle.std.specs.Option.{option_copied};
 ghost use Rattle.follow.specs.Prelude.{row_line, view_in};
-ghost use Rattle.follow.specs.Followed.{count_line, gone_line, fault_line};
+ghost use Rattle.follow.specs.Followed.{count_line, fault_line};
 ghost use Rattle.follow.specs.Reports.{change_line};
 
 use crate::fault::FollowFault;
@@ -57,20 +57,13 @@ pub(crate) fn put_changes(
     Ok(())
 }
 
-/// Writes what a key has.
+/// Writes what a key has, or that it has no value any more.
 fn put_change(out: &mut Vec<u8>, key: &Key, value: Option<&Value>) -> Result<(), AllocError>
     ensures { OnOk result (out.new.items ≡ out.old.items ++ change_line key.now (option_copied value.entry)) }
 {
-    match value {
-        Some(value) => put_row(out, key, value),
-        None => put_gone(out, key),
+    if let Some(value) = value {
+        return put_row(out, key, value);
     }
-}
-
-/// Writes that a key has no value any more.
-fn put_gone(out: &mut Vec<u8>, key: &Key) -> Result<(), AllocError>
-    ensures { OnOk result (out.new.items ≡ out.old.items ++ gone_line key.now) }
-{
     out.extend_from_slice(b"gone ")?;
     put_spelling(out, key.bytes())?;
     out.push(b'\n')?;

@@ -1,5 +1,5 @@
 use Rattle.std.proofs.Common.{◌≡◌, take}
 use Rattle.follow.proofs.seed.copied.Given as goal
 
-abbrev pub invariant-loop-row : goal.invariant-loop-row
-invariant-loop-row l = l.copies.items ≡ take l.row-index l.rows
+abbrev pub invariant-loop-key : goal.invariant-loop-key
+invariant-loop-key l = l.copies.items ≡ take l.key-index l.rows
