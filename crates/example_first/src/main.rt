@@ -32,16 +32,9 @@ fn main(rt: HostRuntime) -> ExitCode {
         ring: 1024,
         first: 0,
     };
-    let mut input = Reading::new(rt.reader());
-    let mut output = Writing::new(io::writer(&rt));
-    match serve(
-        &rt,
-        rt.alloc(),
-        config,
-        Format::One,
-        &mut input,
-        &mut output,
-    ) {
+    let mut source = Reading::new(rt.reader());
+    let mut sink = Writing::new(io::writer(&rt));
+    match serve(&rt, rt.alloc(), config, Format::One, &mut source, &mut sink) {
         ServeEnd::Done => ExitCode::SUCCESS,
         // The output's last line says which, and why.
         ServeEnd::Fault { .. } => ExitCode::from(2),
