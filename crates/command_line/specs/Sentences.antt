@@ -9,67 +9,46 @@ use Rattle.jobs.specs.declared.ending.End.TheVariants as ends
 use Rattle.follow.specs.declared.ending.FollowEnd.TheVariants as follow_ends
 use Rattle.follow.specs.declared.fault.FollowFault.{FollowFault}
 use Rattle.follow.specs.declared.fault.FollowFault.TheVariants as follow_faults
-use Rattle.command_line.specs.declared.faults.TheConstants.{
-  BAD_BYTE,
-  BASE64,
-  FOLLOW,
-  KEY_OR_BOUND_LENGTH,
-  KEY_OR_VALUE_LENGTH,
-  NOT_AFTER,
-  NOT_JSON,
-  NO_NEWLINE,
-  NO_NUMBER,
-  OUTSIDE_SPAN,
-  REPLY,
-  RESOLVED_BACK,
-  SESSION,
-  SHAPE,
-  TIMESTAMP,
-  TOO_LONG,
-  UNKNOWN_COMMAND,
-  VALUE_LENGTH,
-  WORD_COUNT,
-}
 use Rattle.command_line.specs.declared.sentences.Sentence.{Sentence}
 use Rattle.command_line.specs.declared.sentences.Sentence.TheVariants as sentences
-use Rattle.command_line.specs.declared.sentences.TheConstants.{EVENT, INPUT, LINE, MEMORY, NO_EVENT, NO_MESSAGE, OUTPUT, RIGHT, RING, SEATS, SPENT, THREAD, WANTED, WRONG}
+use Rattle.command_line.specs.declared.sentences.TheConstants.{INPUT, MEMORY, NO_EVENT, NO_MESSAGE, OUTPUT, RING, SEATS, SPENT, THREAD, WANTED}
 
 -- the words for a fault of a script or of a transcript
 abbrev pub words_of_line : LineFault → List ℕ
-words_of_line faults.WordCount = WORD_COUNT.now
-words_of_line faults.UnknownCommand = UNKNOWN_COMMAND.now
-words_of_line faults.Number = NO_NUMBER.now
-words_of_line faults.KeyLength = KEY_OR_BOUND_LENGTH.now
-words_of_line faults.ValueLength = VALUE_LENGTH.now
-words_of_line faults.Session = SESSION.now
-words_of_line faults.NoNewline = NO_NEWLINE.now
-words_of_line faults.LineTooLong = TOO_LONG.now
-words_of_line faults.BadByte = BAD_BYTE.now
-words_of_line faults.Reply = REPLY.now
-words_of_line faults.Follow = FOLLOW.now
+words_of_line faults.WordCount = codes "has too few words, too many, or an empty one"
+words_of_line faults.UnknownCommand = codes "has a command that there isn't"
+words_of_line faults.Number = codes "has no number where one belongs"
+words_of_line faults.KeyLength = codes "has a key of no bytes, or a key or a bound that is too long"
+words_of_line faults.ValueLength = codes "has a value that is too long"
+words_of_line faults.Session = codes "has a session that isn't a number below the number of sessions"
+words_of_line faults.NoNewline = codes "has no newline at its end"
+words_of_line faults.LineTooLong = codes "is longer than the format lets it be"
+words_of_line faults.BadByte = codes "has a byte outside printable ASCII, or a word that spells no bytes"
+words_of_line faults.Reply = codes "has no answer behind its `=>`"
+words_of_line faults.Follow = codes "isn't what has to follow the answer above it"
 
 -- the words for a fault of a feed that is followed
 abbrev pub words_of_message : FollowFault → List ℕ
-words_of_message follow_faults.NotJson = NOT_JSON.now
-words_of_message follow_faults.Shape = SHAPE.now
-words_of_message follow_faults.Number = TIMESTAMP.now
-words_of_message follow_faults.Base64 = BASE64.now
-words_of_message follow_faults.Length = KEY_OR_VALUE_LENGTH.now
-words_of_message follow_faults.NoNewline = NO_NEWLINE.now
-words_of_message follow_faults.LineTooLong = TOO_LONG.now
-words_of_message follow_faults.NotAfter = NOT_AFTER.now
-words_of_message follow_faults.OutsideSpan = OUTSIDE_SPAN.now
-words_of_message follow_faults.ResolvedBack = RESOLVED_BACK.now
+words_of_message follow_faults.NotJson = codes "is no JSON"
+words_of_message follow_faults.Shape = codes "isn't written as a message is"
+words_of_message follow_faults.Number = codes "has a timestamp that is no number, or out of range"
+words_of_message follow_faults.Base64 = codes "has a key or a value that isn't base64"
+words_of_message follow_faults.Length = codes "has a key of no bytes, or a key or a value that is too long"
+words_of_message follow_faults.NoNewline = codes "has no newline at its end"
+words_of_message follow_faults.LineTooLong = codes "is longer than the format lets it be"
+words_of_message follow_faults.NotAfter = codes "has a row that doesn't come after the messages above it"
+words_of_message follow_faults.OutsideSpan = codes "has a key outside the span"
+words_of_message follow_faults.ResolvedBack = codes "resolves what the messages above it have passed"
 
 -- what is wrong with a line, and which event can't be right
 abbrev pub line_text : ℕ → List ℕ → List ℕ
-line_text number words = LINE.now ++ (codes " " ++ (decimal number ++ (codes " " ++ words)))
+line_text number words = codes "line " ++ (decimal number ++ (codes " " ++ words))
 
 abbrev pub event_text : ℕ → List ℕ
-event_text position = EVENT.now ++ (codes " " ++ (decimal position ++ (codes " " ++ WRONG.now)))
+event_text position = codes "the event at position " ++ (decimal position ++ codes " can't be right")
 
 abbrev pub right_text : ℕ → List ℕ
-right_text events = RIGHT.now ++ (codes " " ++ decimal events)
+right_text events = codes "events checked: " ++ decimal events
 
 -- what a sentence says
 abbrev pub text_of : Sentence → List ℕ

@@ -1,14 +1,10 @@
 //! The command line: which words the program takes, and the job that they ask for, with its numbers, files and options.
-//!
-//! The builder's calls stand in small functions that promise nothing, since a proof over many of its calls in one function
-//! takes minutes.
 
-use crate::examples::example_of;
-use crate::following::{Seeded, seeded_of, shown_of, start_of, with_shown, with_start};
-use crate::usages::usage_of;
+use crate::examples::{CHECK, DUMP, FOLLOW, RACE, RUN, STATE};
+use crate::following::{Seeded, seeded_of, shown_of, start_of};
 use crate::version::VERSION;
 use clap::error::ErrorKind;
-use clap::{Arg, ArgAction, ArgMatches, Command, Error, value_parser};
+use clap::{Arg, ArgGroup, ArgMatches, Command, Error, arg, value_parser};
 use follow::{FollowOptions, span_of};
 use jobs::{DEFAULTS, Detail, RaceOptions};
 use sessions::Config;
@@ -20,152 +16,132 @@ use word_lines::fault::ReadError;
 
 /// The program's command line, as clap is to read it.
 pub fn command<'a>(alloc: Global) -> Result<Command<'a>, AllocError> {
-    let command = with_subcommand(program(alloc), run_command(alloc)?)?;
-    let command = with_subcommand(command, race_command(alloc)?)?;
-    let command = with_subcommand(command, check_command(alloc)?)?;
-    let command = with_subcommand(command, state_command(alloc)?)?;
-    let command = with_subcommand(command, dump_command(alloc)?)?;
-    with_subcommand(command, follow_command(alloc)?)
-}
-
-fn program<'a>(alloc: Global) -> Command<'a> {
     Command::new(alloc, "mvfeed")
         .about("A multiversion timestamp database whose changes leave it as ordered streams")
         .after_help("The guide is docs/GUIDE.md. The help of each command ends with an example.")
         .version(VERSION)
         .subcommand_required(true)
+        .subcommand(run(alloc)?)?
+        .subcommand(race(alloc)?)?
+        .subcommand(check(alloc)?)?
+        .subcommand(state(alloc)?)?
+        .subcommand(dump(alloc)?)?
+        .subcommand(follow(alloc)?)
 }
 
-fn run_command<'a>(alloc: Global) -> Result<Command<'a>, AllocError> {
-    let about = "Make the calls of a script, and write what happened";
-    let command = with(subcommand(alloc, "run", about), seats(alloc))?;
-    let command = with(command, ring(alloc))?;
-    let command = with(command, first(alloc))?;
-    with(command, format(alloc))
+fn run<'a>(alloc: Global) -> Result<Command<'a>, AllocError> {
+    let seats =
+        arg!(in alloc; --seats <N> "How many sessions a script may have, 1 to 64 [default: 64]");
+    let first = arg!(in alloc; --first <N> "The position of the first event [default: 0]");
+    Command::new(alloc, "run")
+        .about("Make the calls of a script, and write what happened")
+        .override_usage("mvfeed run [OPTIONS] < SCRIPT")
+        .after_help(RUN)
+        .arg(seats.value_parser(value_parser!(u32).range(1..=64)))?
+        .arg(ring(alloc))?
+        .arg(as_number(first))?
+        .arg(format(alloc))
 }
 
-fn race_command<'a>(alloc: Global) -> Result<Command<'a>, AllocError> {
-    let about = "Make the calls of a script's sessions in threads, and write what happened";
-    let command = with(subcommand(alloc, "race", about), sessions(alloc))?;
-    let command = with(command, ring(alloc))?;
-    with(command, format(alloc))
+fn race<'a>(alloc: Global) -> Result<Command<'a>, AllocError> {
+    let sessions = arg!(in alloc; sessions: <N> "How many sessions the script has, 1 to 64");
+    Command::new(alloc, "race")
+        .about("Make the calls of a script's sessions in threads, and write what happened")
+        .override_usage("mvfeed race [OPTIONS] <N> < SCRIPT")
+        .after_help(RACE)
+        .arg(sessions.value_parser(value_parser!(u8).range(1..=64)))?
+        .arg(ring(alloc))?
+        .arg(format(alloc))
 }
 
-fn check_command<'a>(alloc: Global) -> Result<Command<'a>, AllocError> {
-    let about = "Say whether a transcript is right, or where it is not";
-    with(subcommand(alloc, "check", about), events(alloc))
+fn check<'a>(alloc: Global) -> Result<Command<'a>, AllocError> {
+    let events =
+        arg!(in alloc; --events <N> "How many events the transcript has to have [default: any number]");
+    Command::new(alloc, "check")
+        .about("Say whether a transcript is right, or where it is not")
+        .override_usage("mvfeed check [OPTIONS] < TRANSCRIPT")
+        .after_help(CHECK)
+        .arg(as_number(events))
 }
 
-fn state_command<'a>(alloc: Global) -> Result<Command<'a>, AllocError> {
-    let about =
-        "Write the state after a transcript: what holds closed and the horizon, and how far each feed has come";
-    with(subcommand(alloc, "state", about), live(alloc))
+fn state<'a>(alloc: Global) -> Result<Command<'a>, AllocError> {
+    Command::new(alloc, "state")
+        .about(
+            "Write the state after a transcript: what holds closed and the horizon, and how far each feed has come",
+        )
+        .override_usage("mvfeed state [OPTIONS] < TRANSCRIPT")
+        .after_help(STATE)
+        .arg(arg!(in alloc; --live "Leave out the two counts that a database in use can't tell"))
 }
 
-fn dump_command<'a>(alloc: Global) -> Result<Command<'a>, AllocError> {
-    let about = "Write the script that rebuilds the database of a transcript";
-    with(subcommand(alloc, "dump", about), at(alloc))
+fn dump<'a>(alloc: Global) -> Result<Command<'a>, AllocError> {
+    let at = arg!(in alloc; --at <T> "Close at this timestamp at least [default: 0]");
+    Command::new(alloc, "dump")
+        .about("Write the script that rebuilds the database of a transcript")
+        .override_usage("mvfeed dump [OPTIONS] < TRANSCRIPT")
+        .after_help(DUMP)
+        .arg(as_timestamp(at))
 }
 
-fn follow_command<'a>(alloc: Global) -> Result<Command<'a>, AllocError> {
-    let about =
-        "Apply a feed's messages to a replica of its span, and write it at each resolved message";
-    let lo = "The least key of the span [default: -, no bound]";
-    let hi = "The key that the span ends below [default: -, no bound]";
-    let command = with(
-        subcommand(alloc, "follow", about),
-        option(alloc, "lo", "KEY", lo),
-    )?;
-    let command = with(command, option(alloc, "hi", "KEY", hi))?;
-    let command = with_start(alloc, command)?;
-    let command = with(command, feed(alloc))?;
-    let command = with_shown(alloc, command)?;
-    with(command, format(alloc))
-}
-
-fn seats<'a>(alloc: Global) -> Arg<'a> {
-    let help = "How many sessions a script may have, 1 to 64 [default: 64]";
-    option(alloc, "seats", "N", help).value_parser(value_parser!(u32).range(1..=64))
-}
-
-fn first<'a>(alloc: Global) -> Arg<'a> {
-    let help = "The position of the first event [default: 0]";
-    as_number(option(alloc, "first", "N", help))
+fn follow<'a>(alloc: Global) -> Result<Command<'a>, AllocError> {
+    let start = ArgGroup::new(alloc, "start")
+        .arg("cursor")?
+        .arg("initial")?
+        .arg("seed")?
+        .required(true);
+    let shown = ArgGroup::new(alloc, "shown").arg("view")?.arg("changes")?;
+    let seed =
+        arg!(in alloc; --seed <FILE> "Begin with the rows, the span and the timestamp of the last scanat of this transcript");
+    Command::new(alloc, "follow")
+        .about(
+            "Apply a feed's messages to a replica of its span, and write it at each resolved message",
+        )
+        .override_usage(
+            "mvfeed follow [OPTIONS] <--cursor <T>|--initial <T>|--seed <FILE>> < MESSAGES",
+        )
+        .after_help(FOLLOW)
+        .arg(arg!(in alloc; --lo <KEY> "The least key of the span [default: -, no bound]"))?
+        .arg(arg!(in alloc; --hi <KEY> "The key that the span ends below [default: -, no bound]"))?
+        .arg(as_timestamp(arg!(in alloc; --cursor <T> "Begin with no rows at this timestamp")))?
+        .arg(as_timestamp(
+            arg!(in alloc; --initial <T> "Begin as an initial feed of this timestamp does"),
+        ))?
+        .arg(seed.conflicts_with("lo")?.conflicts_with("hi")?)?
+        .arg(as_number(
+            arg!(in alloc; --feed <N> "Take only what polls of this feed told [default: every message]"),
+        ))?
+        .arg(
+            arg!(in alloc; --view "Write the rows at each resolved message, and not their number alone"),
+        )?
+        .arg(
+            arg!(in alloc; --changes "Write the rows at each resolved message whose keys changed since, or that they are gone"),
+        )?
+        .arg(
+            arg!(in alloc; --complete "Write when the rows are complete between resolved messages too"),
+        )?
+        .arg(format(alloc))?
+        .group(start)?
+        .group(shown)
 }
 
 fn ring<'a>(alloc: Global) -> Arg<'a> {
-    let help = "1 to 65536, without effect: feeds once kept so many rows [default: 1024]";
-    option(alloc, "ring", "N", help).value_parser(value_parser!(u32).range(1..=65536))
+    let ring =
+        arg!(in alloc; --ring <N> "1 to 65536, without effect: feeds once kept so many rows [default: 1024]");
+    ring.value_parser(value_parser!(u32).range(1..=65536))
 }
 
 fn format<'a>(alloc: Global) -> Arg<'a> {
-    let help = "The format of the texts, 1 or 2 [default: 1]";
-    option(alloc, "format", "N", help).value_parser(value_parser!(u8).range(1..=2))
-}
-
-fn sessions<'a>(alloc: Global) -> Arg<'a> {
-    Arg::new(alloc, "sessions")
-        .value_name("N")
-        .required(true)
-        .help("How many sessions the script has, 1 to 64")
-        .value_parser(value_parser!(u8).range(1..=64))
-}
-
-fn feed<'a>(alloc: Global) -> Arg<'a> {
-    let help = "Take only what polls of this feed told [default: every message]";
-    as_number(option(alloc, "feed", "N", help))
-}
-
-fn events<'a>(alloc: Global) -> Arg<'a> {
-    let help = "How many events the transcript has to have [default: any number]";
-    as_number(option(alloc, "events", "N", help))
-}
-
-fn live<'a>(alloc: Global) -> Arg<'a> {
-    Arg::new(alloc, "live")
-        .long("live")
-        .action(ArgAction::SetTrue)
-        .help("Leave out the two counts that a database in use can't tell")
-}
-
-fn at<'a>(alloc: Global) -> Arg<'a> {
-    let help = "Close at this timestamp at least [default: 0]";
-    as_timestamp(option(alloc, "at", "T", help))
+    let format = arg!(in alloc; --format <N> "The format of the texts, 1 or 2 [default: 1]");
+    format.value_parser(value_parser!(u8).range(1..=2))
 }
 
 /// A timestamp, or 0.
-pub(crate) fn as_timestamp<'a>(arg: Arg<'a>) -> Arg<'a> {
+fn as_timestamp<'a>(arg: Arg<'a>) -> Arg<'a> {
     arg.value_parser(value_parser!(u64).range(0..=9223372036854775807))
 }
 
 fn as_number<'a>(arg: Arg<'a>) -> Arg<'a> {
     arg.value_parser(value_parser!(u64))
-}
-
-/// An option with a value.
-pub(crate) fn option<'a>(alloc: Global, name: &'a str, value: &'a str, help: &'a str) -> Arg<'a> {
-    Arg::new(alloc, name)
-        .long(name)
-        .value_name(value)
-        .help(help)
-}
-
-fn subcommand<'a>(alloc: Global, name: &'a str, about: &'a str) -> Command<'a> {
-    Command::new(alloc, name)
-        .about(about)
-        .override_usage(usage_of(name))
-        .after_help(example_of(name))
-}
-
-fn with<'a>(command: Command<'a>, arg: Arg<'a>) -> Result<Command<'a>, AllocError> {
-    command.arg(arg)
-}
-
-fn with_subcommand<'a>(
-    command: Command<'a>,
-    subcommand: Command<'a>,
-) -> Result<Command<'a>, AllocError> {
-    command.subcommand(subcommand)
 }
 
 /// A job that the program is asked to do.
@@ -199,23 +175,36 @@ pub fn job_in<'a, S: AsStr>(
 
 /// The job that a command line asks for, unless a bound in it is none.
 fn job_of(alloc: Global, matches: &ArgMatches) -> Result<Job, Error> {
-    if let Some(run) = matches.subcommand_matches("run") {
-        return Ok(Job::Run(options_of(run), format_of(run)));
+    let Some((name, asked)) = matches.subcommand() else {
+        return Ok(Job::Check(None));
+    };
+    Ok(match name.as_bytes() {
+        b"run" => Job::Run(config_of(asked), format_of(asked)),
+        b"race" => Job::Race(race_options_of(asked)),
+        b"state" if asked.get_flag("live") => Job::State(Detail::Live),
+        b"state" => Job::State(Detail::Whole),
+        b"dump" => Job::Dump(Ts::new(asked.get_one("at").unwrap_or(0))),
+        b"follow" => return follow_of(alloc, asked),
+        _ => Job::Check(asked.get_one("events")),
+    })
+}
+
+/// The job of `mvfeed run`.
+fn config_of(run: &ArgMatches) -> Config {
+    Config {
+        seats: run.get_one("seats").unwrap_or(DEFAULTS.seats),
+        ring: run.get_one("ring").unwrap_or(DEFAULTS.ring),
+        first: run.get_one("first").unwrap_or(DEFAULTS.first),
     }
-    if let Some(race) = matches.subcommand_matches("race") {
-        return Ok(Job::Race(race_options_of(race)));
+}
+
+/// The job of `mvfeed race`.
+fn race_options_of(race: &ArgMatches) -> RaceOptions {
+    RaceOptions {
+        sessions: race.get_one("sessions").unwrap_or(1),
+        ring: race.get_one("ring").unwrap_or(DEFAULTS.ring),
+        format: format_of(race),
     }
-    if let Some(state) = matches.subcommand_matches("state") {
-        return Ok(Job::State(detail_of(state)));
-    }
-    if let Some(dump) = matches.subcommand_matches("dump") {
-        return Ok(Job::Dump(at_of(dump)));
-    }
-    if let Some(follow) = matches.subcommand_matches("follow") {
-        return follow_of(alloc, follow);
-    }
-    let check = matches.subcommand_matches("check");
-    Ok(Job::Check(check.and_then(events_of)))
 }
 
 /// The job of `mvfeed follow`.
@@ -242,11 +231,6 @@ fn follow_of(alloc: Global, follow: &ArgMatches) -> Result<Job, Error> {
     }
 }
 
-/// How many events a transcript is to have.
-fn events_of(check: &ArgMatches) -> Option<u64> {
-    check.get_one("events")
-}
-
 /// The sentence for a word that is no bound of the format.
 fn bound_refusal(format: Format) -> &'static str {
     match format {
@@ -257,42 +241,8 @@ fn bound_refusal(format: Format) -> &'static str {
 
 /// The format of the texts.
 pub(crate) fn format_of(options: &ArgMatches) -> Format {
-    let number: Option<u8> = options.get_one("format");
-    match number {
-        Some(2) => Format::Two,
+    match options.get_one("format") {
+        Some(2u8) => Format::Two,
         _ => Format::One,
-    }
-}
-
-/// How much is told of a state.
-fn detail_of(state: &ArgMatches) -> Detail {
-    if state.get_flag("live") {
-        Detail::Live
-    } else {
-        Detail::Whole
-    }
-}
-
-/// The least timestamp at which a dump may close.
-fn at_of(dump: &ArgMatches) -> Option<Ts> {
-    let at: Option<u64> = dump.get_one("at");
-    Ts::new(at.unwrap_or(0))
-}
-
-/// The options of `mvfeed race`.
-fn race_options_of(race: &ArgMatches) -> RaceOptions {
-    RaceOptions {
-        sessions: race.get_one("sessions").unwrap_or(1),
-        ring: race.get_one("ring").unwrap_or(DEFAULTS.ring),
-        format: format_of(race),
-    }
-}
-
-/// The options of `mvfeed run`.
-fn options_of(run: &ArgMatches) -> Config {
-    Config {
-        seats: run.get_one("seats").unwrap_or(DEFAULTS.seats),
-        ring: run.get_one("ring").unwrap_or(DEFAULTS.ring),
-        first: run.get_one("first").unwrap_or(DEFAULTS.first),
     }
 }

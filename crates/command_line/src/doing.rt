@@ -1,8 +1,7 @@
 //! Each job of the program is done on its input and output: its end is told on standard error, and leaves an exit status.
-ghost use Rattle.std.specs.Prelude.{◌≡◌, IfErr, IfOk};
+ghost use Rattle.std.specs.Prelude.{◌≡◌};
 ghost use Rattle.std.specs.Process.{exit_status};
-ghost use Rattle.follow.specs.Seeds.{IsSeedOf, IsUnseeded};
-ghost use Rattle.command_line.specs.Doing.{Did, HasFollowed, HasFollowedSeed};
+ghost use Rattle.command_line.specs.Doing.{Did, HasFollowedSeed};
 ghost use Rattle.command_line.specs.Statuses.{status_of, status_of_check};
 
 use crate::arguments::Job;
@@ -10,8 +9,9 @@ use crate::dialects::Dialect;
 use crate::following::Seeded;
 use crate::hints::hint_at;
 use crate::input::Input;
-use crate::status::{miscounted, told, told_of_follower, unseeded};
-use follow::{FollowOptions, Seed, SeedError, follow_io, seed_of};
+use crate::sentences::Sentence;
+use crate::status::{NO, left, told, told_of_follower, unseeded};
+use follow::{follow_io, seed_of};
 use jobs::{End, check_io, dump_io, race_io, run_io, state_io};
 use races::Open;
 use sessions::{Sink, Source};
@@ -38,11 +38,12 @@ pub fn done<S: Source, K: Sink, R: Threads + Wait + Sync + Eprint>(
     match job {
         Job::Run(options, format) => {
             let end = run_io(rt, alloc, options, format, input, output);
-            told_of_script(rt, end, input, format)
+            told(rt, end, hint_at(end, input, Dialect::Script, format))
         }
         Job::Race(options) => {
             let end = race_io(rt, alloc, options, &Open, input, output);
-            told_of_script(rt, end, input, options.format)
+            let hint = hint_at(end, input, Dialect::Script, options.format);
+            told(rt, end, hint)
         }
         Job::Check(wanted) => {
             let end = check_io(alloc, input, output);
@@ -56,23 +57,13 @@ pub fn done<S: Source, K: Sink, R: Threads + Wait + Sync + Eprint>(
             let end = dump_io(alloc, at, input, output);
             told_of_transcript(rt, end, input)
         }
-        Job::Follow(options) => followed(rt, alloc, options, &mut input.source, output),
+        Job::Follow(options) => {
+            told_of_follower(rt, follow_io(alloc, options, &mut input.source, output))
+        }
         Job::FollowSeed(seeded) => {
             followed_from(rt, alloc, &seeded, seed, &mut input.source, output)
         }
     }
-}
-
-/// The exit status of a job that read a script.
-fn told_of_script<S: Source>(
-    rt: &impl Eprint,
-    end: End,
-    input: &Input<S>,
-    format: Format,
-) -> ExitCode
-    ensures { exit_status result ≡ status_of end }
-{
-    told(rt, end, hint_at(end, input, Dialect::Script, format))
 }
 
 /// The exit status of a job that read a transcript.
@@ -94,23 +85,10 @@ fn told_of_check<S: Source>(
 {
     match (wanted, end) {
         (Some(wanted), End::Right { events }) if events != wanted => {
-            miscounted(rt, events, wanted)
+            left(rt, NO, Some(Sentence::Count { events, wanted }))
         }
         _ => told_of_transcript(rt, end, input),
     }
-}
-
-/// A feed is followed.
-fn followed<S: Source, K: Sink, R: Eprint>(
-    rt: &R,
-    alloc: Global,
-    options: FollowOptions,
-    input: &mut S,
-    output: &mut K,
-) -> ExitCode
-    ensures { HasFollowed options (S.reads input.old) (S.reads input.new) (K.writes output.old) (K.writes output.new) (exit_status result) }
-{
-    told_of_follower(rt, follow_io(alloc, options, input, output))
 }
 
 /// A feed is followed from the seed of a text on, if the text has one.
@@ -124,16 +102,12 @@ fn followed_from<S: Source, K: Sink, R: Eprint>(
 ) -> ExitCode
     ensures { HasFollowedSeed asked.now seed.items (S.reads input.old) (S.reads input.new) (K.writes output.old) (K.writes output.new) (exit_status result) }
 {
-    match seed_in(alloc, seed) {
-        Ok(found) => followed(rt, alloc, asked.options(found), input, output),
+    match seed_of(alloc, seed.as_slice()) {
+        Ok(found) => {
+            // The text isn't kept while the feed is followed.
+            drop(seed);
+            told_of_follower(rt, follow_io(alloc, asked.options(found), input, output))
+        }
         Err(error) => unseeded(rt, error),
     }
-}
-
-/// The seed of a text, which isn't kept.
-fn seed_in(alloc: Global, text: Vec<u8>) -> Result<Seed, SeedError>
-    ensures found { IfOk result (IsSeedOf text.items) }
-    ensures refused { IfErr result (IsUnseeded text.items) }
-{
-    seed_of(alloc, text.as_slice())
 }

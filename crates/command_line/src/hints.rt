@@ -1,10 +1,14 @@
 //! Hints for standard error: behind the sentence on a faulty line, its right form, its limits, or how its words are
-//! spelled.
+//! spelled; and behind a refusal of words, how the input is given.
 
 use crate::dialects::{Dialect, form_of, stranger};
 use crate::input::Input;
+use clap::Error;
+use clap::error::ErrorKind;
 use jobs::End;
 use sessions::Source;
+use std::alloc::Global;
+use std::convert::AsStr;
 use text_format::Format;
 use word_lines::fault::LineFault;
 use word_lines::words::check_words;
@@ -18,7 +22,7 @@ pub fn hint_at<S: Source>(
     format: Format,
 ) -> Option<&'static str> {
     match end {
-        End::Done if input.is_empty() => Some(NOTHING),
+        End::Done if input.is_empty() => Some("the input is empty"),
         End::Faulty { line, fault } => hint_for(input.line(line)?, fault, dialect, format),
         _ => None,
     }
@@ -31,65 +35,81 @@ fn hint_for(
     dialect: Dialect,
     format: Format,
 ) -> Option<&'static str> {
-    if line.first() == Some(&b'#') {
-        return Some(COMMENT);
-    }
-    match fault {
-        LineFault::WordCount if line.is_empty() => Some(EMPTY_LINE),
-        LineFault::WordCount if check_words(line).is_err() => Some(EMPTY_WORD),
-        LineFault::BadByte => Some(spelling_of(line)),
-        LineFault::LineTooLong | LineFault::KeyLength | LineFault::ValueLength => {
-            Some(limits_of(dialect, format))
+    Some(match fault {
+        _ if line.first() == Some(&b'#') => "no line can be a comment",
+        LineFault::WordCount if line.is_empty() => "no line can be empty",
+        LineFault::WordCount if check_words(line).is_err() => {
+            "one space stands between two words, and none at the line's ends"
         }
-        LineFault::Reply | LineFault::Follow | LineFault::NoNewline => None,
-        LineFault::WordCount | LineFault::UnknownCommand | LineFault::Number | LineFault::Session =>
-            match stranger(line, dialect) {
-                None => form_of(line, fault, dialect),
-                said => said,
-            },
-    }
+        LineFault::BadByte => spelling_of(line),
+        LineFault::LineTooLong | LineFault::KeyLength | LineFault::ValueLength => {
+            limits_of(dialect, format)
+        }
+        LineFault::Reply | LineFault::Follow | LineFault::NoNewline => return None,
+        _ => return stranger(line, dialect).or_else(|| form_of(line, fault, dialect)),
+    })
 }
 
 /// How the bytes of a line are written, one of which isn't, or a word of which spells none.
 fn spelling_of(line: &[u8]) -> &'static str {
     if line.last() == Some(&b'\r') {
-        return CARRIAGE_RETURN;
+        return "a line ends in a newline, without a carriage return";
     }
     match check_words(line) {
-        Err(LineFault::BadByte) => NOT_PRINTABLE,
-        _ => SPELLING,
+        Err(LineFault::BadByte) => {
+            "a byte that isn't printable ASCII is written as % and two digits, as %09 for a tab"
+        }
+        _ => {
+            "a word has %25 for %, %20 for a space, %2D for - alone, and other printable bytes as they are"
+        }
     }
 }
 
 /// How long keys and values may be.
 fn limits_of(dialect: Dialect, format: Format) -> &'static str {
     match (format, dialect) {
-        (Format::One, Dialect::Script) => LIMITS_OF_ONE,
-        (Format::One, Dialect::Transcript) => HEADER_OF_TWO,
-        (Format::Two, _) => LIMITS_OF_TWO,
+        (Format::One, Dialect::Script) => {
+            "a key has 1 to 64 bytes, a value 1024 at most; with --format 2 a key has 1 to 256, a value 65536 at most"
+        }
+        (Format::One, Dialect::Transcript) => {
+            "a key has 1 to 64 bytes, a value 1024 at most, unless the first line is `mvfeed 2`"
+        }
+        (Format::Two, _) => "a key has 1 to 256 bytes, a value 65536 at most",
     }
 }
 
-const NOTHING: &str = "the input is empty";
+/// How the input is given, where words were refused because of one that seems to be a file: one that the command doesn't
+/// take and that is no option, or one in place of a race's sessions.
+pub fn hint_of<S: AsStr>(alloc: Global, refused: &Error, words: &[S]) -> Option<&'static str> {
+    let text = format!(in alloc; "{refused}").ok()?;
+    let (word, _behind) = told_of(refused.kind(), text.as_str())?.split_once('\'')?;
+    if !is_file(word) {
+        return None;
+    }
+    match words.get(1)?.as_str().as_bytes() {
+        b"run" => Some("mvfeed run < FILE"),
+        b"race" => Some("mvfeed race N < FILE"),
+        b"check" => Some("mvfeed check < FILE"),
+        b"state" => Some("mvfeed state < FILE"),
+        b"dump" => Some("mvfeed dump < FILE"),
+        b"follow" => Some("mvfeed follow --cursor T < FILE"),
+        _ => None,
+    }
+}
 
-const COMMENT: &str = "no line can be a comment";
+/// Clap's text from the word on that it refuses.
+fn told_of(kind: ErrorKind, text: &str) -> Option<&str> {
+    match kind {
+        ErrorKind::UnknownArgument => text.strip_prefix("error: unexpected argument '"),
+        ErrorKind::ValueValidation if text.contains("' for '<N>'") => {
+            text.strip_prefix("error: invalid value '")
+        }
+        _ => None,
+    }
+}
 
-const EMPTY_LINE: &str = "no line can be empty";
-
-const EMPTY_WORD: &str = "one space stands between two words, and none at the line's ends";
-
-const CARRIAGE_RETURN: &str = "a line ends in a newline, without a carriage return";
-
-const NOT_PRINTABLE: &str =
-    "a byte that isn't printable ASCII is written as % and two digits, as %09 for a tab";
-
-const SPELLING: &str =
-    "a word has %25 for %, %20 for a space, %2D for - alone, and other printable bytes as they are";
-
-const LIMITS_OF_ONE: &str =
-    "a key has 1 to 64 bytes, a value 1024 at most; with --format 2 a key has 1 to 256, a value 65536 at most";
-
-const HEADER_OF_TWO: &str =
-    "a key has 1 to 64 bytes, a value 1024 at most, unless the first line is `mvfeed 2`";
-
-const LIMITS_OF_TWO: &str = "a key has 1 to 256 bytes, a value 65536 at most";
+/// Whether a word is neither an option nor a number: `-` is a file, to those who want standard input.
+fn is_file(word: &str) -> bool {
+    let is_option = word.starts_with('-') && word.len() > 1;
+    !is_option && !word.as_bytes().iter().all(|byte| byte.is_ascii_digit())
+}

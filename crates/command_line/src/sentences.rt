@@ -1,5 +1,5 @@
 //! What standard error is told.
-ghost use Rattle.std.specs.Prelude.{◌≡◌, option_map};
+ghost use Rattle.std.specs.Prelude.{◌≡◌, Some, option_map};
 ghost use Rattle.command_line.specs.Sentences.{sentence_of, sentence_of_follower, text_of};
 
 use crate::faults::{words_of_line, words_of_message};
@@ -11,51 +11,29 @@ use std::fmt;
 /// The word where a growth of memory was refused.
 pub const MEMORY: &str = "memory";
 
-/// The word where standard input could not be read to its end.
-const INPUT: &str = "input";
-
-/// The word where standard output took no more.
-pub(crate) const OUTPUT: &str = "output";
-
-/// The word where nothing is left to number another call, or another line, by.
-const SPENT: &str = "spent";
-
-/// The word where there would be more sessions, or fewer, than a database has seats.
-const SEATS: &str = "seats";
-
-/// The word where a ring has no size, or too much.
-const RING: &str = "ring";
-
-/// The word where a thread could not be started.
-const THREAD: &str = "thread";
-
-/// The words where nothing was followed.
-const NO_MESSAGE: &str = "the input has no message to follow";
-
-/// The words in front of a line's number.
-const LINE: &str = "line";
-
-/// The words in front of an event's position, and behind it.
-const EVENT: &str = "the event at position";
-
-const WRONG: &str = "can't be right";
-
-/// The words in front of the number of events that were found right, and in front of the number that was wanted.
-const RIGHT: &str = "events checked:";
-
-const WANTED: &str = "and wanted:";
-
-/// The words where a right transcript has no event.
-const NO_EVENT: &str = "events checked: 0, because the input has none";
-
 /// The words where the file that a seed is to come from can't be had.
 pub const NO_SEED_FILE: &str = "the seed's file can't be read";
 
-/// The words where that file has no seed.
-pub(crate) const NO_SCAN: &str = "the seed's file has no scanat that was answered with rows";
-
 /// The words where an argument of the command line is other bytes than text.
 pub const NO_TEXT: &str = "an argument is not UTF-8";
+
+const INPUT: &str = "input";
+
+pub(crate) const OUTPUT: &str = "output";
+
+const SPENT: &str = "spent";
+
+const SEATS: &str = "seats";
+
+const RING: &str = "ring";
+
+const THREAD: &str = "thread";
+
+const NO_MESSAGE: &str = "the input has no message to follow";
+
+const NO_EVENT: &str = "events checked: 0, because the input has none";
+
+const WANTED: &str = "and wanted:";
 
 /// A sentence for standard error.
 #[derive(Clone, Copy)]
@@ -73,19 +51,19 @@ pub enum Sentence {
 }
 
 impl fmt::Display for Sentence {
-    ghost use Rattle.std.specs.Prelude.{Some};
-    ghost use Rattle.command_line.specs.Sentences.{text_of};
-
     ghost output = { λ sentence. Some (text_of sentence) };
 
     fn fmt<W: fmt::Write>(&self, f: &mut fmt::Formatter<W>) -> fmt::Result {
         match self {
             Sentence::Words(words) => f.write_str(words),
-            Sentence::Line { number, words } => write!(f, "{LINE} {number} {words}"),
-            Sentence::Event { position } => write!(f, "{EVENT} {position} {WRONG}"),
-            Sentence::Right { events } => write!(f, "{RIGHT} {events}"),
+            Sentence::Line { number, words } => write!(f, "line {number} {words}"),
+            Sentence::Event { position } => write!(
+                f,
+                "the event at position {position} can't be right"
+            ),
+            Sentence::Right { events } => write!(f, "events checked: {events}"),
             Sentence::Count { events, wanted } => {
-                write!(f, "{RIGHT} {events}, {WANTED} {wanted}")
+                write!(f, "events checked: {events}, {WANTED} {wanted}")
             }
         }
     }

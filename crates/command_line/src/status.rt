@@ -1,23 +1,21 @@
-//! What the program leaves its caller: an exit status, and a sentence where there is more to say.
+//! What the program leaves its caller: an exit status, and a sentence where there is more to say. The status stands also
+//! where standard error can't be told why.
 ghost use Rattle.std.specs.Prelude.{◌≡◌, ◌⊎◌};
 ghost use Rattle.std.specs.Process.{exit_status};
 ghost use Rattle.clap.specs.Values.{kind_of};
 ghost use Rattle.command_line.specs.Statuses.{IsRefusal, IsShown, status_of, status_of_follower};
 
-use crate::sentences::{MEMORY, NO_SCAN, OUTPUT, Sentence, sentence_of, sentence_of_follower};
+use crate::sentences::{MEMORY, OUTPUT, Sentence, sentence_of, sentence_of_follower};
 use clap::Error;
 use follow::{FollowEnd, SeedError};
 use jobs::End;
 use std::process::ExitCode;
 
-/// The exit status where the program failed.
 const FAILED: u8 = 1;
 
-/// The exit status where a line is faulty.
 const FAULTY: u8 = 2;
 
-/// The exit status where what was checked is not right.
-const NO: u8 = 3;
+pub(crate) const NO: u8 = 3;
 
 /// The exit status of a job's end: 0 where all was done, 2 for a faulty line, 3 for what is not right, else 1.
 pub fn status_of(end: End) -> u8
@@ -53,13 +51,6 @@ pub fn told(rt: &impl Eprint, end: End, hint: Option<&'static str>) -> ExitCode
     status
 }
 
-/// The exit status of a check that found another number of events than was wanted, of which standard error is told.
-pub(crate) fn miscounted(rt: &impl Eprint, events: u64, wanted: u64) -> ExitCode
-    ensures { exit_status result ≡ 3 }
-{
-    left(rt, NO, Some(Sentence::Count { events, wanted }))
-}
-
 /// The exit status of a follower's end, of which standard error is told where there is more to say.
 pub fn told_of_follower(rt: &impl Eprint, end: FollowEnd) -> ExitCode
     ensures { exit_status result ≡ status_of_follower end }
@@ -67,7 +58,8 @@ pub fn told_of_follower(rt: &impl Eprint, end: FollowEnd) -> ExitCode
     left(rt, status_of_follower(end), sentence_of_follower(end))
 }
 
-fn left(rt: &impl Eprint, status: u8, sentence: Option<Sentence>) -> ExitCode
+/// This exit status, of which standard error is told where there is a sentence.
+pub(crate) fn left(rt: &impl Eprint, status: u8, sentence: Option<Sentence>) -> ExitCode
     ensures { exit_status result ≡ status }
 {
     if let Some(sentence) = sentence {
@@ -80,8 +72,7 @@ fn left(rt: &impl Eprint, status: u8, sentence: Option<Sentence>) -> ExitCode
 pub fn failed(rt: &impl Eprint, words: &'static str) -> ExitCode
     ensures { exit_status result ≡ 1 }
 {
-    tell(rt, Sentence::Words(words));
-    ExitCode::from(FAILED)
+    left(rt, FAILED, Some(Sentence::Words(words)))
 }
 
 /// The exit status where the file that a job names has no seed, of which standard error is told.
@@ -90,17 +81,15 @@ pub(crate) fn unseeded(rt: &impl Eprint, error: SeedError) -> ExitCode
 {
     match error {
         SeedError::NoMemory => failed(rt, MEMORY),
-        SeedError::NoScan => failed(rt, NO_SCAN),
-        SeedError::Fault { line, .. } => faulty_seed(rt, line),
+        SeedError::NoScan => failed(
+            rt,
+            "the seed's file has no scanat that was answered with rows",
+        ),
+        SeedError::Fault { line, .. } => {
+            let _ = eprintln!(rt; "mvfeed: line {line} of the seed's file is faulty");
+            ExitCode::from(FAILED)
+        }
     }
-}
-
-fn faulty_seed(rt: &impl Eprint, line: u64) -> ExitCode
-    ensures { exit_status result ≡ 1 }
-{
-    // The status stands also where standard error can't be told why.
-    let _ = eprintln!(rt; "mvfeed: line {line} of the seed's file is faulty");
-    ExitCode::from(FAILED)
 }
 
 /// The exit status of a command line that asks for no run: for help or the version, which is printed, or for what
@@ -113,7 +102,6 @@ pub fn refused<R: Print + Eprint>(rt: &R, error: &Error, hint: Option<&str>) -> 
     let printed = error.print(rt);
     if error.exit_code() != 0 {
         if let Some(hint) = hint {
-            // The status stands also where standard error can't be told why.
             let _ = eprintln!(rt; "\nThe input is standard input: {hint}");
         }
         return ExitCode::from(FAILED);
@@ -125,6 +113,5 @@ pub fn refused<R: Print + Eprint>(rt: &R, error: &Error, hint: Option<&str>) -> 
 }
 
 fn tell(rt: &impl Eprint, sentence: Sentence) {
-    // The status stands also where standard error can't be told why.
     let _ = eprintln!(rt; "mvfeed: {sentence}");
 }
