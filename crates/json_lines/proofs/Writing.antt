@@ -13,9 +13,6 @@ keeps_same old new e = record { more = []; is = e ∙ sym (append-nil old) }
 pub keeps_then : (a b c : List ℕ) → Keeps a b → Keeps b c → Keeps a c
 keeps_then a b c p q = record { more = p.more ++ q.more; is = q.is ∙ ap (λ (x : List ℕ). x ++ q.more) p.is ∙ append_assoc a p.more q.more }
 
-pub keeps_more : (a b c text : List ℕ) → Keeps a b → c ≡ b ++ text → Keeps a c
-keeps_more a b c text keeps e = keeps_then a b c keeps (keeps_text b c text e)
-
 pub on_error : (r : Result (Unit {0}) AllocError) (old new : List ℕ) → Keeps old new → OnErr r (Keeps old new)
 on_error (Ok x) old new keeps = tt
 on_error (Err e) old new keeps = keeps

@@ -32,13 +32,11 @@ fn put_last(out: &mut Vec<u8>, bytes: &[u8]) -> Result<(), AllocError>
     ensures ok { OnOk result (out.new.items ≡ out.old.items ++ base64 bytes.now) }
     ensures err { OnErr result (Keeps out.old.items out.new.items) }
 {
-    if bytes.is_empty() {
-        return Ok(());
+    match bytes {
+        [] => Ok(()),
+        [a] => out.extend_from_slice(&symbols_of_one(*a)),
+        [a, b, ..] => out.extend_from_slice(&symbols_of_two(*a, *b)),
     }
-    if bytes.len() == 1 {
-        return out.extend_from_slice(&symbols_of_one(bytes[0]));
-    }
-    out.extend_from_slice(&symbols_of_two(bytes[0], bytes[1]))
 }
 
 fn symbols_of_three(a: u8, b: u8, c: u8) -> [u8; 4]

@@ -27,11 +27,7 @@ pub fn or_undo(
 pub fn copy_front(text: &[u8], out: &mut [u8]) -> usize
     ensures { Copied text.now out.old out.new result }
 {
-    let count = if text.len() < out.len() {
-        text.len()
-    } else {
-        out.len()
-    };
+    let count = text.len().min(out.len());
     out[..count].copy_from_slice(&text[..count]);
     text.len()
 }

@@ -1,6 +1,9 @@
 //! Why a line is no message.
 use thiserror::Error;
 
+/// What was read of a line, or why it is no message.
+pub(crate) type Read<T> = Result<T, MessageFault>;
+
 /// The first test that a line doesn't pass, or out of memory.
 #[derive(Clone, Copy, Debug, PartialEq, Eq, Error)]
 pub enum MessageFault {

@@ -8,7 +8,6 @@ use crate::buffer::or_undo;
 use crate::numbers::put_number;
 use spans::calls::Message;
 use std::alloc::{AllocError, Global};
-use timestamps::row::Row;
 use timestamps::value::Value;
 
 /// The line of a message.
@@ -33,33 +32,27 @@ pub fn write_message_line(out: &mut Vec<u8>, message: &Message) -> Result<(), Al
     or_undo(out, length_before, written)
 }
 
-#[tactic(auto, using(crate::proofs::Writing::keeping), unfolding(crate::specs::Messages::message_line))]
+#[tactic(auto, using(crate::proofs::Writing::keeping, crate::proofs::Writing::on_error), unfolding(crate::specs::Messages::message_line))]
 fn put_message(out: &mut Vec<u8>, message: &Message) -> Result<(), AllocError>
     ensures ok { OnOk result (out.new.items ≡ out.old.items ++ message_line message.now) }
     ensures err { OnErr result (Keeps out.old.items out.new.items) }
 {
     match message {
-        Message::Row(row) => put_row_line(out, row),
+        Message::Row(row) => {
+            out.extend_from_slice(b"{\"after\":")?;
+            put_after(out, &row.after)?;
+            out.extend_from_slice(b",\"key\":\"")?;
+            put_base64(out, row.key.bytes())?;
+            out.extend_from_slice(b"\",\"updated\":\"")?;
+            put_number(out, row.ts.get())?;
+            out.extend_from_slice(b"\"}\n")
+        }
         Message::Resolved(ts) => {
             out.extend_from_slice(b"{\"resolved\":\"")?;
             put_number(out, ts.get())?;
             out.extend_from_slice(b"\"}\n")
         }
     }
-}
-
-#[tactic(auto, using(crate::proofs::Writing::keeping, crate::proofs::Writing::on_error), unfolding(crate::specs::Messages::message_line))]
-fn put_row_line(out: &mut Vec<u8>, row: &Row) -> Result<(), AllocError>
-    ensures ok { OnOk result (out.new.items ≡ out.old.items ++ message_line (Message.Row row.now)) }
-    ensures err { OnErr result (Keeps out.old.items out.new.items) }
-{
-    out.extend_from_slice(b"{\"after\":")?;
-    put_after(out, &row.after)?;
-    out.extend_from_slice(b",\"key\":\"")?;
-    put_base64(out, row.key.bytes())?;
-    out.extend_from_slice(b"\",\"updated\":\"")?;
-    put_number(out, row.ts.get())?;
-    out.extend_from_slice(b"\"}\n")
 }
 
 /// Writes a value in quotes, or `null` for a delete.
@@ -73,8 +66,7 @@ fn put_after(out: &mut Vec<u8>, after: &Option<Value>) -> Result<(), AllocError>
         Some(value) => {
             out.push(b'"')?;
             put_base64(out, value.bytes())?;
-            out.push(b'"')?;
-            Ok(())
+            Ok(out.push(b'"')?)
         }
     }
 }

@@ -60,13 +60,8 @@ fn digits_value(digits: &[u8]) -> Option<u64>
         if !digit.is_ascii_digit() {
             return None;
         }
-        let Some(tens) = number.checked_mul(10) else {
-            return None;
-        };
-        let Some(more) = tens.checked_add(u64::from(*digit - b'0')) else {
-            return None;
-        };
-        number = more;
+        let tens = number.checked_mul(10)?;
+        number = tens.checked_add(u64::from(*digit - b'0'))?;
     }
     Some(number)
 }

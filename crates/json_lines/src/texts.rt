@@ -5,12 +5,12 @@ ghost use Rattle.text_format.specs.Limits.{key_limit, value_limit};
 ghost use Rattle.json_lines.specs.Messages.{AreBytes, IsMessage, base64};
 ghost use Rattle.json_lines.specs.declared.fault.MessageFault.TheVariants.{NoMemory, Number};
 ghost use Rattle.json_lines.specs.Memory.{AreOfRow};
-ghost use Rattle.json_lines.specs.Texts.{row, texts_of};
+ghost use Rattle.json_lines.specs.Texts.{texts_of};
 ghost use Rattle.json_lines.specs.TextsView.{texts_view};
 ghost use Rattle.json_lines.specs.Steps.{Gives, Reads};
-ghost use Rattle.json_lines.specs.Meaning.{timestamp_of, bytes_of, after_of, key_of, value_of, row_of, message_of};
+ghost use Rattle.json_lines.specs.Meaning.{timestamp_of, bytes_of, after_of, key_of, value_of, message_of};
 
-use crate::fault::MessageFault;
+use crate::fault::{MessageFault, Read};
 use crate::numbers::number_of;
 use base64::DecodeAllocError;
 use base64::engine::general_purpose::STANDARD;
@@ -25,23 +25,17 @@ use timestamps::value::{Value, ValueError};
 /// The texts of the members, by name, as they stand in the line or in the tree that was read of it.
 #[derive(Clone, Copy)]
 pub(crate) enum Texts<'a> {
-    Resolved {
-        resolved: &'a [u8],
-    },
+    Resolved(&'a [u8]),
     Row {
         after: Option<&'a [u8]>,
         key: &'a [u8],
-        updated: &'a [u8],
+        ts: &'a [u8],
     },
 }
 
 /// The message of a format that the texts mean.
-#[tactic(auto, unfolding(crate::specs::Meaning::message_of))]
-pub(crate) fn message_of(
-    alloc: Global,
-    texts: Texts,
-    format: Format,
-) -> Result<Message, MessageFault>
+#[tactic(auto, unfolding(crate::specs::Meaning::message_of, crate::specs::Meaning::row_of))]
+pub(crate) fn message_of(alloc: Global, texts: Texts, format: Format) -> Read<Message>
     ensures exact { Gives (λ m. m) result (message_of format (texts_view texts.entry)) }
     ensures lawful { IfOk result (λ m. IsMessage format m) }
     // They are the texts of that message.
@@ -49,60 +43,32 @@ pub(crate) fn message_of(
     ensures memory { IfErr result (λ e. e ≡ NoMemory → AreOfRow (texts_view texts.entry)) }
 {
     match texts {
-        Texts::Resolved { resolved } => {
-            let ts = timestamp_of(resolved)?;
-            Ok(Message::Resolved(ts))
-        }
-        Texts::Row {
-            after,
-            key,
-            updated,
-        } => {
-            let row = row_of(alloc, after, key, updated, format)?;
-            Ok(Message::Row(row))
+        Texts::Resolved(ts) => Ok(Message::Resolved(timestamp_of(ts)?)),
+        Texts::Row { after, key, ts } => {
+            let ts = timestamp_of(ts)?;
+            let key = bytes_of(alloc, key)?;
+            let after = after_of(alloc, after)?;
+            let key = key_of(alloc, &key, format)?;
+            let after = value_of(alloc, &after, format)?;
+            Ok(Message::Row(Row { ts, key, after }))
         }
     }
-}
-
-#[tactic(auto, unfolding(crate::specs::Meaning::row_of))]
-fn row_of(
-    alloc: Global,
-    after: Option<&[u8]>,
-    key: &[u8],
-    updated: &[u8],
-    format: Format,
-) -> Result<Row, MessageFault>
-    ensures exact { Gives (λ r. r) result (row_of format (option_map (λ t. t.now) after.entry) key.now updated.now) }
-    ensures lawful { IfOk result (λ r. IsMessage format (Message.Row r)) }
-    ensures found { IfOk result (λ r. row (option_map (λ t. t.now) after.entry) key.now updated.now ≡ texts_of (Message.Row r)) }
-{
-    let ts = timestamp_of(updated)?;
-    let key = bytes_of(alloc, key)?;
-    let after = after_of(alloc, after)?;
-    let key = key_of(alloc, &key, format)?;
-    let after = value_of(alloc, &after, format)?;
-    Ok(Row { ts, key, after })
 }
 
 /// The timestamp of a number word.
 #[tactic(auto, using(crate::proofs::NumberWords::number_found), unfolding(crate::specs::Meaning::timestamp_of))]
-fn timestamp_of(text: &[u8]) -> Result<Ts, MessageFault>
+fn timestamp_of(text: &[u8]) -> Read<Ts>
     ensures exact { Reads (λ ts. ts) result (timestamp_of text.now) }
     ensures found { IfOk result (λ ts. text.now ≡ decimal ts) }
     ensures fault { IfErr result (λ e. e ≡ Number) }
 {
-    let Some(number) = number_of(text) else {
-        return Err(MessageFault::Number);
-    };
-    match Ts::new(number) {
-        Some(ts) => Ok(ts),
-        None => Err(MessageFault::Number),
-    }
+    let number = number_of(text).ok_or(MessageFault::Number)?;
+    Ts::new(number).ok_or(MessageFault::Number)
 }
 
 /// The bytes whose base64 it is.
 #[tactic(auto, using(crate::proofs::Meanings::bytes_good, crate::proofs::Meanings::bytes_from_each))]
-fn bytes_of(alloc: Global, text: &[u8]) -> Result<Vec<u8>, MessageFault>
+fn bytes_of(alloc: Global, text: &[u8]) -> Read<Vec<u8>>
     ensures exact { Gives (λ v. v.items) result (bytes_of text.now) }
     ensures found { IfOk result (λ v. text.now ≡ base64 v.items) }
     ensures bytes { IfOk result (λ v. AreBytes v.items) }
@@ -116,23 +82,20 @@ fn bytes_of(alloc: Global, text: &[u8]) -> Result<Vec<u8>, MessageFault>
 
 /// The same of a value, where there is one.
 #[tactic(auto, unfolding(crate::specs::Meaning::after_of))]
-fn after_of(alloc: Global, text: Option<&[u8]>) -> Result<Option<Vec<u8>>, MessageFault>
+fn after_of(alloc: Global, text: Option<&[u8]>) -> Read<Option<Vec<u8>>>
     ensures exact { Gives (λ o. option_map (λ v. v.items) o) result (after_of (option_map (λ t. t.now) text.entry)) }
     ensures found { IfOk result (λ o. option_map (λ t. t.now) text.entry ≡ option_map (λ v. base64 v.items) o) }
     ensures bytes { IfOk result (λ o. IfSome o (λ v. AreBytes v.items)) }
 {
     match text {
         None => Ok(None),
-        Some(text) => {
-            let bytes = bytes_of(alloc, text)?;
-            Ok(Some(bytes))
-        }
+        Some(text) => Ok(Some(bytes_of(alloc, text)?)),
     }
 }
 
 /// The key of bytes, which may be too few or too many.
 #[tactic(auto, unfolding(crate::specs::Meaning::key_of))]
-fn key_of(alloc: Global, bytes: &[u8], format: Format) -> Result<Key, MessageFault>
+fn key_of(alloc: Global, bytes: &[u8], format: Format) -> Read<Key>
     ensures exact { Gives (λ k. k) result (key_of format bytes.now) }
     ensures found { IfOk result (λ k. k ≡ bytes.now) }
     ensures in_range { IfOk result (λ k. (1 ≤ length k) × (length k ≤ key_limit format)) }
@@ -149,11 +112,7 @@ fn key_of(alloc: Global, bytes: &[u8], format: Format) -> Result<Key, MessageFau
 
 /// The value of bytes, which may be too many.
 #[tactic(auto, unfolding(crate::specs::Meaning::value_of))]
-fn value_of(
-    alloc: Global,
-    bytes: &Option<Vec<u8>>,
-    format: Format,
-) -> Result<Option<Value>, MessageFault>
+fn value_of(alloc: Global, bytes: &Option<Vec<u8>>, format: Format) -> Read<Option<Value>>
     ensures exact { Gives (λ v. v) result (value_of format (option_map (λ b. b.items) bytes.now)) }
     ensures found { IfOk result (λ v. v ≡ option_map (λ b. b.items) bytes.now) }
     ensures in_range { IfOk result (λ o. IfSome o (λ v. length v ≤ value_limit format)) }

@@ -6,7 +6,7 @@ ghost use Rattle.json_lines.specs.Steps.{Gives, Reads};
 ghost use Rattle.json_lines.specs.TextsView.{texts_view};
 ghost use Rattle.json_lines.specs.Tests.{text_at, after_at, resolved_in, row_in, texts_in, tree_of, meant_by};
 
-use crate::fault::MessageFault;
+use crate::fault::{MessageFault, Read};
 use crate::texts::{Texts, message_of};
 use serde_json::Value;
 use spans::calls::Message;
@@ -15,7 +15,7 @@ use text_format::Format;
 
 /// The message of a format that a text has, however it is written, or the first test that it doesn't pass.
 #[tactic(auto, unfolding(crate::specs::Tests::meant_by))]
-pub(crate) fn meant_by(alloc: Global, text: &str, format: Format) -> Result<Message, MessageFault>
+pub(crate) fn meant_by(alloc: Global, text: &str, format: Format) -> Read<Message>
     ensures exact { Gives (λ m. m) result (meant_by format text.now) }
     ensures lawful { IfOk result (λ m. IsMessage format m) }
 {
@@ -25,78 +25,64 @@ pub(crate) fn meant_by(alloc: Global, text: &str, format: Format) -> Result<Mess
 }
 
 #[tactic(auto, using(crate::proofs::Trees::tree_good, crate::proofs::Trees::tree_bad))]
-fn tree_of(alloc: Global, text: &str) -> Result<Value, MessageFault>
+fn tree_of(alloc: Global, text: &str) -> Read<Value>
     ensures { Gives view result (tree_of text.now) }
 {
     match Value::from_str(alloc, text) {
         Ok(tree) => Ok(tree),
-        Err(error) => {
-            if error.is_memory() {
-                return Err(MessageFault::NoMemory);
-            }
-            Err(MessageFault::NotJson)
-        }
+        Err(error) if error.is_memory() => Err(MessageFault::NoMemory),
+        Err(_) => Err(MessageFault::NotJson),
     }
 }
 
 #[tactic(auto, using(crate::proofs::Trees::counted))]
-fn texts_in(tree: &Value) -> Result<Texts<'_>, MessageFault>
+fn texts_in(tree: &Value) -> Read<Texts<'_>>
     ensures { Reads texts_view result (texts_in (view tree.now)) }
 {
     let Some(members) = tree.as_object() else {
         return Err(MessageFault::Shape);
     };
-    let count = members.len();
-    if count == 1 {
-        return resolved_in(tree);
+    match members.len() {
+        1 => resolved_in(tree),
+        3 => row_in(tree),
+        _ => Err(MessageFault::Shape),
     }
-    if count == 3 {
-        return row_in(tree);
-    }
-    Err(MessageFault::Shape)
 }
 
 #[tactic(auto, unfolding(crate::specs::Tests::resolved_in))]
-fn resolved_in(tree: &Value) -> Result<Texts<'_>, MessageFault>
+fn resolved_in(tree: &Value) -> Read<Texts<'_>>
     ensures { Reads texts_view result (resolved_in (view tree.now)) }
 {
-    let resolved = text_at("resolved", tree)?;
-    Ok(Texts::Resolved { resolved })
+    Ok(Texts::Resolved(text_at("resolved", tree)?))
 }
 
 #[tactic(auto, unfolding(crate::specs::Tests::row_in))]
-fn row_in(tree: &Value) -> Result<Texts<'_>, MessageFault>
+fn row_in(tree: &Value) -> Read<Texts<'_>>
     ensures { Reads texts_view result (row_in (view tree.now)) }
 {
     let after = after_at(tree)?;
     let key = text_at("key", tree)?;
-    let updated = text_at("updated", tree)?;
-    Ok(Texts::Row {
-        after,
-        key,
-        updated,
-    })
+    let ts = text_at("updated", tree)?;
+    Ok(Texts::Row { after, key, ts })
 }
 
 /// The member `after`: a string, or null.
 #[tactic(auto, unfolding(crate::specs::Tests::after_at))]
-fn after_at(tree: &Value) -> Result<Option<&[u8]>, MessageFault>
+fn after_at(tree: &Value) -> Read<Option<&[u8]>>
     ensures { Reads (λ o. option_map (λ t. t.now) o) result (after_at (view tree.now)) }
 {
     let after = tree.get("after").ok_or(MessageFault::Shape)?;
     if after.is_null() {
         return Ok(None);
     }
-    let text = after.as_str().ok_or(MessageFault::Shape)?;
-    Ok(Some(text.as_bytes()))
+    Ok(Some(after.as_str().ok_or(MessageFault::Shape)?.as_bytes()))
 }
 
 /// A member that is a string.
 #[tactic(auto, unfolding(crate::specs::Tests::text_at))]
-fn text_at<'a>(name: &str, tree: &'a Value) -> Result<&'a [u8], MessageFault>
+fn text_at<'a>(name: &str, tree: &'a Value) -> Read<&'a [u8]>
     ensures { Reads (λ t. t.now) result (text_at name.now (view tree.now)) }
 {
     let member = tree.get(name).ok_or(MessageFault::Shape)?;
-    let text = member.as_str().ok_or(MessageFault::Shape)?;
-    Ok(text.as_bytes())
+    Ok(member.as_str().ok_or(MessageFault::Shape)?.as_bytes())
 }
