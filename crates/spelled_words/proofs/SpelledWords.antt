@@ -1,13 +1,9 @@
 -- Spelled bytes and words, one to one.
-use Rattle.spelled_words.proofs.Common.{append-nil, cases_Bool, common_steps, eqb-false, eqb-true, flat_map, leb-true}
-use Rattle.std.proofs.Common.{◌≡◌, ℕ, ◌+◌, ◌*◌, ◌<◌, ◌≤◌, Bool, true, false, cond, List, [], ◌∷◌, length, Option, Some, None, refl, sym, ap, subst, ◌∙◌, inl, inr, arith}
-use Rattle.std.specs.Prelude.{codes, bytes_eq, ◌&&◌, ◌==◌, nat_le, option_and_then}
+use Rattle.spelled_words.proofs.Common.{append-nil, cases_Bool, common_steps, eqb-false, eqb-true, flat_map}
+use Rattle.std.proofs.Common.{◌≡◌, ℕ, ◌+◌, ◌*◌, ◌<◌, Bool, true, false, cond, List, [], ◌∷◌, length, Option, Some, None, refl, sym, ap, subst, ◌∙◌, inl, inr, arith}
+use Rattle.std.specs.Prelude.{codes, bytes_eq, ◌==◌, option_and_then}
 use Rattle.std.proofs.lemmas.Slice.Eq.{bytes_eq-Decides}
 use Rattle.spelled_words.specs.Spelling.{is_plain, hex_value, escape, escaped, spelled, spelling, with_front, unspelled, bytes_of, AreBytes}
-use Rattle.spelled_words.proofs.Spellings.{both}
-
-in_range : (lo hi c : ℕ) → (nat_le lo c && nat_le c hi) ≡ true → (lo ≤ c) × (c ≤ hi)
-in_range lo hi c e = let h = both (nat_le lo c) (nat_le c hi) e in (leb-true lo c h.0, leb-true c hi h.1)
 
 abbrev pub some_of : {A : Type 0} → A → Option A
 some_of x = Some x
@@ -19,10 +15,6 @@ some_is x y e = cc
 pub chosen : {A : Type 0} (b : Bool) (x y : A) → cond b (some_of x) None ≡ some_of y → (b ≡ true) × (x ≡ y)
 chosen true x y e = (refl, cc)
 chosen false x y e = absurd cc
-
-unless : {A : Type 0} (b : Bool) (x y : A) → cond b None (some_of x) ≡ some_of y → (b ≡ false) × (x ≡ y)
-unless true x y e = absurd cc
-unless false x y e = (refl, cc)
 
 -- what two digits say
 record IsEscaped (h l b : ℕ) : Type 0 where

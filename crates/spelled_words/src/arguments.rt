@@ -4,7 +4,7 @@ ghost use Rattle.spelled_words.specs.declared.fault.ReadError.TheVariants.{NoMem
 ghost use Rattle.spelled_words.specs.Memory.{has_long};
 ghost use Rattle.spelled_words.specs.Reading.{Takes, number_at, key_at, value_at, bound_at, span_at, number_and_key_at, number_and_span_at, opening_at, opening_every_at};
 
-use crate::fault::{LineFault, ReadError};
+use crate::fault::{LineFault, Read, ReadError};
 use crate::spelling::bytes_of;
 use crate::words::Words;
 use json_lines::numbers::number_of;
@@ -18,19 +18,18 @@ use timestamps::value::{Value, ValueError};
 /// A number.
 #[inline(always)]
 #[tactic(auto, unfolding(crate::specs::Reading::number_at))]
-pub fn take_number(words: &mut Words) -> Result<u64, ReadError>
+pub fn take_number(words: &mut Words) -> Read<u64>
     ensures exact { Takes result words.new (number_at words.old) }
     ensures memory { IfErr result (λ e. e ≢ NoMemory) }
 {
     let word = words.take_word().ok_or(LineFault::WordCount)?;
-    let number = number_of(word).ok_or(LineFault::Number)?;
-    Ok(number)
+    Ok(number_of(word).ok_or(LineFault::Number)?)
 }
 
 /// A key of the format. Its bytes are copied once where each stands for itself, and else at most twice.
 #[inline(always)]
 #[tactic(auto, unfolding(crate::specs::Reading::key_at))]
-pub fn take_key(alloc: Global, words: &mut Words, format: Format) -> Result<Key, ReadError>
+pub fn take_key(alloc: Global, words: &mut Words, format: Format) -> Read<Key>
     ensures exact { Takes result words.new (key_at format words.old) }
     ensures memory { IfErr result (λ e. e ≡ NoMemory → has_long 1 words.old ≡ true) }
 {
@@ -49,7 +48,7 @@ pub fn take_key(alloc: Global, words: &mut Words, format: Format) -> Result<Key,
 
 /// A value of the format. Its bytes are copied as a key's are.
 #[tactic(auto, unfolding(crate::specs::Reading::value_at))]
-pub fn take_value(alloc: Global, words: &mut Words, format: Format) -> Result<Value, ReadError>
+pub fn take_value(alloc: Global, words: &mut Words, format: Format) -> Read<Value>
     ensures exact { Takes result words.new (value_at format words.old) }
     ensures memory { IfErr result (λ e. e ≡ NoMemory → has_long 1 words.old ≡ true) }
 {
@@ -68,7 +67,7 @@ pub fn take_value(alloc: Global, words: &mut Words, format: Format) -> Result<Va
 
 /// A bound of the format, or `-` for none.
 #[tactic(auto, unfolding(crate::specs::Reading::bound_at))]
-fn take_bound(alloc: Global, words: &mut Words, format: Format) -> Result<Option<Bound>, ReadError>
+fn take_bound(alloc: Global, words: &mut Words, format: Format) -> Read<Option<Bound>>
     ensures exact { Takes result words.new (bound_at format words.old) }
     ensures memory { IfErr result (λ e. e ≡ NoMemory → has_long 1 words.old ≡ true) }
 {
@@ -90,7 +89,7 @@ fn take_bound(alloc: Global, words: &mut Words, format: Format) -> Result<Option
 
 /// A span: its lower and its upper bound.
 #[tactic(auto, using(crate::proofs::LongWords::behind_bound, crate::proofs::LongWords::long_behind), unfolding(crate::specs::Reading::span_at))]
-pub fn take_span(alloc: Global, words: &mut Words, format: Format) -> Result<Span, ReadError>
+pub fn take_span(alloc: Global, words: &mut Words, format: Format) -> Read<Span>
     ensures exact { Takes result words.new (span_at format words.old) }
     ensures memory { IfErr result (λ e. e ≡ NoMemory → has_long 2 words.old ≡ true) }
 {
@@ -102,11 +101,7 @@ pub fn take_span(alloc: Global, words: &mut Words, format: Format) -> Result<Spa
 /// A number, and behind it a key.
 #[inline(always)]
 #[tactic(auto, using(crate::proofs::LongWords::left_long, crate::proofs::LongWords::behind_number), unfolding(crate::specs::Reading::number_and_key_at))]
-pub fn take_number_and_key(
-    alloc: Global,
-    words: &mut Words,
-    format: Format,
-) -> Result<(u64, Key), ReadError>
+pub fn take_number_and_key(alloc: Global, words: &mut Words, format: Format) -> Read<(u64, Key)>
     ensures exact { Takes result words.new (number_and_key_at format words.old) }
     ensures memory { IfErr result (λ e. e ≡ NoMemory → has_long 1 (drop 1 words.old) ≡ true) }
 {
@@ -117,11 +112,7 @@ pub fn take_number_and_key(
 
 /// A number, and behind it a span.
 #[tactic(auto, using(crate::proofs::LongWords::left_long, crate::proofs::LongWords::behind_number), unfolding(crate::specs::Reading::number_and_span_at))]
-pub fn take_number_and_span(
-    alloc: Global,
-    words: &mut Words,
-    format: Format,
-) -> Result<(u64, Span), ReadError>
+pub fn take_number_and_span(alloc: Global, words: &mut Words, format: Format) -> Read<(u64, Span)>
     ensures exact { Takes result words.new (number_and_span_at format words.old) }
     ensures memory { IfErr result (λ e. e ≡ NoMemory → has_long 2 (drop 1 words.old) ≡ true) }
 {
@@ -132,11 +123,7 @@ pub fn take_number_and_span(
 
 /// A span, and behind it a cursor.
 #[tactic(auto, unfolding(crate::specs::Reading::opening_at))]
-pub fn take_opening(
-    alloc: Global,
-    words: &mut Words,
-    format: Format,
-) -> Result<(Span, u64), ReadError>
+pub fn take_opening(alloc: Global, words: &mut Words, format: Format) -> Read<(Span, u64)>
     ensures exact { Takes result words.new (opening_at format words.old) }
     ensures memory { IfErr result (λ e. e ≡ NoMemory → has_long 2 words.old ≡ true) }
 {
@@ -151,7 +138,7 @@ pub fn take_opening_every(
     alloc: Global,
     words: &mut Words,
     format: Format,
-) -> Result<(Span, u64, u64), ReadError>
+) -> Read<(Span, u64, u64)>
     ensures exact { Takes result words.new (opening_every_at format words.old) }
     ensures memory { IfErr result (λ e. e ≡ NoMemory → has_long 2 words.old ≡ true) }
 {

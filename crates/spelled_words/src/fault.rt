@@ -84,6 +84,9 @@ pub enum ReadError {
     NoMemory,
 }
 
+/// What was read of a text, or why it was not.
+pub type Read<T> = Result<T, ReadError>;
+
 impl From<LineFault> for ReadError {
     ghost from_gives = { λ fault e. e ≡ Fault fault };
 

@@ -1,6 +1,5 @@
 //! Bytes spelled as a word: `-` for none, a printable byte as itself, any other as `%` and two
 //! hexadecimal digits. Each list of bytes has one spelling.
-
 ghost use Rattle.std.specs.Prelude.{◌≡◌, ◌++◌, ◌<◌, ◌≤◌, true, length, ok_or, IfSome, MatchOption, IfOk, IfErr, OnOk, OnErr};
 ghost use Rattle.json_lines.specs.Writing.{Keeps};
 ghost use Rattle.spelled_words.specs.SpelledBytes.{spelled_bytes};
@@ -8,9 +7,9 @@ ghost use Rattle.spelled_words.specs.Memory.{is_long};
 ghost use Rattle.spelled_words.specs.declared.fault.ReadError.TheVariants.{NoMemory};
 ghost use Rattle.spelled_words.specs.Reading.{Gives};
 ghost use Rattle.std.specs.List.{flat_map, list_all};
-ghost use Rattle.spelled_words.specs.Spelling.{is_plain, hex_digit, hex_value, escaped, first_at, unspelled, bytes_of, escape, spelled, spelling};
+ghost use Rattle.spelled_words.specs.Spelling.{is_plain, hex_digit, hex_value, escaped, first_at, unspelled, bytes_of, spelled, spelling};
 
-use crate::fault::{LineFault, ReadError};
+use crate::fault::{LineFault, Read, ReadError};
 use smallvec::SmallVec;
 use std::alloc::{AllocError, Global};
 
@@ -36,10 +35,7 @@ pub fn put_spelling(out: &mut Vec<u8>, bytes: &[u8]) -> Result<(), AllocError>
     ensures err { OnErr result (Keeps out.old.items out.new.items) }
 {
     match bytes {
-        [] => {
-            out.push(b'-')?;
-            Ok(())
-        }
+        [] => Ok(out.push(b'-')?),
         [b'-'] => out.extend_from_slice(b"%2D"),
         _ => put_spelled(out, bytes),
     }
@@ -54,42 +50,22 @@ fn put_spelled(out: &mut Vec<u8>, bytes: &[u8]) -> Result<(), AllocError>
     if are_plain(bytes) {
         return out.extend_from_slice(bytes);
     }
-    put_each(out, bytes)
-}
-
-/// Writes each byte as itself or escaped, one after another.
-#[tactic(auto, using(json_lines::proofs::Writing::keeping))]
-fn put_each(out: &mut Vec<u8>, bytes: &[u8]) -> Result<(), AllocError>
-    ensures ok { OnOk result (out.new.items ≡ out.old.items ++ flat_map spelled bytes.now) }
-    ensures err { OnErr result (Keeps out.old.items out.new.items) }
-{
     for byte in bytes {
         if is_plain(*byte) {
             out.push(*byte)?;
         } else {
-            out.extend_from_slice(&escape_of(*byte))?;
+            out.extend_from_slice(&[b'%', hex_digit(*byte / 16), hex_digit(*byte % 16)])?;
         }
     }
     Ok(())
 }
 
-/// `%` and the two digits of a byte.
-fn escape_of(byte: u8) -> [u8; 3]
-    ensures { result ≡ escape byte }
+/// The hexadecimal digit of a number, `0` to `9` or `A` to `F`.
+fn hex_digit(n: u8) -> u8
+    requires { n < 16 }
+    ensures { result ≡ hex_digit n }
 {
-    [b'%', hex_digit(byte / 16), hex_digit(byte % 16)]
-}
-
-/// A hexadecimal digit, `0` to `9` or `A` to `F`.
-fn hex_digit(value: u8) -> u8
-    requires { value < 16 }
-    ensures { result ≡ hex_digit value }
-{
-    if value < 10 {
-        b'0' + value
-    } else {
-        b'A' + (value - 10)
-    }
+    if n < 10 { b'0' + n } else { b'A' + n - 10 }
 }
 
 /// The bytes that a word spells: lent where no memory is wanted for them.
@@ -117,7 +93,7 @@ impl Spelled<'_> {
 /// allocates only for a long word with an escaped byte.
 #[inline(always)]
 #[tactic(auto, using(crate::proofs::Spellings::plain_word), unfolding(crate::specs::Spelling::bytes_of))]
-pub fn bytes_of<'a>(alloc: Global, word: &'a [u8]) -> Result<Spelled<'a>, ReadError>
+pub fn bytes_of<'a>(alloc: Global, word: &'a [u8]) -> Read<Spelled<'a>>
     ensures exact { Gives spelled_bytes result (ok_or (bytes_of word.now) LineFault.BadByte) }
     ensures shorter { IfOk result (λ bytes. length (spelled_bytes bytes) ≤ length word.now) }
     ensures memory { IfErr result (λ e. e ≡ NoMemory → is_long word.now ≡ true) }
@@ -140,7 +116,7 @@ pub fn bytes_of<'a>(alloc: Global, word: &'a [u8]) -> Result<Spelled<'a>, ReadEr
 /// The bytes of a word, of which some are escaped.
 #[cold]
 #[inline(never)]
-fn unescaped(alloc: Global, word: &[u8]) -> Result<SmallVec<u8, 24>, ReadError>
+fn unescaped(alloc: Global, word: &[u8]) -> Read<SmallVec<u8, 24>>
     ensures exact { Gives (λ bytes. bytes.items) result (ok_or (unspelled word.now) LineFault.BadByte) }
     ensures shorter { IfOk result (λ bytes. length bytes.items ≤ length word.now) }
     ensures memory { IfErr result (λ e. e ≡ NoMemory → is_long word.now ≡ true) }
@@ -148,13 +124,11 @@ fn unescaped(alloc: Global, word: &[u8]) -> Result<SmallVec<u8, 24>, ReadError>
     let mut bytes = SmallVec::new(alloc);
     let mut rest = word;
     while !rest.is_empty() {
-        match first_spelled(rest) {
-            None => return Err(ReadError::Fault(LineFault::BadByte)),
-            Some((byte, others)) => {
-                bytes.push(byte)?;
-                rest = others;
-            }
-        }
+        let Some((byte, others)) = first_spelled(rest) else {
+            return Err(ReadError::Fault(LineFault::BadByte));
+        };
+        bytes.push(byte)?;
+        rest = others;
     }
     Ok(bytes)
 }
@@ -172,8 +146,7 @@ fn first_spelled(word: &[u8]) -> Option<(u8, &[u8])>
     if first != b'%' || word.len() < 3 {
         return None;
     }
-    let byte = escaped_byte(word[1], word[2])?;
-    Some((byte, &word[3..]))
+    Some((escaped_byte(word[1], word[2])?, &word[3..]))
 }
 
 /// The byte of two digits, unless it stands for itself.
@@ -183,10 +156,7 @@ fn escaped_byte(high: u8, low: u8) -> Option<u8>
     let high = hex_value(high)?;
     let low = hex_value(low)?;
     let byte = high * 16 + low;
-    if is_plain(byte) {
-        return None;
-    }
-    Some(byte)
+    if is_plain(byte) { None } else { Some(byte) }
 }
 
 /// The value of a hexadecimal digit, `0` to `9` or `A` to `F`.

@@ -11,18 +11,11 @@ use text_format::Format;
 pub fn text_of(line: &[u8], format: Format) -> Result<&[u8], LineFault>
     ensures { MatchResult result (λ text. text_at format line.now ≡ Ok text.now) (λ fault. text_at format line.now ≡ Err fault) }
 {
-    let mut text = line;
-    let has_newline = !line.is_empty() && line[line.len() - 1] == b'\n';
-    if has_newline {
-        text = &line[..line.len() - 1];
-    }
-    if text.len() > format.line_limit() {
+    let text = line.strip_suffix(b"\n");
+    if text.unwrap_or(line).len() > format.line_limit() {
         return Err(LineFault::LineTooLong);
     }
-    if !has_newline {
-        return Err(LineFault::NoNewline);
-    }
-    Ok(text)
+    text.ok_or(LineFault::NoNewline)
 }
 
 /// The words of a text, all of its bytes printable and none of the words empty.
@@ -100,10 +93,7 @@ impl<'a> Words<'a> {
     pub fn len(&self) -> usize
         ensures { result ≡ length self.now }
     {
-        match self.rest {
-            None => 0,
-            Some(rest) => count_words(rest),
-        }
+        self.rest.map_or(0, count_words)
     }
 
     /// Whether no word is left.

@@ -1,7 +1,7 @@
 use Rattle.std.proofs.Common.{◌≡◌, ◌++◌, take}
 use Rattle.std.specs.List.{flat_map}
 use Rattle.spelled_words.specs.Spelling.{spelled}
-use Rattle.spelled_words.proofs.spelling.put_each.Given as goal
+use Rattle.spelled_words.proofs.spelling.put_spelled.Given as goal
 
 abbrev pub invariant-loop-byte : goal.invariant-loop-byte
 invariant-loop-byte l = l.out.items ≡ l.fn.out.items ++ flat_map spelled (take l.byte-index l.bytes)
