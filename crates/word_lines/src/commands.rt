@@ -1,5 +1,4 @@
 //! Commands as lines: the session's number, the command's name and its arguments.
-
 ghost use Rattle.std.specs.Prelude.{◌≡◌, ◌++◌, ◌∷◌, [], ◌<◌, decimal, true, IfOk, IfErr, OnOk, OnErr};
 ghost use Rattle.word_lines.specs.Reading.{Gives, Takes, TakesFree, session_at, row_at, arguments_at, counted_at, taken_of, command_at};
 ghost use Rattle.std.specs.List.{list_any};
@@ -18,7 +17,7 @@ use crate::arguments::{
     take_value,
 };
 use crate::buffer::or_undo;
-use crate::fault::{LineFault, ReadError};
+use crate::fault::{LineFault, Read, ReadError};
 use crate::numbers::{number_of, put_number};
 use crate::spelling::put_spelling;
 use crate::table::{Form, Verb, form_of};
@@ -30,6 +29,9 @@ use std::alloc::{AllocError, Global};
 use text_format::Format;
 use timestamps::key::Key;
 
+/// What a writer returns.
+pub(crate) type Written = Result<(), AllocError>;
+
 /// Reads a command's line of a format, with its newline: the session, below `seats`, and the command. It
 /// allocates for the command's keys, values and bounds alone.
 ///
@@ -37,12 +39,7 @@ use timestamps::key::Key;
 /// failed, to tell the fault that comes first.
 #[tactic(auto, using(crate::proofs::ReadCommands::counted_right, crate::proofs::ReadCommands::counted_fault), unfolding(crate::specs::Reading::command_at, crate::specs::Memory::byte_words_at))]
 #[inline(always)]
-pub fn read_command(
-    alloc: Global,
-    line: &[u8],
-    seats: u8,
-    format: Format,
-) -> Result<(u8, Cmd), ReadError>
+pub fn read_command(alloc: Global, line: &[u8], seats: u8, format: Format) -> Read<(u8, Cmd)>
     // What is read is the text of this command, byte for byte.
     ensures found { IfOk result (λ x. (line.now ≡ command_line x.0 x.1) × (x.0 < seats) × IsCommand format x.1) }
     // Which fault it is: the first from the left.
@@ -65,12 +62,7 @@ pub fn read_command(
 /// Reads a command from the words of a text, which aren't counted before the last was read.
 #[tactic(auto, unfolding(crate::specs::Reading::taken_of, crate::specs::Memory::byte_words_of))]
 #[inline(always)]
-fn take_command(
-    alloc: Global,
-    text: &[u8],
-    seats: u8,
-    format: Format,
-) -> Result<(u8, Cmd), ReadError>
+fn take_command(alloc: Global, text: &[u8], seats: u8, format: Format) -> Read<(u8, Cmd)>
     ensures exact { Gives (λ x. x) result (taken_of format table seats (words text.now)) }
     ensures memory { IfErr result (λ e. e ≡ NoMemory → WantsMemory (byte_words_of table seats (words text.now))) }
 {
@@ -127,47 +119,24 @@ pub fn take_form(words: &mut Words) -> Result<Form, LineFault>
 /// The command, from the words of its arguments.
 #[inline(always)]
 #[tactic(auto, unfolding(crate::specs::Reading::arguments_at, crate::specs::Reading::parts_at))]
-pub fn take_arguments(
-    alloc: Global,
-    verb: Verb,
-    words: &mut Words,
-    format: Format,
-) -> Result<Cmd, ReadError>
+pub fn take_arguments(alloc: Global, verb: Verb, words: &mut Words, format: Format) -> Read<Cmd>
     ensures exact { Takes result words.new (arguments_at format verb words.old) }
     ensures memory { IfErr result (λ e. e ≡ NoMemory → list_any is_long (byte_words verb words.old) ≡ true) }
 {
     match verb {
-        Verb::Begin => Ok(Cmd::Begin {
-            ts: take_number(words)?,
-        }),
-        Verb::Commit => Ok(Cmd::Commit {
-            ts: take_number(words)?,
-        }),
-        Verb::Abort => Ok(Cmd::Abort {
-            ts: take_number(words)?,
-        }),
-        Verb::Close => Ok(Cmd::Close {
-            to: take_number(words)?,
-        }),
-        Verb::CloseHard => Ok(Cmd::CloseHard {
-            to: take_number(words)?,
-        }),
-        Verb::Protect => Ok(Cmd::Protect {
-            t: take_number(words)?,
-        }),
-        Verb::Release => Ok(Cmd::Release {
-            id: take_number(words)?,
-        }),
-        Verb::Collect => Ok(Cmd::Collect {
-            to: take_number(words)?,
-        }),
+        Verb::Begin => take_number(words).map(|ts| Cmd::Begin { ts }),
+        Verb::Commit => take_number(words).map(|ts| Cmd::Commit { ts }),
+        Verb::Abort => take_number(words).map(|ts| Cmd::Abort { ts }),
+        Verb::Close => take_number(words).map(|to| Cmd::Close { to }),
+        Verb::CloseHard => take_number(words).map(|to| Cmd::CloseHard { to }),
+        Verb::Protect => take_number(words).map(|t| Cmd::Protect { t }),
+        Verb::Release => take_number(words).map(|id| Cmd::Release { id }),
+        Verb::Collect => take_number(words).map(|to| Cmd::Collect { to }),
         Verb::Poll => Ok(Cmd::Poll {
             feed: take_number(words)?,
             max: take_number(words)?,
         }),
-        Verb::Cancel => Ok(Cmd::Cancel {
-            feed: take_number(words)?,
-        }),
+        Verb::Cancel => take_number(words).map(|feed| Cmd::Cancel { feed }),
         Verb::Stats => Ok(Cmd::Stats),
         Verb::Get => {
             let (ts, key) = take_number_and_key(alloc, words, format)?;
@@ -226,19 +195,18 @@ pub fn write_command(out: &mut Vec<u8>, seat: u8, cmd: &Cmd) -> Result<(), Alloc
 }
 
 #[tactic(auto, using(crate::proofs::Writing::keeping))]
-fn put_command(out: &mut Vec<u8>, seat: u8, cmd: &Cmd) -> Result<(), AllocError>
+fn put_command(out: &mut Vec<u8>, seat: u8, cmd: &Cmd) -> Written
     ensures ok { OnOk result (out.new.items ≡ out.old.items ++ command_line seat cmd.now) }
     ensures err { OnErr result (Keeps out.old.items out.new.items) }
 {
     put_number(out, u64::from(seat))?;
     put_words(out, cmd)?;
-    out.push(b'\n')?;
-    Ok(())
+    Ok(out.push(b'\n')?)
 }
 
 /// Writes a command's name and its arguments, a space before each.
 #[tactic(auto, using(crate::proofs::Writing::keeping), unfolding(crate::specs::Commands::words_of))]
-pub(crate) fn put_words(out: &mut Vec<u8>, cmd: &Cmd) -> Result<(), AllocError>
+pub(crate) fn put_words(out: &mut Vec<u8>, cmd: &Cmd) -> Written
     ensures ok { OnOk result (out.new.items ≡ out.old.items ++ 32 ∷ joined (words_of cmd.now)) }
     ensures err { OnErr result (Keeps out.old.items out.new.items) }
 {
@@ -268,7 +236,7 @@ pub(crate) fn put_words(out: &mut Vec<u8>, cmd: &Cmd) -> Result<(), AllocError>
         Cmd::OpenInitialEvery { span, cursor, gap } => {
             put_opening_every(out, b" openinitialevery", span, *cursor, *gap)
         }
-        Cmd::Poll { feed, max } => put_named_pair(out, b" poll ", *feed, *max),
+        Cmd::Poll { feed, max } => put_pair(out, b" poll ", *feed, *max),
         Cmd::Cancel { feed } => put_named(out, b" cancel ", *feed),
         Cmd::Stats => out.extend_from_slice(b" stats"),
     }
@@ -276,7 +244,7 @@ pub(crate) fn put_words(out: &mut Vec<u8>, cmd: &Cmd) -> Result<(), AllocError>
 
 /// Writes a name, which ends in a space, a number and a key.
 #[tactic(auto, using(crate::proofs::Writing::keeping))]
-fn put_named_key(out: &mut Vec<u8>, name: &[u8], number: u64, key: &Key) -> Result<(), AllocError>
+fn put_named_key(out: &mut Vec<u8>, name: &[u8], number: u64, key: &Key) -> Written
     ensures ok { OnOk result (out.new.items ≡ out.old.items ++ (name.now ++ joined (decimal number ∷ spelling key.now ∷ []))) }
     ensures err { OnErr result (Keeps out.old.items out.new.items) }
 {
@@ -286,12 +254,7 @@ fn put_named_key(out: &mut Vec<u8>, name: &[u8], number: u64, key: &Key) -> Resu
 
 /// Writes a name, which ends in a space, a number and a span.
 #[tactic(auto, using(crate::proofs::Writing::keeping))]
-fn put_named_span(
-    out: &mut Vec<u8>,
-    name: &[u8],
-    number: u64,
-    span: &Span,
-) -> Result<(), AllocError>
+fn put_named_span(out: &mut Vec<u8>, name: &[u8], number: u64, span: &Span) -> Written
     ensures ok { OnOk result (out.new.items ≡ out.old.items ++ (name.now ++ joined (decimal number ∷ bound_word span.now.lo ∷ bound_word span.now.hi ∷ []))) }
     ensures err { OnErr result (Keeps out.old.items out.new.items) }
 {
@@ -301,7 +264,7 @@ fn put_named_span(
 
 /// Writes a name, a span and a cursor.
 #[tactic(auto, using(crate::proofs::Writing::keeping))]
-fn put_opening(out: &mut Vec<u8>, name: &[u8], span: &Span, cursor: u64) -> Result<(), AllocError>
+fn put_opening(out: &mut Vec<u8>, name: &[u8], span: &Span, cursor: u64) -> Written
     ensures ok { OnOk result (out.new.items ≡ out.old.items ++ (name.now ++ 32 ∷ joined (bound_word span.now.lo ∷ bound_word span.now.hi ∷ decimal cursor ∷ []))) }
     ensures err { OnErr result (Keeps out.old.items out.new.items) }
 {
@@ -312,13 +275,7 @@ fn put_opening(out: &mut Vec<u8>, name: &[u8], span: &Span, cursor: u64) -> Resu
 
 /// Writes a name, a span, a cursor and a gap.
 #[tactic(auto, using(crate::proofs::Writing::keeping))]
-fn put_opening_every(
-    out: &mut Vec<u8>,
-    name: &[u8],
-    span: &Span,
-    cursor: u64,
-    gap: u64,
-) -> Result<(), AllocError>
+fn put_opening_every(out: &mut Vec<u8>, name: &[u8], span: &Span, cursor: u64, gap: u64) -> Written
     ensures ok { OnOk result (out.new.items ≡ out.old.items ++ (name.now ++ 32 ∷ joined (bound_word span.now.lo ∷ bound_word span.now.hi ∷ decimal cursor ∷ decimal gap ∷ []))) }
     ensures err { OnErr result (Keeps out.old.items out.new.items) }
 {
@@ -328,7 +285,7 @@ fn put_opening_every(
 
 /// Writes a name, which ends in a space, and a number.
 #[tactic(auto, using(crate::proofs::Writing::keeping))]
-pub(crate) fn put_named(out: &mut Vec<u8>, name: &[u8], number: u64) -> Result<(), AllocError>
+pub(crate) fn put_named(out: &mut Vec<u8>, name: &[u8], number: u64) -> Written
     ensures ok { OnOk result (out.new.items ≡ out.old.items ++ (name.now ++ decimal number)) }
     ensures err { OnErr result (Keeps out.old.items out.new.items) }
 {
@@ -338,12 +295,7 @@ pub(crate) fn put_named(out: &mut Vec<u8>, name: &[u8], number: u64) -> Result<(
 
 /// Writes a name, which ends in a space, and two numbers.
 #[tactic(auto, using(crate::proofs::Writing::keeping))]
-pub(crate) fn put_named_pair(
-    out: &mut Vec<u8>,
-    name: &[u8],
-    first: u64,
-    second: u64,
-) -> Result<(), AllocError>
+pub(crate) fn put_pair(out: &mut Vec<u8>, name: &[u8], first: u64, second: u64) -> Written
     ensures ok { OnOk result (out.new.items ≡ out.old.items ++ (name.now ++ joined (decimal first ∷ decimal second ∷ []))) }
     ensures err { OnErr result (Keeps out.old.items out.new.items) }
 {
@@ -353,7 +305,7 @@ pub(crate) fn put_named_pair(
 
 /// Writes a space and the word that spells bytes.
 #[tactic(auto, using(crate::proofs::Writing::keeping))]
-pub(crate) fn put_word(out: &mut Vec<u8>, bytes: &[u8]) -> Result<(), AllocError>
+pub(crate) fn put_word(out: &mut Vec<u8>, bytes: &[u8]) -> Written
     ensures ok { OnOk result (out.new.items ≡ out.old.items ++ 32 ∷ spelling bytes.now) }
     ensures err { OnErr result (Keeps out.old.items out.new.items) }
 {
@@ -362,7 +314,7 @@ pub(crate) fn put_word(out: &mut Vec<u8>, bytes: &[u8]) -> Result<(), AllocError
 }
 
 #[tactic(auto, using(crate::proofs::Writing::keeping))]
-fn put_span(out: &mut Vec<u8>, span: &Span) -> Result<(), AllocError>
+fn put_span(out: &mut Vec<u8>, span: &Span) -> Written
     ensures ok { OnOk result (out.new.items ≡ out.old.items ++ 32 ∷ joined (bound_word span.now.lo ∷ bound_word span.now.hi ∷ [])) }
     ensures err { OnErr result (Keeps out.old.items out.new.items) }
 {
@@ -371,7 +323,7 @@ fn put_span(out: &mut Vec<u8>, span: &Span) -> Result<(), AllocError>
 }
 
 #[tactic(auto, using(crate::proofs::Writing::keeping))]
-fn put_bound(out: &mut Vec<u8>, bound: &Option<Bound>) -> Result<(), AllocError>
+fn put_bound(out: &mut Vec<u8>, bound: &Option<Bound>) -> Written
     ensures ok { OnOk result (out.new.items ≡ out.old.items ++ 32 ∷ bound_word bound.now) }
     ensures err { OnErr result (Keeps out.old.items out.new.items) }
 {

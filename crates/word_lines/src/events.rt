@@ -1,12 +1,11 @@
 //! Events as text, and the lines that can end the output of a run.
-
 ghost use Rattle.std.specs.Prelude.{◌≡◌, ◌+◌, ◌++◌, ◌<◌, vec_len, vec_capacity, OnOk, OnErr};
 ghost use Rattle.word_lines.specs.Writing.{Keeps};
 ghost use Rattle.word_lines.specs.Commands.{command_line};
 ghost use Rattle.word_lines.specs.Events.{event_text, fault_line, spent_line};
 
 use crate::buffer::or_undo;
-use crate::commands::put_words;
+use crate::commands::{Written, put_words};
 use crate::fault::LineFault;
 use crate::numbers::put_number;
 use crate::replies::put_reply;
@@ -30,7 +29,7 @@ pub fn write_event(out: &mut Vec<u8>, event: &Event) -> Result<(), AllocError>
 }
 
 #[tactic(auto, using(crate::proofs::Writing::keeping))]
-fn put_event(out: &mut Vec<u8>, event: &Event) -> Result<(), AllocError>
+fn put_event(out: &mut Vec<u8>, event: &Event) -> Written
     ensures ok { OnOk result (out.new.items ≡ out.old.items ++ event_text event.now) }
     ensures err { OnErr result (Keeps out.old.items out.new.items) }
 {
@@ -57,7 +56,7 @@ pub fn write_echo(out: &mut Vec<u8>, line: &[u8], event: &Event) -> Result<(), A
 }
 
 #[tactic(auto, using(crate::proofs::Writing::keeping))]
-fn put_echo(out: &mut Vec<u8>, line: &[u8], event: &Event) -> Result<(), AllocError>
+fn put_echo(out: &mut Vec<u8>, line: &[u8], event: &Event) -> Written
     requires { line.now ≡ command_line event.now.seat event.now.cmd }
     ensures ok { OnOk result (out.new.items ≡ out.old.items ++ event_text event.now) }
     ensures err { OnErr result (Keeps out.old.items out.new.items) }
@@ -85,7 +84,7 @@ pub fn write_fault(out: &mut Vec<u8>, line: u64, fault: LineFault) -> Result<(),
 }
 
 #[tactic(auto, using(crate::proofs::Writing::keeping))]
-fn put_fault(out: &mut Vec<u8>, line: u64, fault: LineFault) -> Result<(), AllocError>
+fn put_fault(out: &mut Vec<u8>, line: u64, fault: LineFault) -> Written
     ensures ok { OnOk result (out.new.items ≡ out.old.items ++ fault_line line fault) }
     ensures err { OnErr result (Keeps out.old.items out.new.items) }
     ensures room { OnErr result (vec_capacity out.old < vec_len out.old + 64) }
@@ -96,8 +95,7 @@ fn put_fault(out: &mut Vec<u8>, line: u64, fault: LineFault) -> Result<(), Alloc
     put_number(out, u64::from(fault.code()))?;
     out.push(b' ')?;
     out.extend_from_slice(fault.name().as_bytes())?;
-    out.push(b'\n')?;
-    Ok(())
+    Ok(out.push(b'\n')?)
 }
 
 /// Writes the line that says that no position was left for a line's command.
@@ -114,13 +112,12 @@ pub fn write_spent(out: &mut Vec<u8>, line: u64) -> Result<(), AllocError>
 }
 
 #[tactic(auto, using(crate::proofs::Writing::keeping))]
-fn put_spent(out: &mut Vec<u8>, line: u64) -> Result<(), AllocError>
+fn put_spent(out: &mut Vec<u8>, line: u64) -> Written
     ensures ok { OnOk result (out.new.items ≡ out.old.items ++ spent_line line) }
     ensures err { OnErr result (Keeps out.old.items out.new.items) }
     ensures room { OnErr result (vec_capacity out.old < vec_len out.old + 64) }
 {
     out.extend_from_slice(b"spent ")?;
     put_number(out, line)?;
-    out.push(b'\n')?;
-    Ok(())
+    Ok(out.push(b'\n')?)
 }

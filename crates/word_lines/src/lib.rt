@@ -24,9 +24,7 @@
 //! A reader takes the words of a line that it is lent, and takes memory for long keys, values and bounds alone. A writer
 //! pushes into the caller's buffer, takes memory where that has to grow, and where it finds none leaves that as it was.
 //!
-//! Facts that no clause states are tested in `unit_tests`, by the tables of the format.
-//!
-//! Tests: `unit_tests`.
+//! Tests: `unit_tests`, by the tables of the format.
 #![tactic(auto)]
 
 pub mod commands;

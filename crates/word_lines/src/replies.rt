@@ -1,5 +1,4 @@
 //! Replies as text: a line of words, and the lines that follow it.
-
 ghost use Rattle.std.specs.Prelude.{◌≡◌, ◌++◌, OnOk, OnErr};
 ghost use Rattle.word_lines.specs.Writing.{Keeps};
 ghost use Rattle.word_lines.specs.Commands.{joined};
@@ -8,7 +7,7 @@ ghost use Rattle.word_lines.specs.Replies.{reply_words, refusal_words, row_line,
 ghost use Rattle.std.specs.List.{flat_map};
 
 use crate::buffer::or_undo;
-use crate::commands::{put_named, put_named_pair, put_word};
+use crate::commands::{Written, put_named, put_pair, put_word};
 use json_lines::write_message_line;
 use spans::calls::{Message, Refusal, Reply};
 use std::alloc::AllocError;
@@ -28,7 +27,7 @@ pub fn write_reply(out: &mut Vec<u8>, reply: &Reply) -> Result<(), AllocError>
 }
 
 #[tactic(auto, using(crate::proofs::Writing::keeping))]
-pub(crate) fn put_reply(out: &mut Vec<u8>, reply: &Reply) -> Result<(), AllocError>
+pub(crate) fn put_reply(out: &mut Vec<u8>, reply: &Reply) -> Written
     ensures ok { OnOk result (out.new.items ≡ out.old.items ++ reply_text reply.now) }
     ensures err { OnErr result (Keeps out.old.items out.new.items) }
 {
@@ -39,7 +38,7 @@ pub(crate) fn put_reply(out: &mut Vec<u8>, reply: &Reply) -> Result<(), AllocErr
 
 /// Writes the words of a reply.
 #[tactic(auto, using(crate::proofs::Writing::keeping), unfolding(crate::specs::Replies::reply_words))]
-fn put_words(out: &mut Vec<u8>, reply: &Reply) -> Result<(), AllocError>
+fn put_words(out: &mut Vec<u8>, reply: &Reply) -> Written
     ensures ok { OnOk result (out.new.items ≡ out.old.items ++ joined (reply_words reply.now)) }
     ensures err { OnErr result (Keeps out.old.items out.new.items) }
 {
@@ -54,16 +53,12 @@ fn put_words(out: &mut Vec<u8>, reply: &Reply) -> Result<(), AllocError>
         Reply::Written => out.extend_from_slice(b"written"),
         Reply::Committed { keys } => put_named(out, b"committed ", *keys),
         Reply::Aborted => out.extend_from_slice(b"aborted"),
-        Reply::Closed { at, aborted } => put_named_pair(out, b"closed ", *at, *aborted),
+        Reply::Closed { at, aborted } => put_pair(out, b"closed ", *at, *aborted),
         Reply::Protected { id } => put_named(out, b"protected ", *id),
         Reply::Released => out.extend_from_slice(b"released"),
-        Reply::Collected { horizon, removed } => {
-            put_named_pair(out, b"collected ", *horizon, *removed)
-        }
+        Reply::Collected { horizon, removed } => put_pair(out, b"collected ", *horizon, *removed),
         Reply::Opened { feed } => put_named(out, b"opened ", *feed),
-        Reply::Messages(messages) => {
-            put_named(out, b"messages ", messages.as_slice().len() as u64)
-        }
+        Reply::Messages(told) => put_named(out, b"messages ", told.as_slice().len() as u64),
         Reply::Cancelled => out.extend_from_slice(b"cancelled"),
         Reply::Stats {
             versions,
@@ -72,8 +67,8 @@ fn put_words(out: &mut Vec<u8>, reply: &Reply) -> Result<(), AllocError>
             closed,
             horizon,
         } => {
-            put_named_pair(out, b"stats ", *versions, *undecided)?;
-            put_named_pair(out, b" ", *feeds, *closed)?;
+            put_pair(out, b"stats ", *versions, *undecided)?;
+            put_pair(out, b" ", *feeds, *closed)?;
             put_named(out, b" ", *horizon)
         }
         Reply::Refused(refusal) => put_refusal(out, *refusal),
@@ -81,7 +76,7 @@ fn put_words(out: &mut Vec<u8>, reply: &Reply) -> Result<(), AllocError>
 }
 
 #[tactic(auto, using(crate::proofs::Writing::keeping))]
-fn put_refusal(out: &mut Vec<u8>, refusal: Refusal) -> Result<(), AllocError>
+fn put_refusal(out: &mut Vec<u8>, refusal: Refusal) -> Written
     ensures ok { OnOk result (out.new.items ≡ out.old.items ++ joined (refusal_words refusal)) }
     ensures err { OnErr result (Keeps out.old.items out.new.items) }
 {
@@ -106,7 +101,7 @@ fn put_refusal(out: &mut Vec<u8>, refusal: Refusal) -> Result<(), AllocError>
 
 /// Writes the lines that follow a reply.
 #[tactic(auto, using(crate::proofs::Writing::keeping), unfolding(crate::specs::Replies::following_lines))]
-fn put_following(out: &mut Vec<u8>, reply: &Reply) -> Result<(), AllocError>
+fn put_following(out: &mut Vec<u8>, reply: &Reply) -> Written
     ensures ok { OnOk result (out.new.items ≡ out.old.items ++ following_lines reply.now) }
     ensures err { OnErr result (Keeps out.old.items out.new.items) }
 {
@@ -118,7 +113,7 @@ fn put_following(out: &mut Vec<u8>, reply: &Reply) -> Result<(), AllocError>
 }
 
 #[tactic(auto, using(crate::proofs::Writing::keeping))]
-fn put_rows(out: &mut Vec<u8>, rows: &[(Key, Value)]) -> Result<(), AllocError>
+fn put_rows(out: &mut Vec<u8>, rows: &[(Key, Value)]) -> Written
     ensures ok { OnOk result (out.new.items ≡ out.old.items ++ flat_map row_line rows.now) }
     ensures err { OnErr result (Keeps out.old.items out.new.items) }
 {
@@ -130,19 +125,18 @@ fn put_rows(out: &mut Vec<u8>, rows: &[(Key, Value)]) -> Result<(), AllocError>
 
 /// Writes the line of a row.
 #[tactic(auto, using(crate::proofs::Writing::keeping))]
-fn put_row(out: &mut Vec<u8>, row: &(Key, Value)) -> Result<(), AllocError>
+fn put_row(out: &mut Vec<u8>, row: &(Key, Value)) -> Written
     ensures ok { OnOk result (out.new.items ≡ out.old.items ++ row_line row.now) }
     ensures err { OnErr result (Keeps out.old.items out.new.items) }
 {
     out.extend_from_slice(b"row")?;
     put_word(out, row.0.bytes())?;
     put_word(out, row.1.bytes())?;
-    out.push(b'\n')?;
-    Ok(())
+    Ok(out.push(b'\n')?)
 }
 
 #[tactic(auto, using(crate::proofs::Writing::keeping))]
-fn put_messages(out: &mut Vec<u8>, messages: &[Message]) -> Result<(), AllocError>
+fn put_messages(out: &mut Vec<u8>, messages: &[Message]) -> Written
     ensures ok { OnOk result (out.new.items ≡ out.old.items ++ flat_map message_line messages.now) }
     ensures err { OnErr result (Keeps out.old.items out.new.items) }
 {

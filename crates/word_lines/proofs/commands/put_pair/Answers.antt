@@ -1,5 +1,5 @@
 use Rattle.word_lines.proofs.Writing.{error_on, on_error}
-use Rattle.word_lines.proofs.commands.put_named_pair.Goals as goal
+use Rattle.word_lines.proofs.commands.put_pair.Goals as goal
 
 pub returns-in_err-put_named-clause-err : goal.returns-in_err-put_named-clause-err
 returns-in_err-put_named-clause-err c = on_error _ _ _ c.in_err-put_named.ensures.err
