@@ -49,7 +49,7 @@ fn put_report(out: &mut Vec<u8>, report: &Report) -> Result<(), AllocError>
     ensures ok { OnOk result (out.new.items ≡ out.old.items ++ report_text report.now) }
     ensures err { OnErr result (Keeps out.old.items out.new.items) }
 {
-    put_database(out, report.limit(), report)?;
+    put_database(out, report)?;
     put_transactions(out, &report.transactions)?;
     put_protections(out, &report.protections)?;
     put_feeds(out, report.closed, &report.feeds)

@@ -2,37 +2,24 @@
 ghost use Rattle.std.specs.Prelude.{◌≡◌, ◌++◌, codes, option_map, OnOk, OnErr};
 ghost use Rattle.std.specs.List.{flat_map};
 ghost use Rattle.report_lines.specs.Prelude.{Keeps, VersionName};
+ghost use Rattle.spans.specs.Report.{limit_in};
 ghost use Rattle.report_lines.specs.Lines.{holder_word, holder_number, member, number_or_null, oldest_members, database_line, transaction_line, protection_line, feed_line};
 
 use crate::members::Member::{Bytes, Number, NumberIfAny, Truth, Word};
-use crate::members::put_line;
+use crate::members::{Written, put_line};
 use spans::bound::Bound;
-use spans::report::{
-    FeedReport, Holder, Limit, ProtectionReport, Report, ToldRow, TransactionReport,
-};
-use std::alloc::AllocError;
+use spans::report::{FeedReport, Holder, ProtectionReport, Report, ToldRow, TransactionReport};
 
-/// The word for what holds a collection.
-#[tactic(auto, unfolding(crate::specs::Lines::holder_word))]
-fn word_of(holder: Holder) -> &'static [u8]
-    ensures { result.now ≡ holder_word holder }
+/// The word for what holds a collection, and its number.
+#[tactic(auto, unfolding(crate::specs::Lines::holder_word, crate::specs::Lines::holder_number))]
+fn told_of(holder: Holder) -> (&'static [u8], Option<u64>)
+    ensures word { result.0.now ≡ holder_word holder }
+    ensures number { result.1 ≡ holder_number holder }
 {
     match holder {
-        Holder::Closed => b"closed",
-        Holder::Protection { .. } => b"protection",
-        Holder::Feed { .. } => b"feed",
-    }
-}
-
-/// The number of what holds a collection.
-#[tactic(auto, unfolding(crate::specs::Lines::holder_number))]
-fn number_of(holder: Holder) -> Option<u64>
-    ensures { result ≡ holder_number holder }
-{
-    match holder {
-        Holder::Closed => None,
-        Holder::Protection { number } => Some(number),
-        Holder::Feed { number } => Some(number),
+        Holder::Closed => (b"closed", None),
+        Holder::Protection { number } => (b"protection", Some(number)),
+        Holder::Feed { number } => (b"feed", Some(number)),
     }
 }
 
@@ -46,23 +33,14 @@ fn bytes_of(bound: &Option<Bound>) -> Option<&[u8]>
     }
 }
 
-/// The timestamp of a row.
-fn timestamp_of(row: &Option<ToldRow>) -> Option<u64>
-    ensures { result ≡ option_map (λ (n : VersionName). n.ts) row.now }
+/// The timestamp of a row, and the bytes of its key.
+fn parts_of(row: &Option<ToldRow>) -> (Option<u64>, Option<&[u8]>)
+    ensures ts { result.0 ≡ option_map (λ (n : VersionName). n.ts) row.now }
+    ensures key { option_map (λ b. b.now) result.1 ≡ option_map (λ (n : VersionName). n.key) row.now }
 {
     match row {
-        None => None,
-        Some(row) => Some(row.ts),
-    }
-}
-
-/// The bytes of a row's key.
-fn key_of(row: &Option<ToldRow>) -> Option<&[u8]>
-    ensures { option_map (λ b. b.now) result ≡ option_map (λ (n : VersionName). n.key) row.now }
-{
-    match row {
-        None => None,
-        Some(row) => Some(row.key.bytes()),
+        None => (None, None),
+        Some(row) => (Some(row.ts), Some(row.key.bytes())),
     }
 }
 
@@ -78,14 +56,12 @@ fn oldest_of(transactions: &[TransactionReport]) -> (Option<u64>, Option<u64>)
 }
 
 /// Writes the line of the database.
-pub(crate) fn put_database(
-    out: &mut Vec<u8>,
-    limit: Limit,
-    report: &Report,
-) -> Result<(), AllocError>
-    ensures ok { OnOk result (out.new.items ≡ out.old.items ++ database_line limit report.now) }
+pub(crate) fn put_database(out: &mut Vec<u8>, report: &Report) -> Written
+    ensures ok { OnOk result (out.new.items ≡ out.old.items ++ database_line (limit_in report.now) report.now) }
     ensures err { OnErr result (Keeps out.old.items out.new.items) }
 {
+    let limit = report.limit();
+    let (holder, holder_number) = told_of(limit.by);
     let (oldest, oldest_seat) = oldest_of(&report.transactions);
     put_line(
         out,
@@ -94,8 +70,8 @@ pub(crate) fn put_database(
             Number(b"closed", Some(report.closed)),
             Number(b"horizon", Some(report.horizon)),
             Number(b"limit", Some(limit.at)),
-            Word(b"holder", word_of(limit.by)),
-            Number(b"holder_number", number_of(limit.by)),
+            Word(b"holder", holder),
+            Number(b"holder_number", holder_number),
             Number(b"oldest", oldest),
             Number(b"oldest_seat", oldest_seat),
             Number(b"versions", Some(report.versions)),
@@ -106,7 +82,7 @@ pub(crate) fn put_database(
 
 /// Writes the line of an undecided transaction.
 #[tactic(auto, unfolding(crate::specs::Lines::transaction_line, crate::specs::Lines::number_or_null, crate::specs::Members::line_of, crate::specs::Members::up_to_end, crate::specs::Members::text_of))]
-fn put_transaction(out: &mut Vec<u8>, transaction: &TransactionReport) -> Result<(), AllocError>
+fn put_transaction(out: &mut Vec<u8>, transaction: &TransactionReport) -> Written
     ensures ok { OnOk result (out.new.items ≡ out.old.items ++ transaction_line transaction.now) }
     ensures err { OnErr result (Keeps out.old.items out.new.items) }
 {
@@ -123,7 +99,7 @@ fn put_transaction(out: &mut Vec<u8>, transaction: &TransactionReport) -> Result
 
 /// Writes the line of a protection.
 #[tactic(auto, unfolding(crate::specs::Lines::protection_line, crate::specs::Lines::number_or_null, crate::specs::Members::line_of, crate::specs::Members::up_to_end, crate::specs::Members::text_of))]
-fn put_protection(out: &mut Vec<u8>, protection: &ProtectionReport) -> Result<(), AllocError>
+fn put_protection(out: &mut Vec<u8>, protection: &ProtectionReport) -> Written
     ensures ok { OnOk result (out.new.items ≡ out.old.items ++ protection_line protection.now) }
     ensures err { OnErr result (Keeps out.old.items out.new.items) }
 {
@@ -138,10 +114,11 @@ fn put_protection(out: &mut Vec<u8>, protection: &ProtectionReport) -> Result<()
 }
 
 /// Writes the line of a feed, where the database is closed so far.
-fn put_feed(out: &mut Vec<u8>, closed: u64, feed: &FeedReport) -> Result<(), AllocError>
+fn put_feed(out: &mut Vec<u8>, closed: u64, feed: &FeedReport) -> Written
     ensures ok { OnOk result (out.new.items ≡ out.old.items ++ feed_line closed feed.now) }
     ensures err { OnErr result (Keeps out.old.items out.new.items) }
 {
+    let (updated, key) = parts_of(&feed.row);
     put_line(
         out,
         b"feed",
@@ -153,8 +130,8 @@ fn put_feed(out: &mut Vec<u8>, closed: u64, feed: &FeedReport) -> Result<(), All
             Bytes(b"lo", bytes_of(&feed.span.lo)),
             Bytes(b"hi", bytes_of(&feed.span.hi)),
             Number(b"cursor", Some(feed.cursor)),
-            Number(b"updated", timestamp_of(&feed.row)),
-            Bytes(b"key", key_of(&feed.row)),
+            Number(b"updated", updated),
+            Bytes(b"key", key),
             Number(b"resolved", feed.resolved),
             Number(b"complete", feed.complete),
             Number(b"floor", Some(feed.floor)),
@@ -166,10 +143,7 @@ fn put_feed(out: &mut Vec<u8>, closed: u64, feed: &FeedReport) -> Result<(), All
 
 /// Writes a line for each undecided transaction.
 #[tactic(auto, using(json_lines::proofs::Writing::keeping, json_lines::proofs::Writing::on_error))]
-pub(crate) fn put_transactions(
-    out: &mut Vec<u8>,
-    transactions: &[TransactionReport],
-) -> Result<(), AllocError>
+pub(crate) fn put_transactions(out: &mut Vec<u8>, transactions: &[TransactionReport]) -> Written
     ensures ok { OnOk result (out.new.items ≡ out.old.items ++ flat_map transaction_line transactions.now) }
     ensures err { OnErr result (Keeps out.old.items out.new.items) }
 {
@@ -181,10 +155,7 @@ pub(crate) fn put_transactions(
 
 /// Writes a line for each protection.
 #[tactic(auto, using(json_lines::proofs::Writing::keeping, json_lines::proofs::Writing::on_error))]
-pub(crate) fn put_protections(
-    out: &mut Vec<u8>,
-    protections: &[ProtectionReport],
-) -> Result<(), AllocError>
+pub(crate) fn put_protections(out: &mut Vec<u8>, protections: &[ProtectionReport]) -> Written
     ensures ok { OnOk result (out.new.items ≡ out.old.items ++ flat_map protection_line protections.now) }
     ensures err { OnErr result (Keeps out.old.items out.new.items) }
 {
@@ -196,11 +167,7 @@ pub(crate) fn put_protections(
 
 /// Writes a line for each feed, where the database is closed so far.
 #[tactic(auto, using(json_lines::proofs::Writing::keeping, json_lines::proofs::Writing::on_error))]
-pub(crate) fn put_feeds(
-    out: &mut Vec<u8>,
-    closed: u64,
-    feeds: &[FeedReport],
-) -> Result<(), AllocError>
+pub(crate) fn put_feeds(out: &mut Vec<u8>, closed: u64, feeds: &[FeedReport]) -> Written
     ensures ok { OnOk result (out.new.items ≡ out.old.items ++ flat_map (feed_line closed) feeds.now) }
     ensures err { OnErr result (Keeps out.old.items out.new.items) }
 {

@@ -9,6 +9,9 @@ use json_lines::base64_text::put_base64;
 use json_lines::numbers::put_number;
 use std::alloc::AllocError;
 
+/// What a writer returns.
+pub(crate) type Written = Result<(), AllocError>;
+
 /// A member of a line: its name, and its value.
 #[derive(Clone, Copy)]
 pub(crate) enum Member<'a> {
@@ -26,7 +29,7 @@ pub(crate) enum Member<'a> {
 
 /// Writes a line of this kind with these members.
 #[tactic(auto, using(json_lines::proofs::Writing::keeping, json_lines::proofs::Writing::on_error), unfolding(crate::specs::Members::line_of, crate::specs::Lines::begins))]
-pub(crate) fn put_line(out: &mut Vec<u8>, kind: &[u8], members: &[Member]) -> Result<(), AllocError>
+pub(crate) fn put_line(out: &mut Vec<u8>, kind: &[u8], members: &[Member]) -> Written
     ensures ok { OnOk result (out.new.items ≡ out.old.items ++ line_of kind.now members.now) }
     ensures err { OnErr result (Keeps out.old.items out.new.items) }
 {
@@ -38,7 +41,7 @@ pub(crate) fn put_line(out: &mut Vec<u8>, kind: &[u8], members: &[Member]) -> Re
 }
 
 #[tactic(auto, unfolding(crate::specs::Members::text_of, crate::specs::Lines::member, crate::specs::Lines::quoted, crate::specs::Lines::truth, crate::specs::Lines::number_or_null, crate::specs::Lines::bytes_or_null, crate::specs::Lines::member_in_whole))]
-fn put_member(out: &mut Vec<u8>, member: &Member) -> Result<(), AllocError>
+fn put_member(out: &mut Vec<u8>, member: &Member) -> Written
     ensures ok { OnOk result (out.new.items ≡ out.old.items ++ text_of member.now) }
     ensures err { OnErr result (Keeps out.old.items out.new.items) }
 {
@@ -56,7 +59,7 @@ fn put_member(out: &mut Vec<u8>, member: &Member) -> Result<(), AllocError>
 }
 
 #[tactic(auto, using(json_lines::proofs::Writing::keeping, json_lines::proofs::Writing::on_error), unfolding(crate::specs::Lines::member, crate::specs::Lines::quoted))]
-fn put_number_member(out: &mut Vec<u8>, name: &[u8], n: u64) -> Result<(), AllocError>
+fn put_number_member(out: &mut Vec<u8>, name: &[u8], n: u64) -> Written
     ensures ok { OnOk result (out.new.items ≡ out.old.items ++ member name.now (number n)) }
     ensures err { OnErr result (Keeps out.old.items out.new.items) }
 {
@@ -66,7 +69,7 @@ fn put_number_member(out: &mut Vec<u8>, name: &[u8], n: u64) -> Result<(), Alloc
 }
 
 #[tactic(auto, using(json_lines::proofs::Writing::keeping, json_lines::proofs::Writing::on_error), unfolding(crate::specs::Lines::member, crate::specs::Lines::quoted))]
-fn put_bytes_member(out: &mut Vec<u8>, name: &[u8], of: &[u8]) -> Result<(), AllocError>
+fn put_bytes_member(out: &mut Vec<u8>, name: &[u8], of: &[u8]) -> Written
     ensures ok { OnOk result (out.new.items ≡ out.old.items ++ member name.now (bytes of.now)) }
     ensures err { OnErr result (Keeps out.old.items out.new.items) }
 {
@@ -77,7 +80,7 @@ fn put_bytes_member(out: &mut Vec<u8>, name: &[u8], of: &[u8]) -> Result<(), All
 
 /// Writes texts, one behind the other.
 #[tactic(auto, using(json_lines::proofs::Writing::keeping, json_lines::proofs::Writing::on_error))]
-fn put_parts(out: &mut Vec<u8>, parts: &[&[u8]]) -> Result<(), AllocError>
+fn put_parts(out: &mut Vec<u8>, parts: &[&[u8]]) -> Written
     ensures ok { OnOk result (out.new.items ≡ out.old.items ++ flat_map (λ part. part.now) parts.now) }
     ensures err { OnErr result (Keeps out.old.items out.new.items) }
 {
