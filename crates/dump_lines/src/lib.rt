@@ -59,13 +59,14 @@ pub fn write_end(out: &mut Vec<u8>, latest: Option<u64>) -> Result<(), AllocErro
 }
 
 /// Writes the end of a dump that closes at `to`. After an error it is as it was.
-#[tactic(auto, using(json_lines::proofs::Writing::undone))]
+#[tactic(auto, using(json_lines::proofs::Writing::undone, json_lines::proofs::Writing::keeping))]
 pub fn write_close(out: &mut Vec<u8>, to: u64, horizon: u64) -> Result<(), AllocError>
     ensures ok { OnOk result (out.new.items ≡ out.old.items ++ close_text to horizon) }
     ensures err { OnErr result (out.new.items ≡ out.old.items) }
 {
     let length_before = out.len();
-    let written = put_close(out, to, horizon);
+    write_command(out, 0, &Cmd::Close { to })?;
+    let written = write_command(out, 0, &Cmd::Collect { to: horizon });
     or_undo(out, length_before, written)
 }
 
@@ -86,28 +87,10 @@ fn put_row(out: &mut Vec<u8>, latest: Option<u64>, ts: u64, cmd: &Cmd) -> Result
     ensures ok { OnOk result (out.new.items ≡ out.old.items ++ lines_of (started latest ts ++ cmd.now ∷ [])) }
     ensures err { OnErr result (Keeps out.old.items out.new.items) }
 {
-    put_start(out, latest, ts)?;
-    write_command(out, 0, cmd)
-}
-
-/// Writes what comes before a row of a transaction.
-#[tactic(auto, using(json_lines::proofs::Writing::keeping))]
-fn put_start(out: &mut Vec<u8>, latest: Option<u64>, ts: u64) -> Result<(), AllocError>
-    ensures ok { OnOk result (out.new.items ≡ out.old.items ++ lines_of (started latest ts)) }
-    ensures err { OnErr result (Keeps out.old.items out.new.items) }
-{
     if latest == Some(ts) {
-        return Ok(());
+        return write_command(out, 0, cmd);
     }
     write_end(out, latest)?;
-    write_command(out, 0, &Cmd::Begin { ts })
-}
-
-#[tactic(auto, using(json_lines::proofs::Writing::keeping))]
-fn put_close(out: &mut Vec<u8>, to: u64, horizon: u64) -> Result<(), AllocError>
-    ensures ok { OnOk result (out.new.items ≡ out.old.items ++ close_text to horizon) }
-    ensures err { OnErr result (Keeps out.old.items out.new.items) }
-{
-    write_command(out, 0, &Cmd::Close { to })?;
-    write_command(out, 0, &Cmd::Collect { to: horizon })
+    write_command(out, 0, &Cmd::Begin { ts })?;
+    write_command(out, 0, cmd)
 }
