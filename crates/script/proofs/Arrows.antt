@@ -18,13 +18,6 @@ none_at zero (word ∷ words) e = absurd cc
 none_at (suc n) [] e = refl
 none_at (suc n) (word ∷ words) e = none_at n words e
 
--- the word at a place
-word_at : (n : ℕ) (words after : List (List ℕ)) (word : List ℕ) → drop n words ≡ word ∷ after → get_or words n [] ≡ word
-word_at zero [] after word e = absurd cc
-word_at zero (first ∷ words) after word e = cc
-word_at (suc n) [] after word e = absurd cc
-word_at (suc n) (first ∷ words) after word e = word_at n words after word e
-
 -- the words end before `=>`
 pub too_short : (n : ℕ) (words : List (List ℕ)) → drop n words ≡ [] → behind_arrow n words ≡ Err WordCount
 unfolding behind_arrow

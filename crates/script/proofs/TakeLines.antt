@@ -18,10 +18,6 @@ use Rattle.script.specs.Transcripts.{Fault, Fails, TakesLines, first_of, next_at
 abbrev pub with_front : {A : Type 0} → List A → Result (List A × Place) Fault → Result (List A × Place) Fault
 with_front front read = read >>= λ x. Ok (front ++ x.0, x.1)
 
-regroup : {A : Type 0} (front : List A) (x : A) (read : Result (List A × Place) Fault) → with_front front (read >>= λ others. Ok (x ∷ others.0, others.1)) ≡ with_front (front ++ x ∷ []) read
-regroup front x (Ok others) = ap (λ xs. Ok (xs, others.1)) (sym (append_assoc front (x ∷ []) others.0))
-regroup front x (Err f) = refl
-
 -- one line more is read
 pub goes_on : {A : Type 0} (read : List ℕ → Result A LineFault) (front : List A) (count i : ℕ) (p : Place) (x : A) (after : Place) (total : Result (List A × Place) Fault) → i < count → next_at read p ≡ Ok (x, after)
     → with_front front (many_at read (count - i) p) ≡ total → with_front (front ++ x ∷ []) (many_at read (count - (i + 1)) after) ≡ total

@@ -1,5 +1,6 @@
 //! Why a text of many lines was not read.
 ghost use Rattle.std.specs.Prelude.{◌≡◌};
+ghost use Rattle.script.specs.declared.fault.TranscriptError.TheVariants.{NoMemory};
 
 use std::alloc::{AllocError, AllocFailed};
 use thiserror::Error;
@@ -16,6 +17,9 @@ pub enum TranscriptError {
     NoMemory,
 }
 
+/// What was read of such a text, or why it was not.
+pub type Told<T> = Result<T, TranscriptError>;
+
 impl TranscriptError {
     ghost use Rattle.script.specs.Transcripts.{error_at_line};
 
@@ -31,9 +35,7 @@ impl TranscriptError {
 }
 
 impl From<AllocError> for TranscriptError {
-    ghost use Rattle.script.specs.declared.fault.TranscriptError.TheVariants as errors;
-
-    ghost from_gives = { λ _ e. e ≡ errors.NoMemory };
+    ghost from_gives = { λ _ e. e ≡ NoMemory };
 
     fn from(_e: AllocError) -> TranscriptError {
         TranscriptError::NoMemory
@@ -41,9 +43,7 @@ impl From<AllocError> for TranscriptError {
 }
 
 impl<T: Drop> From<AllocFailed<T>> for TranscriptError {
-    ghost use Rattle.script.specs.declared.fault.TranscriptError.TheVariants as errors;
-
-    ghost from_gives = { λ _ e. e ≡ errors.NoMemory };
+    ghost from_gives = { λ _ e. e ≡ NoMemory };
 
     fn from(_e: AllocFailed<T>) -> TranscriptError {
         TranscriptError::NoMemory

@@ -6,7 +6,7 @@ ghost use Rattle.script.specs.Memory.{has_lines};
 ghost use Rattle.script.specs.Transcripts.{TakesLines, next_at, many_at, following_at};
 ghost use Rattle.script.specs.declared.fault.TranscriptError.TheVariants.{NoMemory};
 
-use crate::fault::TranscriptError;
+use crate::fault::{Told, TranscriptError};
 use crate::lines::Lines;
 use crate::reply_reading::Shape;
 use json_lines::{MessageFault, read_message};
@@ -16,7 +16,7 @@ use text_format::Format;
 use timestamps::key::Key;
 use timestamps::value::Value;
 use word_lines::arguments::{take_key, take_value};
-use word_lines::fault::{LineFault, ReadError};
+use word_lines::fault::{LineFault, Read, ReadError};
 use word_lines::words::{Words, text_of, words_of};
 
 /// The reply of a shape, with the lines that follow taken.
@@ -26,32 +26,21 @@ pub(crate) fn take_following(
     shape: Shape,
     lines: &mut Lines,
     format: Format,
-) -> Result<Reply, TranscriptError>
+) -> Told<Reply>
     ensures exact { TakesLines (λ x. x) result lines.new (following_at format shape lines.old) }
     // Memory is wanted only where lines are counted, and one is there.
     ensures memory { IfErr result (λ e. e ≡ NoMemory → (has_lines shape ≡ true) × (0 < length lines.old.lines)) }
 {
     match shape {
         Shape::Alone(reply) => Ok(reply),
-        Shape::Rows(count) => {
-            let rows = take_rows(alloc, count, lines, format)?;
-            Ok(Reply::Rows(Rows::from_vec(rows)))
-        }
-        Shape::Messages(count) => {
-            let messages = take_messages(alloc, count, lines, format)?;
-            Ok(Reply::Messages(Messages::from_vec(messages)))
-        }
+        Shape::Rows(count) => Ok(Reply::Rows(take_rows(alloc, count, lines, format)?)),
+        Shape::Messages(count) => Ok(Reply::Messages(take_messages(alloc, count, lines, format)?)),
     }
 }
 
 /// Takes so many rows. Room is made for those alone that came, and a first line is looked for before any is made.
-fn take_rows(
-    alloc: Global,
-    count: u64,
-    lines: &mut Lines,
-    format: Format,
-) -> Result<Vec<(Key, Value)>, TranscriptError>
-    ensures exact { TakesLines (λ rows. rows.items) result lines.new (many_at (row_line_at format) count lines.old) }
+fn take_rows(alloc: Global, count: u64, lines: &mut Lines, format: Format) -> Told<Rows>
+    ensures exact { TakesLines (λ rows. rows) result lines.new (many_at (row_line_at format) count lines.old) }
     ensures memory { IfErr result (λ e. e ≡ NoMemory → (0 < count) × (0 < length lines.old.lines)) }
 {
     let mut rows = Vec::new(alloc);
@@ -59,17 +48,12 @@ fn take_rows(
         let row = take_row(alloc, lines, format)?;
         rows.push(row)?;
     }
-    Ok(rows)
+    Ok(Rows::from_vec(rows))
 }
 
 /// Takes so many messages. Room is made for those alone that came, and a first line is looked for before any is made.
-fn take_messages(
-    alloc: Global,
-    count: u64,
-    lines: &mut Lines,
-    format: Format,
-) -> Result<Vec<Message>, TranscriptError>
-    ensures exact { TakesLines (λ messages. messages.items) result lines.new (many_at (message_line_at format) count lines.old) }
+fn take_messages(alloc: Global, count: u64, lines: &mut Lines, format: Format) -> Told<Messages>
+    ensures exact { TakesLines (λ messages. messages) result lines.new (many_at (message_line_at format) count lines.old) }
     ensures memory { IfErr result (λ e. e ≡ NoMemory → (0 < count) × (0 < length lines.old.lines)) }
 {
     let mut messages = Vec::new(alloc);
@@ -77,14 +61,10 @@ fn take_messages(
         let message = take_message(alloc, lines, format)?;
         messages.push(message)?;
     }
-    Ok(messages)
+    Ok(Messages::from_vec(messages))
 }
 
-fn take_row(
-    alloc: Global,
-    lines: &mut Lines,
-    format: Format,
-) -> Result<(Key, Value), TranscriptError>
+fn take_row(alloc: Global, lines: &mut Lines, format: Format) -> Told<(Key, Value)>
     ensures exact { TakesLines (λ x. x) result lines.new (next_at (row_line_at format) lines.old) }
     ensures memory { IfErr result (λ e. e ≡ NoMemory → 0 < length lines.old.lines) }
 {
@@ -92,17 +72,10 @@ fn take_row(
     let Some(line) = lines.take_line() else {
         return Err(TranscriptError::at_line(number, ReadError::Fault(LineFault::Follow)));
     };
-    match read_row(alloc, line, format) {
-        Ok(row) => Ok(row),
-        Err(e) => Err(TranscriptError::at_line(number, e)),
-    }
+    read_row(alloc, line, format).map_err(|e| TranscriptError::at_line(number, e))
 }
 
-fn take_message(
-    alloc: Global,
-    lines: &mut Lines,
-    format: Format,
-) -> Result<Message, TranscriptError>
+fn take_message(alloc: Global, lines: &mut Lines, format: Format) -> Told<Message>
     ensures exact { TakesLines (λ x. x) result lines.new (next_at (message_line_at format) lines.old) }
     ensures memory { IfErr result (λ e. e ≡ NoMemory → 0 < length lines.old.lines) }
 {
@@ -110,15 +83,12 @@ fn take_message(
     let Some(line) = lines.take_line() else {
         return Err(TranscriptError::at_line(number, ReadError::Fault(LineFault::Follow)));
     };
-    match read_message_line(alloc, line, format) {
-        Ok(message) => Ok(message),
-        Err(e) => Err(TranscriptError::at_line(number, e)),
-    }
+    read_message_line(alloc, line, format).map_err(|e| TranscriptError::at_line(number, e))
 }
 
 /// Reads the line of a row, with its newline.
 #[tactic(auto, unfolding(crate::specs::EventLines::row_line_at))]
-pub fn read_row(alloc: Global, line: &[u8], format: Format) -> Result<(Key, Value), ReadError>
+pub fn read_row(alloc: Global, line: &[u8], format: Format) -> Read<(Key, Value)>
     ensures { Gives (λ x. x) result (row_line_at format line.now) }
 {
     let text = text_of(line, format)?;
@@ -129,7 +99,7 @@ pub fn read_row(alloc: Global, line: &[u8], format: Format) -> Result<(Key, Valu
 }
 
 #[tactic(auto, unfolding(crate::specs::EventLines::pair_of))]
-fn pair_of(alloc: Global, text: &[u8], format: Format) -> Result<(Key, Value), ReadError>
+fn pair_of(alloc: Global, text: &[u8], format: Format) -> Read<(Key, Value)>
     ensures { Gives (λ x. x) result (pair_of format text.now) }
 {
     let mut words = words_of(text)?;
@@ -142,7 +112,7 @@ fn pair_of(alloc: Global, text: &[u8], format: Format) -> Result<(Key, Value), R
 
 /// `row KEY VALUE`.
 #[tactic(auto, unfolding(crate::specs::EventLines::pair_at))]
-fn take_pair(alloc: Global, words: &mut Words, format: Format) -> Result<(Key, Value), ReadError>
+fn take_pair(alloc: Global, words: &mut Words, format: Format) -> Read<(Key, Value)>
     ensures { Gives (λ x. (x, words.new)) result (pair_at format words.old) }
 {
     let name = words.take_word().ok_or(LineFault::WordCount)?;
@@ -156,7 +126,7 @@ fn take_pair(alloc: Global, words: &mut Words, format: Format) -> Result<(Key, V
 
 /// Reads the line of a message, with its newline.
 #[tactic(auto, unfolding(crate::specs::EventLines::message_line_at))]
-fn read_message_line(alloc: Global, line: &[u8], format: Format) -> Result<Message, ReadError>
+fn read_message_line(alloc: Global, line: &[u8], format: Format) -> Read<Message>
     ensures { Gives (λ x. x) result (message_line_at format line.now) }
 {
     text_of(line, format)?;

@@ -12,7 +12,7 @@ use std::alloc::Global;
 use text_format::Format;
 use word_lines::arguments::take_number;
 use word_lines::commands::{take_arguments, take_form, take_seat};
-use word_lines::fault::{LineFault, ReadError};
+use word_lines::fault::{LineFault, Read, ReadError};
 use word_lines::words::{Words, text_of, words_of};
 
 /// The words of an event's first line, read.
@@ -26,7 +26,7 @@ pub(crate) struct Heading {
 
 /// Reads the first line of an event, with its newline. All commands are known here.
 #[tactic(auto, unfolding(crate::specs::EventLines::heading_at, crate::specs::Memory::event_words_at))]
-pub(crate) fn read_heading(alloc: Global, line: &[u8], format: Format) -> Result<Heading, ReadError>
+pub(crate) fn read_heading(alloc: Global, line: &[u8], format: Format) -> Read<Heading>
     ensures exact { Gives (λ x. x) result (heading_at format line.now) }
     ensures memory { IfErr result (λ e. e ≡ NoMemory → ok_has (list_any is_long) (event_words_at format line.now) ≡ true) }
 {
@@ -40,7 +40,7 @@ pub(crate) fn read_heading(alloc: Global, line: &[u8], format: Format) -> Result
 
 /// Reads the words of an event's first line.
 #[tactic(auto, unfolding(crate::specs::EventLines::heading_of, crate::specs::Memory::event_words_of))]
-fn take_heading(alloc: Global, words: &mut Words, format: Format) -> Result<Heading, ReadError>
+fn take_heading(alloc: Global, words: &mut Words, format: Format) -> Read<Heading>
     ensures exact { Gives (λ x. x) result (heading_of format words.old) }
     ensures memory { IfErr result (λ e. e ≡ NoMemory → ok_has (list_any is_long) (event_words_of words.old) ≡ true) }
 {

@@ -29,12 +29,12 @@
 //! - a transcript's line: up to four times more, for its end, printable bytes, the number of words, and the place of
 //!   `=>`
 //!
+//! Keys, values and bounds are copied once, and at most twice where bytes are escaped or stand in a line of JSON.
+//!
 //! `read_script` and `read_transcript` take memory for all calls or events. `Events::next` takes it for one event at a
 //! time, and for an event of numbers alone it takes none. Nor does `Events::new`.
 //!
-//! Facts that no clause states are tested in `unit_tests`, by the tables of the format.
-//!
-//! Tests: `unit_tests`.
+//! Tests: `unit_tests`, by the tables of the format.
 #![tactic(auto)]
 
 pub mod events;

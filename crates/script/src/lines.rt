@@ -24,14 +24,7 @@ impl<'a> Model for Lines<'a> {
 }
 
 impl<'a> Lines<'a> {
-    /// The lines of a text, counted from 1.
-    pub(crate) fn of(text: &'a [u8]) -> Lines<'a>
-        ensures { result ≡ record { number = 1; lines = lines_of text.now } }
-    {
-        Lines::below(text, 0)
-    }
-
-    /// The lines of a text that stands below so many others.
+    /// The lines of a text that stands below so many others, counted from 1.
     pub(crate) fn below(text: &'a [u8], above: u64) -> Lines<'a>
         requires few { above ≤ 1 }
         ensures { result ≡ record { number = 1 + above; lines = lines_of text.now } }

@@ -11,7 +11,7 @@ use spans::calls::{Refusal, Reply};
 use std::alloc::Global;
 use text_format::Format;
 use word_lines::arguments::{take_number, take_value};
-use word_lines::fault::{LineFault, ReadError};
+use word_lines::fault::{LineFault, Read, ReadError};
 use word_lines::words::Words;
 
 /// Reads the words of a reply.
@@ -26,11 +26,7 @@ pub(crate) enum Shape {
 }
 
 /// The reply that all of the words are. Where they are none, the fault is `Reply`.
-pub(crate) fn read_reply(
-    alloc: Global,
-    words: &mut Words,
-    format: Format,
-) -> Result<Shape, ReadError>
+pub(crate) fn read_reply(alloc: Global, words: &mut Words, format: Format) -> Read<Shape>
     ensures exact { Gives (λ x. x) result (reply_at format words.old) }
     ensures memory { IfErr result (λ e. e ≡ NoMemory → list_any is_long (value_words words.old) ≡ true) }
 {
@@ -41,7 +37,7 @@ pub(crate) fn read_reply(
 }
 
 #[tactic(auto, unfolding(crate::specs::ReplyReading::named_at))]
-fn read_named(alloc: Global, words: &mut Words, format: Format) -> Result<Shape, ReadError>
+fn read_named(alloc: Global, words: &mut Words, format: Format) -> Read<Shape>
     ensures exact { Gives (λ x. x) result (named_at format words.old) }
     ensures memory { IfErr result (λ e. e ≡ NoMemory → list_any is_long (value_words words.old) ≡ true) }
 {
@@ -56,12 +52,7 @@ fn read_named(alloc: Global, words: &mut Words, format: Format) -> Result<Shape,
 
 /// Reads a reply of this kind, from the words behind its name.
 #[tactic(auto, unfolding(crate::specs::ReplyReading::shape_at))]
-fn take_shape(
-    alloc: Global,
-    kind: Kind,
-    words: &mut Words,
-    format: Format,
-) -> Result<Shape, ReadError>
+fn take_shape(alloc: Global, kind: Kind, words: &mut Words, format: Format) -> Read<Shape>
     ensures exact { Takes result words.new (shape_at format kind words.old) }
     ensures memory { IfErr result (λ e. e ≡ NoMemory → (kind ≡ Value) × (has_long 1 words.old ≡ true)) }
 {
@@ -99,7 +90,7 @@ fn take_shape(
 }
 
 #[tactic(auto, unfolding(crate::specs::ReplyReading::stats_at))]
-fn take_stats(words: &mut Words) -> Result<Reply, ReadError>
+fn take_stats(words: &mut Words) -> Read<Reply>
     ensures exact { Takes result words.new (stats_at words.old) }
     ensures memory { IfErr result (λ e. e ≢ NoMemory) }
 {
@@ -113,7 +104,7 @@ fn take_stats(words: &mut Words) -> Result<Reply, ReadError>
 }
 
 #[tactic(auto, unfolding(crate::specs::ReplyReading::refusal_at))]
-fn take_refusal(reason: Reason, words: &mut Words) -> Result<Refusal, ReadError>
+fn take_refusal(reason: Reason, words: &mut Words) -> Read<Refusal>
     ensures exact { Takes result words.new (refusal_at reason words.old) }
     ensures memory { IfErr result (λ e. e ≢ NoMemory) }
 {

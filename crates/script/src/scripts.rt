@@ -6,11 +6,7 @@
 //! 3  4 get 10 a                  session at line 3, where there are 4 seats
 //! ```
 //!
-//! A script is read whole, up to its first faulty line, and room is made call by call. No room is wanted before a call
-//! was read, unless the first line has a key, a value or a bound of more than 24 bytes.
-//!
-//! Cost: each byte is looked at three times. Keys, values and bounds are copied once, and at most
-//! twice where bytes are escaped.
+//! A script is read whole, up to its first faulty line, and room is made call by call.
 ghost use Rattle.std.specs.Prelude.{◌≡◌, IfOk, IfErr};
 ghost use Rattle.std.specs.List.{All};
 ghost use Rattle.script.specs.Prelude.{WantsMemory, byte_words_at, command_at, table};
@@ -18,7 +14,7 @@ ghost use Rattle.script.specs.Scripts.{IsCall, ScriptWants, TellsScript, script_
 ghost use Rattle.script.specs.Transcripts.{Tells, at_line};
 ghost use Rattle.script.specs.declared.fault.TranscriptError.TheVariants.{NoMemory};
 
-use crate::fault::TranscriptError;
+use crate::fault::{Told, TranscriptError};
 use crate::lines::Lines;
 use spans::calls::Cmd;
 use std::alloc::Global;
@@ -27,12 +23,7 @@ use word_lines::commands::read_command;
 
 /// Reads a script of a format, which has no header: the session, below `seats`, and the command of each line, or the
 /// first line that is faulty. Lines are counted from 1, and the last one has to end in a newline too.
-pub fn read_script(
-    alloc: Global,
-    text: &[u8],
-    seats: u8,
-    format: Format,
-) -> Result<Vec<(u8, Cmd)>, TranscriptError>
+pub fn read_script(alloc: Global, text: &[u8], seats: u8, format: Format) -> Told<Vec<(u8, Cmd)>>
     // What is read is the text of these commands, byte for byte.
     ensures found { IfOk result (λ calls. (text.now ≡ script_text calls.items) × All (IsCall format seats) calls.items) }
     // Which fault it is, and in which line: the first from the top and from the left.
@@ -40,19 +31,7 @@ pub fn read_script(
     // Memory is wanted only to keep a call, or for a long key, value or bound of the first line.
     ensures memory { IfErr result (λ e. e ≡ NoMemory → ScriptWants format seats text.now) }
 {
-    calls_of(alloc, text, seats, format)
-}
-
-fn calls_of(
-    alloc: Global,
-    text: &[u8],
-    seats: u8,
-    format: Format,
-) -> Result<Vec<(u8, Cmd)>, TranscriptError>
-    ensures exact { TellsScript (λ calls. calls.items) result (script_at format seats text.now) }
-    ensures memory { IfErr result (λ e. e ≡ NoMemory → ScriptWants format seats text.now) }
-{
-    let mut lines = Lines::of(text);
+    let mut lines = Lines::below(text, 0);
     let mut calls = Vec::new(alloc);
     loop {
         let number = lines.number();
@@ -65,18 +44,9 @@ fn calls_of(
 }
 
 /// Reads the line of this number.
-fn read_call(
-    alloc: Global,
-    number: u64,
-    line: &[u8],
-    seats: u8,
-    format: Format,
-) -> Result<(u8, Cmd), TranscriptError>
+fn read_call(alloc: Global, number: u64, line: &[u8], seats: u8, format: Format) -> Told<(u8, Cmd)>
     ensures exact { Tells (λ x. x) result (at_line number (command_at format table seats line.now)) }
     ensures memory { IfErr result (λ e. e ≡ NoMemory → WantsMemory (byte_words_at format table seats line.now)) }
 {
-    match read_command(alloc, line, seats, format) {
-        Ok(call) => Ok(call),
-        Err(e) => Err(TranscriptError::at_line(number, e)),
-    }
+    read_command(alloc, line, seats, format).map_err(|e| TranscriptError::at_line(number, e))
 }

@@ -7,12 +7,7 @@
 //! 4                              follow at line 4: a row is missing
 //! ```
 //!
-//! The place of `=>` is known from the number of the command's arguments, so a value may be spelled
-//! so. A number of lines that follow asks for no room by itself: it is made line by line. Before an event
-//! was read no room is wanted, unless the first event may want it, whether it is right or faulty.
-//!
-//! Cost: each byte is looked at six times at most. Keys, values and bounds are copied once, and at
-//! most twice where bytes are escaped or stand in a line of JSON.
+//! The place of `=>` is known from the number of the command's arguments, so a value may be spelled so.
 ghost use Rattle.std.specs.Prelude.{◌≡◌, ◌≢◌, ◌⊎◌, [], IfOk, IfErr};
 ghost use Rattle.std.specs.List.{All};
 ghost use Rattle.word_lines.specs.Limits.{IsEvent};
@@ -20,20 +15,14 @@ ghost use Rattle.script.specs.Transcripts.{Tells, TranscriptWants, WantsNext, ou
 ghost use Rattle.script.specs.declared.fault.TranscriptError.TheVariants.{NoMemory};
 
 use crate::events::Events;
-use crate::fault::TranscriptError;
+use crate::fault::Told;
 use spans::calls::Event;
 use std::alloc::Global;
 use text_format::Format;
 
 /// Reads a transcript of a format: its events, or the first line that is faulty. A text that doesn't begin with the
-/// format's header is faulty in its first line, by `WordCount`. Memory is wanted only to keep an event, or where the
-/// first event's first line, read up to `=>`, has a key, a value or a bound of more than 24 bytes, or such an answer,
-/// or where a line follows that it counts.
-pub fn read_transcript(
-    alloc: Global,
-    text: &[u8],
-    format: Format,
-) -> Result<Vec<Event>, TranscriptError>
+/// format's header is faulty in its first line, by `WordCount`.
+pub fn read_transcript(alloc: Global, text: &[u8], format: Format) -> Told<Vec<Event>>
     // What is read is the text of these events, byte for byte.
     ensures found { IfOk result (λ events. (text.now ≡ transcript_text format events.items) × All (IsEvent format) events.items) }
     // Which fault it is, and in which line: the first from the top and from the left.
@@ -41,14 +30,12 @@ pub fn read_transcript(
     // Memory is wanted only to keep an event, or where the first event may want it, whether it is right or faulty.
     ensures memory { IfErr result (λ e. e ≡ NoMemory → TranscriptWants format text.now) }
 {
-    match Events::new(text, format) {
-        Ok(left) => all_of(alloc, left),
-        Err(e) => Err(e),
-    }
+    let left = Events::new(text, format)?;
+    all_of(alloc, left)
 }
 
 /// Reads all that is left.
-fn all_of(alloc: Global, mut left: Events) -> Result<Vec<Event>, TranscriptError>
+fn all_of(alloc: Global, mut left: Events) -> Told<Vec<Event>>
     ensures exact { Tells (λ events. events.items) result (outcome left.entry) }
     ensures memory { IfErr result (λ e. e ≡ NoMemory → (left.entry.events ≢ []) ⊎ WantsNext left.entry) }
 {

@@ -16,4 +16,4 @@ loop-preserved c =
     (rw c.in_ok-push.ensures.items (goes_on (message_line_at c.args.format) c.loop.messages.items c.args.count c.loop.counter c.loop.lines c.in_ok-message.message c.take_message.new.lines (many_at (message_line_at c.args.format) c.args.count c.args.lines.now) c.loop-test.true c.in_ok-message.ensures.exact c.loop.invariant.0), omega (arith, fewer, c.loop.invariant.1))
 
 pub returns-clause-exact : goal.returns-clause-exact
-returns-clause-exact c = is_done (message_line_at c.args.format) c.loop.messages.items c.args.count c.loop.counter c.loop.lines (many_at (message_line_at c.args.format) c.args.count c.args.lines.now) c.loop-test.false c.loop.invariant.0
+returns-clause-exact c = rw c.from_vec.ensures (is_done (message_line_at c.args.format) c.loop.messages.items c.args.count c.loop.counter c.loop.lines (many_at (message_line_at c.args.format) c.args.count c.args.lines.now) c.loop-test.false c.loop.invariant.0)

@@ -16,4 +16,4 @@ loop-preserved c =
     (rw c.in_ok-push.ensures.items (goes_on (row_line_at c.args.format) c.loop.rows.items c.args.count c.loop.counter c.loop.lines c.in_ok-row.row c.take_row.new.lines (many_at (row_line_at c.args.format) c.args.count c.args.lines.now) c.loop-test.true c.in_ok-row.ensures.exact c.loop.invariant.0), omega (arith, fewer, c.loop.invariant.1))
 
 pub returns-clause-exact : goal.returns-clause-exact
-returns-clause-exact c = is_done (row_line_at c.args.format) c.loop.rows.items c.args.count c.loop.counter c.loop.lines (many_at (row_line_at c.args.format) c.args.count c.args.lines.now) c.loop-test.false c.loop.invariant.0
+returns-clause-exact c = rw c.from_vec.ensures (is_done (row_line_at c.args.format) c.loop.rows.items c.args.count c.loop.counter c.loop.lines (many_at (row_line_at c.args.format) c.args.count c.args.lines.now) c.loop-test.false c.loop.invariant.0)

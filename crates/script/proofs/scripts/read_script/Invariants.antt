@@ -2,7 +2,7 @@ use Rattle.std.proofs.Common.{◌≡◌, [], length}
 use Rattle.script.specs.Lines.{lines_of}
 use Rattle.script.specs.Scripts.{above, script_at}
 use Rattle.script.proofs.ScriptLines.{script_from}
-use Rattle.script.proofs.scripts.calls_of.Given as goal
+use Rattle.script.proofs.scripts.read_script.Given as goal
 
 abbrev pub invariant-loop-line : goal.invariant-loop-line
 invariant-loop-line l =
