@@ -1,12 +1,15 @@
 -- A transcript whose events are judged one after the other.
-use Rattle.std.proofs.Common.{◌≡◌, ◌+◌, ◌<◌, ℕ, true, List, [], ◌∷◌, ◌++◌, length, Result, refl, ap, ◌∙◌, arith}
+use Rattle.std.proofs.Common.{◌≡◌, ◌+◌, ◌<◌, ℕ, Bool, true, List, [], ◌∷◌, ◌++◌, length, Result, refl, ap, ◌∙◌, arith}
 use Rattle.std.proofs.lemmas.List.{length-append}
 use Rattle.spans.specs.declared.calls.events.Event.{Event}
-use Rattle.script.specs.declared.fault.TranscriptError.TheVariants as errors
 use Rattle.jobs.proofs.Common.{Checker, Fault, StandsFor, TakesNext, Transcript, nothing_left}
 use Rattle.script.proofs.TakeLines.{behind, reads_more, reads_end}
 use Rattle.jobs.specs.declared.verdicts.Judged.TheVariants.{Right}
-use Rattle.jobs.specs.Judging.{IsAhead, IsJudged}
+use Rattle.jobs.specs.Judging.{IsJudged}
+
+-- the event stands in front of what is left behind it
+abbrev pub IsAhead : Event → Transcript → Transcript → Type 0
+IsAhead e left left' = (w : Bool) × (left ≡ record { events = e ∷ left'.events; fault = left'.fault; wants = w ∷ left'.wants })
 
 -- the events that were read so far are a trace, which a checker has taken: so many; so few are there in all that a number counts them
 pub record IsJudging (total : Result (List Event) Fault) (left : Transcript) (checker : Checker) (count : ℕ) : Type 0 where

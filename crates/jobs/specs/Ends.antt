@@ -18,9 +18,9 @@ end_of_run run.Output = ends.Output
 end_of_run run.Memory = ends.Memory
 
 -- the end of a job that was written with `?`
-abbrev pub end_of : Result End End → End
+abbrev pub end_of : Result End ServeEnd → End
 end_of (Ok e) = e
-end_of (Err e) = e
+end_of (Err e) = end_of_run e
 
 -- how often reads and writes failed in a job
 abbrev pub FailsAt : End → Reads → Writes → Reads → Writes → Type 0

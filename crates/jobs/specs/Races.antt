@@ -5,10 +5,6 @@ use Rattle.spans.specs.declared.calls.commands.Cmd.{Cmd}
 use Rattle.script.specs.Scripts.{script_at}
 use Rattle.shared_db.specs.Opening.{IsReason}
 use Rattle.races.specs.Calls.{IsRaceOf}
-use Rattle.races.specs.declared.calls.FreshError.{FreshError}
-use Rattle.races.specs.declared.calls.FreshError.TheVariants as errors
-use Rattle.jobs.specs.declared.answer.RaceAnswer.{RaceAnswer}
-use Rattle.jobs.specs.declared.answer.RaceAnswer.TheVariants as answer
 use Rattle.jobs.specs.declared.ending.End.{End}
 use Rattle.jobs.specs.declared.ending.End.TheVariants as ends
 use Rattle.jobs.specs.declared.race.RaceOptions.{RaceOptions}
@@ -33,26 +29,3 @@ IsRace options text (ends.Faulty line fault) out = ((script_at options.format op
 IsRace options text (ends.Open reason) out = IsReason (config_of options) reason × (out ≡ [])
 IsRace options text ends.Thread out = out ≡ []
 IsRace options text _ out = ⊥
-
--- how a race ends that left nothing
-abbrev pub IsUnraced : RaceOptions → End → Type 0
-IsUnraced options (ends.Open reason) = IsReason (config_of options) reason
-IsUnraced options ends.Thread = Unit {0}
-IsUnraced options ends.Memory = Unit {0}
-IsUnraced options _ = ⊥
-
--- the end that a refusal leads to
-abbrev pub end_of_refusal : FreshError → End
-end_of_refusal (errors.Open reason) = ends.Open reason
-end_of_refusal errors.NoMemory = ends.Memory
-end_of_refusal errors.Thread = ends.Thread
-
--- how a race ends whose answer is written whole
-abbrev pub end_of_answer : RaceAnswer → End
-end_of_answer (answer.Fault line fault text) = ends.Faulty line fault
-end_of_answer (answer.Events events) = ends.Done
-
--- the text of an answer
-abbrev pub text_of_answer : Format → RaceAnswer → List ℕ
-text_of_answer format (answer.Fault line fault text) = text.items
-text_of_answer format (answer.Events events) = transcript_text format events.items

@@ -5,7 +5,7 @@ ghost use Rattle.jobs.specs.Verdicts.{IsVerdict};
 
 use crate::ending::End;
 use crate::verdicts::verdict;
-use sessions::{Sink, Source, read_whole, write_whole};
+use sessions::{ServeEnd, Sink, Source, read_whole, write_whole};
 use std::alloc::Global;
 
 /// Reads a transcript, and writes `yes` where it is one that the database could have written, else `no P`
@@ -15,12 +15,14 @@ pub fn check_io<S: Source, K: Sink>(alloc: Global, input: &mut S, output: &mut K
     ensures answered { IsAnswered IsVerdict (S.reads input.old) (S.reads input.new) (K.writes output.old) (K.writes output.new) result }
     ensures memory { IsSilentAt result (K.writes output.old) (K.writes output.new) }
 {
-    match checked(alloc, input, output) {
-        Ok(end) | Err(end) => end,
-    }
+    checked(alloc, input, output).unwrap_or_else(End::from)
 }
 
-fn checked<S: Source, K: Sink>(alloc: Global, input: &mut S, output: &mut K) -> Result<End, End>
+fn checked<S: Source, K: Sink>(
+    alloc: Global,
+    input: &mut S,
+    output: &mut K,
+) -> Result<End, ServeEnd>
     ensures answered { IsAnswered IsVerdict (S.reads input.old) (S.reads input.new) (K.writes output.old) (K.writes output.new) (end_of result) }
     ensures memory { IsSilentAt (end_of result) (K.writes output.old) (K.writes output.new) }
 {

@@ -3,14 +3,14 @@ ghost use Rattle.std.specs.Prelude.{◌≡◌, ◌++◌, ◌≤◌, IfOk, OnOk, 
 ghost use Rattle.timestamps.specs.declared.ts.TheConstants.{MAX};
 ghost use Rattle.jobs.specs.Prelude.{lines_of, row_commands};
 ghost use Rattle.jobs.specs.Answers.{IsAnswered, IsSilentAt};
-ghost use Rattle.jobs.specs.Dumps.{IsDumped, dump_text};
+ghost use Rattle.jobs.specs.Dumps.{IsDumped};
 ghost use Rattle.jobs.specs.Ends.{end_of};
 
 use crate::ending::End;
 use crate::verdicts::verdict_by;
 use dump_lines::{write_close, write_end, write_row};
 use plain_database::dump::Dump;
-use sessions::{Sink, Source, read_whole, write_whole};
+use sessions::{ServeEnd, Sink, Source, read_whole, write_whole};
 use std::alloc::{AllocError, Global};
 use timestamps::row::Row;
 use timestamps::ts::Ts;
@@ -29,9 +29,7 @@ pub fn dump_io<S: Source, K: Sink>(
     ensures answered { IsAnswered (IsDumped (unwrap_or at 0)) (S.reads input.old) (S.reads input.new) (K.writes output.old) (K.writes output.new) result }
     ensures memory { IsSilentAt result (K.writes output.old) (K.writes output.new) }
 {
-    match dumped(alloc, at, input, output) {
-        Ok(end) | Err(end) => end,
-    }
+    dumped(alloc, at, input, output).unwrap_or_else(End::from)
 }
 
 fn dumped<S: Source, K: Sink>(
@@ -39,7 +37,7 @@ fn dumped<S: Source, K: Sink>(
     at: Option<Ts>,
     input: &mut S,
     output: &mut K,
-) -> Result<End, End>
+) -> Result<End, ServeEnd>
     ensures answered { IsAnswered (IsDumped (unwrap_or at 0)) (S.reads input.old) (S.reads input.new) (K.writes output.old) (K.writes output.new) (end_of result) }
     ensures memory { IsSilentAt (end_of result) (K.writes output.old) (K.writes output.new) }
 {
@@ -64,9 +62,10 @@ pub fn dump_of_text(
     if !end.is_right() {
         return Ok((end, verdict));
     }
-    let dump = checker.dump(number_of(at))?;
+    let Dump { rows, to, horizon } = checker.dump(number_of(at))?;
     let mut answer = Vec::new(alloc);
-    write_dump(&mut answer, dump)?;
+    put_rows(&mut answer, rows)?;
+    write_close(&mut answer, to, horizon)?;
     Ok((End::Done, answer))
 }
 
@@ -75,19 +74,7 @@ fn number_of(at: Option<Ts>) -> u64
     ensures number { result ≡ unwrap_or at 0 }
     ensures in_range { result ≤ MAX }
 {
-    match at {
-        None => 0,
-        Some(ts) => ts.get(),
-    }
-}
-
-/// Writes the script of a dump.
-fn write_dump(out: &mut Vec<u8>, dump: Dump) -> Result<(), AllocError>
-    ensures { OnOk result (out.new.items ≡ out.old.items ++ dump_text dump) }
-{
-    let Dump { rows, to, horizon } = dump;
-    put_rows(out, rows)?;
-    write_close(out, to, horizon)
+    at.map_or(0, |ts| ts.get())
 }
 
 /// Writes the transactions of the rows.

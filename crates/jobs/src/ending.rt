@@ -2,10 +2,8 @@
 ghost use Rattle.std.specs.Prelude.{◌≡◌};
 ghost use Rattle.jobs.specs.Ends.{end_of_run};
 ghost use Rattle.jobs.specs.Verdicts.{is_right};
-ghost use Rattle.jobs.specs.declared.ending.End.TheVariants as ends;
 
-use sessions::{OpenError, ServeEnd, WriteFailed};
-use std::alloc::AllocError;
+use sessions::{OpenError, ServeEnd};
 use word_lines::fault::LineFault;
 
 /// Why the program came to its end.
@@ -55,21 +53,5 @@ impl From<ServeEnd> for End {
             ServeEnd::Output => End::Output,
             ServeEnd::Memory => End::Memory,
         }
-    }
-}
-
-impl From<WriteFailed> for End {
-    ghost from_gives = { λ _ e. e ≡ ends.Output };
-
-    fn from(_failed: WriteFailed) -> End {
-        End::Output
-    }
-}
-
-impl From<AllocError> for End {
-    ghost from_gives = { λ _ e. e ≡ ends.Memory };
-
-    fn from(_failed: AllocError) -> End {
-        End::Memory
     }
 }

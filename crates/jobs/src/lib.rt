@@ -38,7 +38,6 @@
 //! Tests: `job_tests`.
 #![tactic(auto)]
 
-mod answer;
 mod check;
 mod dump;
 mod ending;

@@ -1,16 +1,15 @@
 //! The sessions of a script race.
-ghost use Rattle.std.specs.Prelude.{◌≡◌, ◌++◌, IfOk, IfErr};
+ghost use Rattle.std.specs.Prelude.{◌≡◌, ◌++◌, IfOk};
 ghost use Rattle.jobs.specs.Prelude.{fault_line, header};
 ghost use Rattle.jobs.specs.Answers.{IsAnswered};
 ghost use Rattle.jobs.specs.Ends.{end_of};
-ghost use Rattle.jobs.specs.Races.{IsRace, IsUnraced, end_of_answer, text_of_answer, end_of_refusal};
+ghost use Rattle.jobs.specs.Races.{IsRace};
 
-use crate::answer::RaceAnswer;
 use crate::ending::End;
 use races::{FreshError, Gate, race_calls};
 use script::fault::TranscriptError;
 use script::scripts::read_script;
-use sessions::{Sink, Source, read_whole};
+use sessions::{ServeEnd, Sink, Source, read_whole, write_transcript, write_whole};
 use std::alloc::{AllocError, Global};
 use std::sync::Wait;
 use std::thread::Threads;
@@ -43,9 +42,7 @@ pub fn race_io<S: Source, K: Sink, R: Threads + Wait + Sync, G: Gate + Sync>(
 ) -> End
     ensures { IsAnswered (IsRace options) (S.reads input.old) (S.reads input.new) (K.writes output.old) (K.writes output.new) result }
 {
-    match raced(rt, alloc, options, gate, input, output) {
-        Ok(end) | Err(end) => end,
-    }
+    raced(rt, alloc, options, gate, input, output).unwrap_or_else(End::from)
 }
 
 fn raced<S: Source, K: Sink, R: Threads + Wait + Sync, G: Gate + Sync>(
@@ -55,35 +52,25 @@ fn raced<S: Source, K: Sink, R: Threads + Wait + Sync, G: Gate + Sync>(
     gate: &G,
     input: &mut S,
     output: &mut K,
-) -> Result<End, End>
+) -> Result<End, ServeEnd>
     ensures { IsAnswered (IsRace options) (S.reads input.old) (S.reads input.new) (K.writes output.old) (K.writes output.new) (end_of result) }
 {
     let text = read_whole(alloc, input)?;
-    let answer = answer_to(rt, alloc, options, gate, text.as_slice())?;
-    answer.write(alloc, options.format, output)?;
-    Ok(answer.end())
-}
-
-/// A race's answer to a script: its first fault, or the history of its calls.
-fn answer_to<R: Threads + Wait + Sync, G: Gate + Sync>(
-    rt: &R,
-    alloc: Global,
-    options: RaceOptions,
-    gate: &G,
-    text: &[u8],
-) -> Result<RaceAnswer, End>
-    ensures ok { IfOk result (λ answer. IsRace options text.now (end_of_answer answer) (text_of_answer options.format answer)) }
-    ensures err { IfErr result (IsUnraced options) }
-{
-    match read_script(alloc, text, options.sessions, options.format) {
+    match read_script(alloc, text.as_slice(), options.sessions, options.format) {
         Ok(calls) => match race_calls(rt, alloc, options.sessions, options.ring, calls, gate) {
-            Ok(events) => Ok(RaceAnswer::Events(events)),
-            Err(refused) => Err(end_of(refused)),
+            Ok(events) => {
+                write_transcript(alloc, output, options.format, events.as_slice())?;
+                Ok(End::Done)
+            }
+            Err(FreshError::Open(reason)) => Ok(End::Open(reason)),
+            Err(FreshError::NoMemory) => Ok(End::Memory),
+            Err(FreshError::Thread) => Ok(End::Thread),
         },
-        Err(TranscriptError::NoMemory) => Err(End::Memory),
+        Err(TranscriptError::NoMemory) => Ok(End::Memory),
         Err(TranscriptError::Fault { line, fault }) => {
             let text = fault_text(alloc, options.format, line, fault)?;
-            Ok(RaceAnswer::Fault { line, fault, text })
+            write_whole(output, text.as_slice())?;
+            Ok(End::Faulty { line, fault })
         }
     }
 }
@@ -101,15 +88,4 @@ fn fault_text(
     text.extend_from_slice(format.header())?;
     write_fault(&mut text, line, fault)?;
     Ok(text)
-}
-
-/// How a race ends that left nothing.
-fn end_of(refused: FreshError) -> End
-    ensures { result ≡ end_of_refusal refused }
-{
-    match refused {
-        FreshError::Open(reason) => End::Open(reason),
-        FreshError::NoMemory => End::Memory,
-        FreshError::Thread => End::Thread,
-    }
 }

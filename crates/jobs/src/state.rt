@@ -7,7 +7,7 @@ ghost use Rattle.jobs.specs.States.{IsState, is_whole};
 use crate::ending::End;
 use crate::verdicts::verdict_by;
 use report_lines::write_report;
-use sessions::{Sink, Source, read_whole, write_whole};
+use sessions::{ServeEnd, Sink, Source, read_whole, write_whole};
 use std::alloc::{AllocError, Global};
 use trace_check::checker::Checker;
 
@@ -24,10 +24,7 @@ impl Detail {
     fn is_whole(self) -> bool
         ensures { result ≡ is_whole self }
     {
-        match self {
-            Detail::Whole => true,
-            Detail::Live => false,
-        }
+        matches!(self, Detail::Whole)
     }
 }
 
@@ -43,9 +40,7 @@ pub fn state_io<S: Source, K: Sink>(
     ensures answered { IsAnswered (IsState detail) (S.reads input.old) (S.reads input.new) (K.writes output.old) (K.writes output.new) result }
     ensures memory { IsSilentAt result (K.writes output.old) (K.writes output.new) }
 {
-    match told(alloc, detail, input, output) {
-        Ok(end) | Err(end) => end,
-    }
+    told(alloc, detail, input, output).unwrap_or_else(End::from)
 }
 
 fn told<S: Source, K: Sink>(
@@ -53,7 +48,7 @@ fn told<S: Source, K: Sink>(
     detail: Detail,
     input: &mut S,
     output: &mut K,
-) -> Result<End, End>
+) -> Result<End, ServeEnd>
     ensures answered { IsAnswered (IsState detail) (S.reads input.old) (S.reads input.new) (K.writes output.old) (K.writes output.new) (end_of result) }
     ensures memory { IsSilentAt (end_of result) (K.writes output.old) (K.writes output.new) }
 {

@@ -1,8 +1,8 @@
 //! What is said of a transcript, apart from where it comes from and where the answer goes.
 ghost use Rattle.std.specs.Prelude.{◌≡◌, ◌<◌, ◌++◌, [], length, true, IfOk, OnOk, MatchResult, None, decimal, codes};
-ghost use Rattle.jobs.specs.Prelude.{Fails, IsFaulty, StandsFor, format_of, outcome, transcript_at};
+ghost use Rattle.jobs.specs.Prelude.{Fails, StandsFor, format_of, outcome, transcript_at};
 ghost use Rattle.jobs.specs.Verdicts.{IsVerdict, is_right};
-ghost use Rattle.jobs.specs.Judging.{IsJudged, IsNext, HasTakenText};
+ghost use Rattle.jobs.specs.Judging.{IsJudged, HasTakenText};
 
 use crate::ending::End;
 use json_lines::numbers::put_number;
@@ -83,48 +83,17 @@ fn judge_all(
     ensures { MatchResult result (IsJudged (outcome events.old) checker.new) (λ e. Fails e (outcome events.old)) }
 {
     let mut taken = 0u64;
-    loop {
-        match judge_next(alloc, events, checker)? {
-            Next::Right => taken += 1,
-            Next::Wrong { position } => {
-                read_out(alloc, events)?;
-                return Ok(Judged::Wrong { position });
-            }
-            Next::End => return Ok(Judged::Right { events: taken }),
-        }
-    }
-}
-
-/// A checker's word on the next event.
-enum Next {
-    /// It was taken.
-    Right,
-    /// It isn't right.
-    Wrong { position: u64 },
-    /// There is none.
-    End,
-}
-
-/// Reads the next event, and has the checker take it.
-fn judge_next(
-    alloc: Global,
-    events: &mut Events,
-    checker: &mut Checker,
-) -> Result<Next, TranscriptError>
-    ensures { MatchResult result (IsNext events.old events.new checker.old checker.new) (λ e. IsFaulty e events.old) }
-{
-    match events.next(alloc) {
-        None => Ok(Next::End),
-        Some(Err(e)) => Err(e),
-        Some(Ok(event)) => {
-            if checker.take(&event)? {
-                return Ok(Next::Right);
-            }
-            Ok(Next::Wrong {
+    while let Some(event) = events.next(alloc) {
+        let event = event?;
+        if !checker.take(&event)? {
+            read_out(alloc, events)?;
+            return Ok(Judged::Wrong {
                 position: event.position,
-            })
+            });
         }
+        taken += 1;
     }
+    Ok(Judged::Right { events: taken })
 }
 
 /// Reads what is left, for its fault alone.
