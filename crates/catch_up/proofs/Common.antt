@@ -16,8 +16,7 @@ pub use Rattle.std.specs.Option.{option_copied}
 pub use Rattle.timestamps.specs.declared.row.Row.{Row}
 pub use Rattle.version_chain.proofs.InSpans.{chain_among, chain_nowhere, rises_filtered}
 pub use Rattle.version_chain.proofs.Order.{after_trans, before_itself, before_neither, before_trans}
-pub use Rattle.version_chain.specs.Chains.{Entry, chain_in, chain_of, found_in, has_versions}
-pub use Rattle.version_chain.specs.Following.{IsLeft, IsStep, IsToCome, Walk, is_after_place, is_before}
-pub use Rattle.version_chain.specs.Stores.{IsNewestIn, Stored, after_of, is_committed, is_committed_in, version_in}
+pub use Rattle.version_chain.specs.Stores.{Entry, chain_in, chain_of, found_in, has_versions, IsNewestIn, Stored, after_of, is_committed, is_committed_in, version_in}
+pub use Rattle.version_chain.specs.Walking.{IsLeft, IsStep, IsToCome, Walk, is_after_place, is_before}
 pub use Rattle.version_chain.specs.Versions.{IsNewestOf, IsNoneUpTo, version_of}
 pub use Rattle.version_chain.specs.declared.chain.Version.{Version}

@@ -2,8 +2,8 @@
 use Rattle.catch_up.proofs.Common.{After, Entry, IsIn, IsNewestOf, IsNoneUpTo, IsRowIn, RisingKeys, RisingRows, Row, Span, Stored, Version, both_ways, by_test, chain_among, chain_in, chain_nowhere, chain_of, common_steps, has, has_in, has_versions, in_span, keys_of, length-append, newest_only, option_copied, rises_append, rises_filtered, version_in}
 use Rattle.std.proofs.Common.{append_assoc, Bool, Bor, List, None, Option, Some, [], ap, arith, false, length, refl, subst, sym, true, ◌&&◌, ℕ, ◌<◌, ◌≤◌, ◌≡◌, ◌++◌, ◌∷◌, ◌∙◌}
 use Rattle.std.specs.Prelude.{MatchOption, IfSome, filter, is_some}
-use Rattle.spans.specs.Newest.{newest}
-use Rattle.catch_up.specs.Firsts.{AreFirstsIn, IsFirstIn, is_past, one_in, value_in}
+use Rattle.spans.specs.Versions.{newest}
+use Rattle.catch_up.specs.Left.{AreFirstsIn, IsFirstIn, is_past, one_in, value_in}
 
 -- what the store has of a key
 abbrev pub found_at : Stored → ℕ → List ℕ → After

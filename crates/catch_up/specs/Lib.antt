@@ -1,4 +1,2 @@
 pub mod Prelude
 pub mod Left
-pub mod Firsts
-pub mod Heads

@@ -1,8 +1,7 @@
 //! The next rows after a place of a span with few keys, read off their chains.
 ghost use Rattle.std.specs.Prelude.{◌≡◌, ◌≤◌, ◌+◌, ℕ, [], IfOk, MatchOption, OnOk, Some, length, nat_lt};
-ghost use Rattle.catch_up.specs.Left.{AreNextIn};
-ghost use Rattle.version_chain.specs.Following.{is_before};
-ghost use Rattle.catch_up.specs.Heads.{AreHeads, IsCut, IsFirstDue, IsHeadAdded, IsNoneDue};
+ghost use Rattle.catch_up.specs.Left.{AreNextIn, AreHeads, IsCut, IsFirstDue, IsHeadAdded, IsNoneDue};
+ghost use Rattle.version_chain.specs.Walking.{is_before};
 
 use crate::rows::row_of;
 use spans::span::Span;

@@ -6,8 +6,7 @@ use Rattle.std.proofs.lemmas.Cmp.{nat_cmp_total, tied_itself}
 use Rattle.spans.specs.Transactions.{least_of}
 use Rattle.spans.proofs.Open.{IsAmong}
 use Rattle.spans.proofs.Horizon.{least_low}
-use Rattle.closing.specs.Standing.{newest_first, protection}
-use Rattle.closing.specs.Ties.{is_just, pair_cmp}
+use Rattle.closing.specs.Standing.{newest_first, protection, is_just, pair_cmp}
 use Rattle.closing.proofs.Tying.{AreAlike}
 
 -- the timestamps that are protected

@@ -3,8 +3,7 @@ use Rattle.closing.proofs.Common.{AllByRecursion, IsStrictlySortedBy, Less, Prot
 use Rattle.std.proofs.Common.{Bool, List, None, ap, arith, refl, subst, ℕ, ◌+◌, ◌<◌, ◌==◌, ◌≡◌, ◌++◌, ◌∷◌, []}
 use Rattle.std.specs.Prelude.{filter, is_some, not}
 use Rattle.std.proofs.lemmas.List.Elements.{filter-append}
-use Rattle.closing.specs.Standing.{newest_first, protection}
-use Rattle.closing.specs.Ties.{AreNumbered}
+use Rattle.closing.specs.Standing.{newest_first, protection, AreNumbered}
 
 -- a number above all comes last
 pub insert_last : (n t : ℕ) (es : List (ℕ × ℕ)) → AreNumbered n es → insert_entry nat_cmp es (n + 1) t ≡ es ++ (n + 1, t) ∷ []

@@ -1,7 +1,7 @@
 -- The two orders of the protections stay tied to each other.
 use Rattle.closing.proofs.Common.{common_steps, is_at, nat_cmp}
 use Rattle.std.proofs.Common.{Bool, None, Option, Some, arith, cond, false, true, ℕ, ◌≡◌}
-use Rattle.closing.specs.Ties.{is_just, pair_cmp}
+use Rattle.closing.specs.Standing.{is_just, pair_cmp}
 
 -- the set has just the timestamps that the map has, each with its number
 abbrev pub AreAlike : (ℕ × ℕ → Bool) → (ℕ → Option ℕ) → Type 0

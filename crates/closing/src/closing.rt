@@ -1,10 +1,11 @@
+//! The closed timestamp and the protections.
 ghost use Rattle.std.specs.Prelude.{◌≡◌, ◌==◌, ◌<◌, ◌≤◌, ◌∷◌, ℕ, [], IfOk, OnOk, OnErr, false, filter, map, max, not, reverse, suc};
 ghost use Rattle.std.specs.List.{list_any};
 ghost use Rattle.spans.specs.Collection.{Protection};
 ghost use Rattle.spans.specs.Report.{protection_report};
 ghost use Rattle.spans.specs.Transactions.{least_of};
 ghost use Rattle.kept.specs.Places.{or_min};
-ghost use Rattle.kept.specs.Table.{reach};
+ghost use Rattle.kept.specs.Finding.{reach};
 ghost use Rattle.closing.specs.Standing.{closed_in, entry_report, made_in, protections_in, protection};
 
 use spans::report::ProtectionReport;
@@ -23,8 +24,7 @@ pub struct Closing {
 }
 
 impl Model for Closing {
-    ghost use Rattle.closing.specs.Standing.{Standing, newest_first};
-    ghost use Rattle.closing.specs.Ties.{AreTied};
+    ghost use Rattle.closing.specs.Standing.{Standing, newest_first, AreTied};
 
     ghost Value = { Standing };
 

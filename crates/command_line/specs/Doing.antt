@@ -1,21 +1,49 @@
--- What the program does: which job runs on which devices, and which status it leaves (this project).
-use Rattle.std.specs.Prelude.{ℕ, List, ◌≡◌, ◌⊎◌, unwrap_or}
-use Rattle.command_line.specs.Prelude.{End, FollowEnd, IsSeedOf, IsUnseeded, Reads, Writes}
-use Rattle.jobs.specs.Answers.{IsAnswered, IsSilentAt}
-use Rattle.jobs.specs.Dumps.{IsDumped}
-use Rattle.jobs.specs.Ends.{IsRun}
+-- What the program does: which job runs on which devices, and the exit status that it leaves (this project).
+use Rattle.std.specs.Prelude.{ℕ, ◌≡◌, ◌≢◌, ◌⊎◌, ◌==◌, if◌then◌else◌, Option, Some, List, unwrap_or}
+use Rattle.clap.specs.declared.error.kind.ErrorKind.{ErrorKind}
+use Rattle.jobs.specs.Ends.{IsAnswered, IsSilentAt, IsRun}
+use Rattle.jobs.specs.Verdicts.{IsDumped, IsState, IsVerdict}
 use Rattle.jobs.specs.Races.{IsRace}
-use Rattle.jobs.specs.States.{IsState}
-use Rattle.jobs.specs.Verdicts.{IsVerdict}
 use Rattle.follow.specs.declared.options.FollowOptions.{FollowOptions}
-use Rattle.follow.specs.declared.options.Start.TheVariants as starts
 use Rattle.follow.specs.declared.seed.Seed.{Seed}
 use Rattle.follow.specs.declared.seed.SeedError.{SeedError}
 use Rattle.follow.specs.Ends.{CouldBegin, IsFollowed}
+use Rattle.clap.specs.declared.error.kind.ErrorKind.TheVariants as kinds
+use Rattle.jobs.specs.declared.ending.End.TheVariants as ends
+use Rattle.follow.specs.declared.ending.FollowEnd.TheVariants as follow_ends
+use Rattle.follow.specs.declared.options.Start.TheVariants as starts
+use Rattle.command_line.specs.Prelude.{End, FollowEnd, IsSeedOf, IsUnseeded, Reads, Writes}
 use Rattle.command_line.specs.declared.arguments.Job.{Job}
-use Rattle.command_line.specs.declared.arguments.Job.TheVariants as jobs
 use Rattle.command_line.specs.declared.following.Seeded.{Seeded}
-use Rattle.command_line.specs.Statuses.{status_of, status_of_check, status_of_follower}
+use Rattle.command_line.specs.declared.arguments.Job.TheVariants as jobs
+
+-- 0 where all was done, 2 for a faulty line, 3 for what is not right, and 1 where the program failed
+abbrev pub status_of : End → ℕ
+status_of ends.Done = 0
+status_of (ends.Right events) = 0
+status_of (ends.Faulty line fault) = 2
+status_of (ends.No position) = 3
+status_of _ = 1
+
+-- 3 also where a transcript is right, and has another number of events than it is to have
+abbrev pub status_of_check : Option ℕ → End → ℕ
+status_of_check (Some wanted) (ends.Right events) = if events == wanted then 0 else 3
+status_of_check _ end = status_of end
+
+-- the same of a follower, to which an input without a message is no failure
+abbrev pub status_of_follower : FollowEnd → ℕ
+status_of_follower follow_ends.Done = 0
+status_of_follower follow_ends.NoMessages = 0
+status_of_follower (follow_ends.Fault line fault) = 2
+status_of_follower _ = 1
+
+-- words were refused: clap answered them neither with help nor with the version
+abbrev pub IsRefusal : ErrorKind → Type 0
+IsRefusal kind = (kind ≢ kinds.DisplayHelp) × (kind ≢ kinds.DisplayVersion)
+
+-- words were answered with help or with the version
+abbrev pub IsShown : ErrorKind → Type 0
+IsShown kind = (kind ≡ kinds.DisplayHelp) ⊎ (kind ≡ kinds.DisplayVersion)
 
 -- what is followed from a seed on: the seed's span, timestamp and rows, and all else as it was asked for
 abbrev pub options_from : Seeded → Seed → FollowOptions

@@ -1,4 +1,3 @@
 pub mod Prelude
-pub mod Statuses
-pub mod Sentences
 pub mod Doing
+pub mod Sentences

@@ -1,8 +1,7 @@
 //! Each job of the program is done on its input and output: its end is told on standard error, and leaves an exit status.
 ghost use Rattle.std.specs.Prelude.{◌≡◌};
 ghost use Rattle.std.specs.Process.{exit_status};
-ghost use Rattle.command_line.specs.Doing.{Did, HasFollowedSeed};
-ghost use Rattle.command_line.specs.Statuses.{status_of, status_of_check};
+ghost use Rattle.command_line.specs.Doing.{Did, HasFollowedSeed, status_of, status_of_check};
 
 use crate::arguments::Job;
 use crate::dialects::Dialect;

@@ -3,7 +3,7 @@
 ghost use Rattle.std.specs.Prelude.{◌≡◌, ◌⊎◌};
 ghost use Rattle.std.specs.Process.{exit_status};
 ghost use Rattle.clap.specs.Values.{kind_of};
-ghost use Rattle.command_line.specs.Statuses.{IsRefusal, IsShown, status_of, status_of_follower};
+ghost use Rattle.command_line.specs.Doing.{IsRefusal, IsShown, status_of, status_of_follower};
 
 use crate::sentences::{MEMORY, OUTPUT, Sentence, sentence_of, sentence_of_follower};
 use clap::Error;

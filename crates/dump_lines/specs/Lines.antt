@@ -4,9 +4,8 @@ use Rattle.std.specs.List.{flat_map}
 use Rattle.timestamps.specs.declared.row.Row.{Row}
 use Rattle.spans.specs.declared.calls.commands.Cmd.{Cmd}
 use Rattle.spans.specs.declared.calls.commands.Cmd.TheVariants.{Close, Collect}
-use Rattle.word_lines.specs.Commands.{command_line}
-use Rattle.restarts.specs.Dump.{write_step}
-use Rattle.restarts.specs.Rows.{ended, started}
+use Rattle.word_lines.specs.Events.{command_line}
+use Rattle.restarts.specs.Dump.{write_step, ended, started}
 
 -- the lines of session 0's commands
 abbrev pub lines_of : List Cmd → List ℕ

@@ -23,8 +23,8 @@
 #![tactic(auto)]
 
 ghost use Rattle.std.specs.Prelude.{◌≡◌, ◌++◌, ◌∷◌, [], OnOk, OnErr};
-ghost use Rattle.json_lines.specs.Writing.{Keeps};
-ghost use Rattle.restarts.specs.Rows.{started};
+ghost use Rattle.json_lines.specs.Messages.{Keeps};
+ghost use Rattle.restarts.specs.Dump.{started};
 ghost use Rattle.dump_lines.specs.Lines.{close_text, end_text, lines_of, row_command, row_text};
 
 use json_lines::buffer::or_undo;

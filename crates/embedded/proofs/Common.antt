@@ -1,7 +1,6 @@
 -- The words that the proofs take from below.
 pub use Rattle.dump_lines.specs.Lines.{close_text, end_text, lines_of, row_command, row_text}
-pub use Rattle.engine.specs.Dumping.{first_row, next_left}
-pub use Rattle.engine.specs.Looking.{IsReached, value_version}
+pub use Rattle.engine.specs.Looking.{first_row, next_left, IsReached, value_version}
 pub use Rattle.restarts.specs.Dump.{mark_of}
 pub use Rattle.spans.proofs.Steps.{by_test}
 pub use Rattle.spans.specs.Collection.{horizon_of}
@@ -21,6 +20,6 @@ pub use Rattle.std.proofs.lemmas.Result.{IfOk-weaker}
 pub use Rattle.std.specs.List.{AllByRecursion, concat, flat_map}
 pub use Rattle.text_format.specs.declared.Format.TheVariants.{Two}
 pub use Rattle.timestamps.specs.declared.row.Row.{Row}
-pub use Rattle.word_lines.specs.Commands.{command_line}
+pub use Rattle.word_lines.specs.Events.{command_line}
 pub use Rattle.word_lines.specs.Reading.{command_at}
 pub use Rattle.word_lines.specs.Table.{table}

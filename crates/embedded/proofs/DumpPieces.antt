@@ -5,8 +5,7 @@ use Rattle.std.specs.Prelude.{min, nat_lt}
 use Rattle.embedded.specs.declared.dumping.DumpEnd.{DumpEnd}
 use Rattle.embedded.specs.declared.dumping.DumpPlace.{DumpPlace}
 use Rattle.embedded.specs.declared.dumping.DumpPiece.{DumpPiece}
-use Rattle.embedded.specs.DumpTexts.{AreTexts, IsEnd}
-use Rattle.embedded.specs.Dumping.{IsPiece, IsRestLeft, count_within, first_texts, piece_through, text_left, texts_through}
+use Rattle.embedded.specs.Dumping.{AreTexts, IsEnd, IsPiece, IsRestLeft, count_within, first_texts, piece_through, text_left, texts_through}
 use Rattle.embedded.proofs.DumpRows.{rest_left}
 
 module _ (p : List Effect) (at through room : ℕ) (end : DumpEnd) (is : IsEnd p at through end) (place : DumpPlace) (piece : DumpPiece) where

@@ -6,9 +6,9 @@ use Rattle.std.specs.Prelude.{filter, nat_le, nat_lt, option_map}
 use Rattle.spans.specs.Streams.{stream_of}
 use Rattle.spans.proofs.StreamOrder.{IsRowIn, RisingRows, in_stream, rows_clash, stream_rises}
 use Rattle.spans.proofs.Streaming.{RowsAbove, stream_above}
-use Rattle.version_chain.specs.Following.{is_after_place}
+use Rattle.version_chain.specs.Walking.{is_after_place}
 use Rattle.version_chain.proofs.Order.{after_trans, from_less}
-use Rattle.restarts.specs.Rows.{all_keys, ended, is_left, is_open, left_rows, row_commands, started}
+use Rattle.restarts.specs.Dump.{all_keys, ended, is_left, is_open, left_rows, row_commands, started}
 use Rattle.restarts.proofs.ByRows.{by_row}
 use Rattle.embedded.specs.declared.dumping.DumpPlace.{DumpPlace}
 use Rattle.embedded.specs.Dumping.{IsWholeLeft, first_texts, last_text, open_after, open_at, place_at_end, place_behind, place_of, row_texts, rows_behind, start, text_left, texts_through}

@@ -8,8 +8,7 @@ use Rattle.spans.proofs.Open.{begun_among}
 use Rattle.restarts.proofs.InRange.{at_most, each_low, first_low}
 use Rattle.embedded.specs.declared.dumping.DumpEnd.{DumpEnd}
 use Rattle.embedded.specs.declared.dumping.DumpPlace.{DumpPlace}
-use Rattle.embedded.specs.DumpTexts.{AreTexts, IsNextText, filled}
-use Rattle.embedded.specs.Dumping.{count_within, first_texts, fits, last_text, next_place, open_after, open_at, place_at_end, place_behind, place_of, row_texts, rows_behind, texts_through}
+use Rattle.embedded.specs.Dumping.{AreTexts, IsNextText, filled, count_within, first_texts, fits, last_text, next_place, open_after, open_at, place_at_end, place_behind, place_of, row_texts, rows_behind, texts_through}
 
 -- ---- where a dump closes
 

@@ -2,7 +2,7 @@
 use Rattle.std.proofs.Common.{◌≡◌, ℕ, ◌+◌, ◌<◌, ◌≤◌, List, [], ◌∷◌, ◌++◌, length, drop, set, map, get_or, arith, sym, ap, ◌∙◌, append_assoc, length-append, length-drop, drop-drop}
 use Rattle.std.specs.Int.{w16, to_le_bytes}
 use Rattle.embedded.proofs.Common.{AllByRecursion, Effect, append-nil, drop_more, flat_map, flat_map-append, length-map, length_push, map_push, set_at, value_version}
-use Rattle.embedded.specs.Versions.{IsKey, Leads, version_number, with_length}
+use Rattle.embedded.specs.Looks.{IsKey, Leads, version_number, with_length}
 
 -- the versions of keys, as they are told
 abbrev pub told_of : List Effect → ℕ → List (List ℕ) → List ℕ

@@ -14,8 +14,7 @@ unfoldable pub first_line : List ℕ → List ℕ
 first_line [] = []
 first_line (b ∷ bytes) = if b == 10 then b ∷ [] else b ∷ first_line bytes
 
--- the answer to a seat's command would have more bytes of rows or messages than are let through: 18446744073709551615 lets
--- all through
+-- the answer would have more bytes of rows or messages than are let through; 18446744073709551615 lets all through
 abbrev pub is_too_long : List Effect → (seat most : ℕ) → Cmd → Bool
 is_too_long p seat most cmd = not (most == 18446744073709551615) && is_long p seat most cmd
 

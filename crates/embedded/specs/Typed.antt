@@ -1,18 +1,22 @@
 -- Calls whose command is given in parts, and answers in numbers and bytes (this project's own).
-use Rattle.embedded.specs.Prelude.{Cmd, Event, Span, flat_map, to_le_bytes, w32, w64}
 use Rattle.std.specs.Prelude.{ℕ, List, [], ◌∷◌, ◌++◌, ◌≡◌, ◌⊎◌, length, is_some, Bool, true, false, Option, Some, None, Result, Ok, Err}
-use Rattle.spans.specs.declared.calls.commands.Cmd.TheVariants as command
 use Rattle.spans.specs.declared.calls.messages.Message.{Message}
-use Rattle.spans.specs.declared.calls.messages.Message.TheVariants as message
 use Rattle.spans.specs.declared.calls.replies.Refusal.{Refusal}
-use Rattle.spans.specs.declared.calls.replies.Refusal.TheVariants as refusal
 use Rattle.spans.specs.declared.calls.replies.Reply.{Reply}
+use Rattle.spans.specs.declared.calls.commands.Cmd.TheVariants as command
+use Rattle.spans.specs.declared.calls.messages.Message.TheVariants as message
+use Rattle.spans.specs.declared.calls.replies.Refusal.TheVariants as refusal
 use Rattle.spans.specs.declared.calls.replies.Reply.TheVariants as reply
+use Rattle.embedded.specs.Prelude.{Cmd, Event, Span, flat_map, to_le_bytes, w32, w64, effects_of, poll_count, scan_end, up_to}
 use Rattle.embedded.specs.Embedded.{HasStepped}
 use Rattle.embedded.specs.declared.database.Database.{Database}
 use Rattle.embedded.specs.declared.event_record.EventRecord.{EventRecord}
 use Rattle.embedded.specs.declared.typed.Answer.{Answer}
 use Rattle.embedded.specs.declared.typed.NoPosition.{NoPosition}
+use Rattle.embedded.specs.declared.bounded.Bounded.{Bounded}
+use Rattle.embedded.specs.declared.bounded.BoundedError.{BoundedError}
+use Rattle.embedded.specs.declared.bounded.Bounded.TheVariants as bounded
+use Rattle.embedded.specs.declared.bounded.BoundedError.TheVariants as unmade
 
 -- what a call of a seat's command does to a database that holds h
 abbrev pub MadeBy : List Event → ℕ → Cmd → Database → Result (Unit {0}) NoPosition → Database → Type 0
@@ -118,8 +122,7 @@ abbrev pub record_of : Option Event → EventRecord
 record_of None = record { position = 0; at = 0; number = 0; other = 0; seat = 0; command = 0; kind = 0 }
 record_of (Some e) = record { position = e.position; at = first_number e.cmd; number = (reply_numbers e.reply).number; other = (reply_numbers e.reply).other; seat = e.seat; command = command_number e.cmd; kind = (reply_numbers e.reply).kind }
 
--- the head of a message: what it is, its timestamp, and how many bytes of a key and of a value stand behind the head; each number has
--- its lowest byte first
+-- the head of a message: what it is, its timestamp, and the lengths of its key and value, each number's lowest byte first
 abbrev pub head : (kind at key value : ℕ) → List ℕ
 head kind at key value = kind ∷ to_le_bytes w64 at ++ to_le_bytes w32 key ++ to_le_bytes w32 value
 
@@ -186,3 +189,19 @@ abbrev pub is_read : Cmd → Bool
 is_read (command.Get t x) = true
 is_read (command.ReadAt t x) = true
 is_read _ = false
+
+-- the longest beginning of the span of which a scan at t finds room
+abbrev pub span_within : List Event → ℕ → Span → (rows bytes : ℕ) → Span
+span_within h t span rows bytes = up_to (scan_end (effects_of h) t span rows bytes) span
+
+-- the command that is made after h: a scan of that, or a poll of so many messages as find room
+abbrev pub command_within : List Event → Bounded → Cmd
+command_within h (bounded.Scan ts span rows bytes) = command.Scan ts (span_within h ts span rows bytes)
+command_within h (bounded.ScanAt t span rows bytes) = command.ScanAt t (span_within h t span rows bytes)
+command_within h (bounded.Poll feed max bytes) = command.Poll feed (poll_count (effects_of h) feed max bytes)
+
+-- what a call of a seat's command does to a database that holds h. A position is asked for before memory
+abbrev pub MadeWithin : List Event → ℕ → Bounded → Database → Result (Unit {0}) BoundedError → Database → Type 0
+MadeWithin h by cmd old (Ok _) new = HasStepped h by (command_within h cmd) new
+MadeWithin h by cmd old (Err unmade.NoMemory) new = (new ≡ old) × (length h ≡ 18446744073709551615 → ⊥)
+MadeWithin h by cmd old (Err unmade.NoPosition) new = (new ≡ old) × (length h ≡ 18446744073709551615)

@@ -9,7 +9,7 @@
 //! ```
 ghost use Rattle.std.specs.Prelude.{◌≡◌, ◌<◌, List, IfOk, OnErr};
 ghost use Rattle.embedded.specs.Prelude.{Event, poll_count};
-ghost use Rattle.embedded.specs.Bounded.{MadeWithin, command_within, span_within};
+ghost use Rattle.embedded.specs.Typed.{MadeWithin, command_within, span_within};
 ghost use Rattle.embedded.specs.Embedded.{StandsFor};
 ghost use Rattle.embedded.specs.declared.bounded.BoundedError.TheVariants.{NoMemory};
 

@@ -15,13 +15,24 @@ use word_lines::events::{write_echo, write_event};
 use word_lines::fault::{LineFault, ReadError};
 
 /// A database with the last event that it made.
-#[derive(Drop)]
 pub struct Database {
     pub(crate) alloc: Global,
     pub(crate) engine: Engine,
     pub(crate) last: Option<Event>,
     /// The last event's text, empty until it is written.
     pub(crate) text: Vec<u8>,
+}
+
+// for the proof, which has no case for each part of it where a database is dropped
+impl Drop for Database {
+    fn drop(self) {
+        let Database {
+            alloc: _,
+            engine: _,
+            last: _,
+            text: _,
+        } = self;
+    }
 }
 
 /// Why a call has no text to show.

@@ -9,7 +9,7 @@
 ghost use Rattle.std.specs.Prelude.{List, IfOk, map, filter, ◌==◌, ◌≡◌};
 ghost use Rattle.embedded.specs.Prelude.{Event, FeedReport, TransactionReport};
 ghost use Rattle.embedded.specs.Embedded.{StandsFor};
-ghost use Rattle.embedded.specs.Held.{AreHeldBy, held_feed, held_in, held_protection, held_transaction};
+ghost use Rattle.embedded.specs.Looks.{AreHeldBy, held_feed, held_in, held_protection, held_transaction};
 
 use crate::database::Database;
 use spans::report::{FeedReport, ProtectionReport, Report, TransactionReport};

@@ -2,7 +2,7 @@
 ghost use Rattle.std.specs.Prelude.{List, IfOk, ◌≡◌};
 ghost use Rattle.embedded.specs.Prelude.{ArePlaces, Event, effects_of, feed_floor};
 ghost use Rattle.embedded.specs.Embedded.{StandsFor};
-ghost use Rattle.embedded.specs.States.{IsStateText};
+ghost use Rattle.embedded.specs.Looks.{IsStateText};
 
 use crate::database::Database;
 use engine::Places;

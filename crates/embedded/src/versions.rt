@@ -12,7 +12,7 @@
 ghost use Rattle.std.specs.Prelude.{List, MatchOption, IfOk, OnErr, length, drop, ◌≡◌, ◌+◌, ◌<◌, ◌≤◌};
 ghost use Rattle.embedded.specs.Prelude.{Event, effects_of, horizon_of, value_version};
 ghost use Rattle.embedded.specs.Embedded.{StandsFor};
-ghost use Rattle.embedded.specs.Versions.{AreVersionsAt, IsKey, Leads, NoneLeads, version_number};
+ghost use Rattle.embedded.specs.Looks.{AreVersionsAt, IsKey, Leads, NoneLeads, version_number};
 
 use crate::database::Database;
 use std::alloc::AllocError;

@@ -7,10 +7,9 @@ use Rattle.spelled_words.specs.declared.fault.LineFault.{LineFault}
 use Rattle.spelled_words.specs.declared.fault.ReadError.{ReadError}
 use Rattle.spelled_words.specs.declared.fault.ReadError.TheVariants as errors
 use Rattle.word_lines.specs.Reading.{◌>>=◌}
-use Rattle.script.specs.Lines.{lines_of}
-use Rattle.script.specs.EventLines.{row_line_at}
+use Rattle.script.specs.EventLines.{lines_of, row_line_at}
 use Rattle.script.proofs.CutLines.{lines_none}
-use Rattle.embedded_replica.specs.Seeds.{pairs_of_lines, pairs_at}
+use Rattle.embedded_replica.specs.Consumers.{pairs_of_lines, pairs_at}
 
 -- rows that were read, and those that are read behind them
 abbrev pub behind : Pairs → Result Pairs LineFault → Result Pairs LineFault

@@ -1,27 +1,29 @@
--- What a consumer that is called by text holds, and what each call does to it (this project's own).
-use Rattle.std.specs.Prelude.{ℕ, List, [], Bool, true, false, ◌≡◌, ◌≢◌, ◌⊎◌, ◌<◌, ◌≤◌, nat_le, length, flat_map, if◌then◌else◌, Option, Some, None, option_and_then, Ok, Err}
-use Rattle.embedded_replica.specs.Prelude.{Cmd, Fault, Follows, IsFaultAt, MAX, Replica, Span, Start, Takes, Two, WantsMemory, byte_words_at, command_at, initial_start, row_line, seeded_start, table, test_of, view_in}
+-- What a consumer that is called by text holds, with which rows it begins, and what a call does (this project's own).
+use Rattle.std.specs.Prelude.{ℕ, List, [], Bool, true, false, ◌≡◌, ◌≢◌, ◌⊎◌, ◌<◌, ◌≤◌, nat_le, length, flat_map, if◌then◌else◌, Option, Some, None, option_and_then, Ok, Err, ◌∷◌, ◌||◌, nat_lt, Result}
 use Rattle.timestamps.specs.declared.key.TheConstants.{MAX_KEY_BYTES}
 use Rattle.timestamps.specs.declared.key.KeyError.{KeyError}
 use Rattle.timestamps.specs.declared.key.KeyError.TheVariants.{KeyLength, NoMemory}
 use Rattle.spans.specs.declared.calls.commands.Cmd.TheVariants.{Open, OpenInitial, OpenEvery, OpenInitialEvery}
 use Rattle.spans.specs.declared.calls.messages.Message.{Message}
 use Rattle.json_lines.specs.declared.fault.MessageFault.{MessageFault}
-use Rattle.json_lines.specs.declared.fault.MessageFault.TheVariants as lines
-use Rattle.json_lines.specs.Memory.{MayWantMemory}
-use Rattle.json_lines.specs.Messages.{IsMessage, message_line}
-use Rattle.json_lines.specs.Tests.{message_at}
-use Rattle.json_lines.specs.Writing.{Copied}
-use Rattle.replica.specs.declared.fault.Fault.TheVariants as faults
-use Rattle.replica.specs.Faults.{AddsValue}
+use Rattle.json_lines.specs.Tests.{MayWantMemory, message_at}
+use Rattle.json_lines.specs.Messages.{IsMessage, message_line, Copied}
+use Rattle.replica.specs.Replicas.{AddsValue, ready_in}
 use Rattle.replica.specs.Rows.{AreRowsOf}
-use Rattle.replica.specs.Tests.{ready_in}
+use Rattle.spelled_words.specs.declared.fault.LineFault.{LineFault}
+use Rattle.word_lines.specs.Reading.{◌>>=◌}
+use Rattle.script.specs.EventLines.{lines_of, row_line_at}
+use Rattle.json_lines.specs.declared.fault.MessageFault.TheVariants as lines
+use Rattle.replica.specs.declared.fault.Fault.TheVariants as faults
+use Rattle.embedded_replica.specs.Prelude.{Cmd, Fault, Follows, IsFaultAt, MAX, Replica, Span, Start, Takes, Two, WantsMemory, byte_words_at, command_at, initial_start, row_line, seeded_start, table, test_of, view_in, IsSeedFault, MayBegin, Pairs}
 use Rattle.embedded_replica.specs.declared.consumer.Consumer.{Consumer}
 use Rattle.embedded_replica.specs.declared.consumer.Opening.{Opening}
 use Rattle.embedded_replica.specs.declared.consumer.BeginError.{BeginError}
-use Rattle.embedded_replica.specs.declared.consumer.BeginError.TheVariants as errors
 use Rattle.embedded_replica.specs.declared.consumer.TakeError.{TakeError}
+use Rattle.embedded_replica.specs.declared.consumer.SeedingError.{SeedingError}
+use Rattle.embedded_replica.specs.declared.consumer.BeginError.TheVariants as errors
 use Rattle.embedded_replica.specs.declared.consumer.TakeError.TheVariants as takes
+use Rattle.embedded_replica.specs.declared.consumer.SeedingError.TheVariants as seeding
 
 -- the replica of a consumer
 abbrev pub replica_of : Consumer → Replica
@@ -120,8 +122,7 @@ abbrev pub IsNoKey : List ℕ → KeyError → Type 0
 IsNoKey bytes KeyLength = (length bytes ≡ 0) ⊎ (MAX_KEY_BYTES < length bytes)
 IsNoKey bytes NoMemory = (24 < length bytes) × AreKey bytes
 
--- the value that the replica has at the key is shown, as far as there is room, or there is none at these bytes, which are a key,
--- and nothing is shown
+-- the replica's value at the key is shown, as far as there is room; or nothing is, because these bytes are a key without one
 abbrev pub Shows : Replica → List ℕ → (before after : List ℕ) → Option ℕ → Type 0
 Shows r key before after None = AreKey key × (view_in r key ≡ None) × (after ≡ before)
 Shows r key before after (Some n) = (value : List ℕ) × (view_in r key ≡ Some value) × Copied value before after n
@@ -131,3 +132,67 @@ pub record ShowsRows (r : Replica) (before after : List ℕ) (n : ℕ) : Type 0 
   pub rows : List (List ℕ × List ℕ)
   pub all : AreRowsOf (view_in r) rows
   pub shown : Copied (flat_map row_line rows) before after n
+
+-- the rows that lines tell, each as a scan's answer has it, or the first fault
+unfoldable pub pairs_of_lines : List (List ℕ) → Result Pairs LineFault
+pairs_of_lines [] = Ok []
+pairs_of_lines (line ∷ lines) = do
+  pair ← row_line_at Two line
+  others ← pairs_of_lines lines
+  Ok (pair ∷ others)
+
+-- the rows of a text
+abbrev pub pairs_at : List ℕ → Result Pairs LineFault
+pairs_at text = pairs_of_lines (lines_of text)
+
+-- of which span, and from which timestamp on, what is opened is a feed that isn't initial: none above the greatest timestamp
+abbrev pub seeded_at : Opening → Option (Span × ℕ)
+seeded_at o = if o.initial || nat_lt MAX o.cursor then None else Some (o.span, o.cursor)
+
+-- the same of a command
+abbrev pub seeded_of : Cmd → Option (Span × ℕ)
+seeded_of cmd = option_and_then seeded_at (opening_of cmd)
+
+-- the replica begins with the rows of the text, as one of the feed that the command opens
+pub record SeededBy (command : Cmd) (rows : List ℕ) (new : Replica) : Type 0 where
+  pub span : Span
+  pub cursor : ℕ
+  pub pairs : Pairs
+  pub opens : seeded_of command ≡ Some (span, cursor)
+  pub told : pairs_at rows ≡ Ok pairs
+  pub may : MayBegin span pairs
+  pub begins : Follows new (seeded_start span cursor pairs) []
+
+-- the same of the line's command
+pub record BeginsWith (line rows : List ℕ) (new : Replica) : Type 0 where
+  pub seat : ℕ
+  pub command : Cmd
+  pub read : command_at Two table 64 line ≡ Ok (seat, command)
+  pub begins : SeededBy command rows new
+
+-- the command opens a feed that isn't initial, and the rows of the text are at fault
+abbrev pub AreUnfit : Cmd → List ℕ → Fault → Type 0
+AreUnfit command rows fault =
+    (span : Span) × (cursor : ℕ) × (pairs : Pairs) × (seeded_of command ≡ Some (span, cursor)) × (pairs_at rows ≡ Ok pairs) × IsSeedFault span pairs fault
+
+-- why none begins by the command and the rows, by the first test that isn't passed. Memory may be wanting wherever it opens a feed
+abbrev pub IsUnseededBy : Cmd → List ℕ → SeedingError → Type 0
+IsUnseededBy command rows (seeding.Fault f) = ⊥
+IsUnseededBy command rows seeding.NoFeed = seeded_of command ≡ None
+IsUnseededBy command rows (seeding.Rows f) = (opened : Span × ℕ) × (seeded_of command ≡ Some opened) × (pairs_at rows ≡ Err f)
+IsUnseededBy command rows seeding.NotAfter = AreUnfit command rows faults.NotAfter
+IsUnseededBy command rows seeding.OutsideSpan = AreUnfit command rows faults.OutsideSpan
+IsUnseededBy command rows seeding.NoMemory = (opened : Span × ℕ) × (seeded_of command ≡ Some opened)
+
+-- the command of the line was read
+pub record IsUnseededAt (line rows : List ℕ) (error : SeedingError) : Type 0 where
+  pub seat : ℕ
+  pub command : Cmd
+  pub read : command_at Two table 64 line ≡ Ok (seat, command)
+  pub why : IsUnseededBy command rows error
+
+-- why none begins by the line and the rows; only a line that may want memory to be read, or opens a feed, may want it
+abbrev pub IsUnseeded : (line rows : List ℕ) → SeedingError → Type 0
+IsUnseeded line rows (seeding.Fault f) = command_at Two table 64 line ≡ Err f
+IsUnseeded line rows seeding.NoMemory = WantsMemory (byte_words_at Two table 64 line) ⊎ IsUnseededAt line rows seeding.NoMemory
+IsUnseeded line rows error = IsUnseededAt line rows error

@@ -7,7 +7,6 @@ pub use Rattle.spans.specs.declared.calls.commands.Cmd.{Cmd}
 pub use Rattle.spans.specs.declared.span.Span.{Span}
 pub use Rattle.text_format.specs.declared.Format.TheVariants.{Two}
 pub use Rattle.timestamps.specs.declared.ts.TheConstants.{MAX}
-pub use Rattle.word_lines.specs.Memory.{WantsMemory, byte_words_at}
-pub use Rattle.word_lines.specs.Reading.{command_at}
-pub use Rattle.word_lines.specs.Replies.{row_line}
+pub use Rattle.word_lines.specs.Reading.{WantsMemory, byte_words_at, command_at}
+pub use Rattle.word_lines.specs.Events.{row_line}
 pub use Rattle.word_lines.specs.Table.{table}

@@ -1,7 +1,7 @@
+//! The consumer of one feed.
 ghost use Rattle.std.specs.Prelude.{◌≡◌, Some, IfOk, IfErr, OnErr};
 ghost use Rattle.embedded_replica.specs.Prelude.{complete_in, through_in};
-ghost use Rattle.embedded_replica.specs.Consumers.{replica_of, opening_of, Begins, BeginsBy, IsUnopened, HasTaken, IsRefused, IsReady, IsNoMessage, IsNoKey, Shows, ShowsRows, IsUnopenedBy};
-ghost use Rattle.embedded_replica.specs.Seeds.{seeded_of, BeginsWith, SeededBy, IsUnseeded, IsUnseededBy};
+ghost use Rattle.embedded_replica.specs.Consumers.{replica_of, opening_of, Begins, BeginsBy, IsUnopened, HasTaken, IsRefused, IsReady, IsNoMessage, IsNoKey, Shows, ShowsRows, IsUnopenedBy, seeded_of, BeginsWith, SeededBy, IsUnseeded, IsUnseededBy};
 
 use crate::rows::{pairs_of, text_of};
 use json_lines::buffer::copy_front;
@@ -18,10 +18,19 @@ use word_lines::commands::read_command;
 use word_lines::fault::{LineFault, ReadError};
 
 /// The consumer of one feed: a replica of its span, with the program's heap.
-#[derive(Drop)]
 pub struct Consumer {
     alloc: Global,
     pub(crate) replica: Replica,
+}
+
+// for the proof, which has no case for each part of it where a consumer is dropped
+impl Drop for Consumer {
+    fn drop(self) {
+        let Consumer {
+            alloc: _,
+            replica: _,
+        } = self;
+    }
 }
 
 /// Why no consumer begins by a line.

@@ -1,8 +1,8 @@
 //! The rows of a replica as text: lines `row KEY VALUE`.
 ghost use Rattle.std.specs.Prelude.{◌≡◌, flat_map, IfOk};
 ghost use Rattle.word_lines.specs.Reading.{Gives};
-ghost use Rattle.word_lines.specs.Replies.{row_line};
-ghost use Rattle.embedded_replica.specs.Seeds.{pairs_at};
+ghost use Rattle.word_lines.specs.Events.{row_line};
+ghost use Rattle.embedded_replica.specs.Consumers.{pairs_at};
 
 use replica::KeysAndValues;
 use script::following::read_row;

@@ -1,9 +1,8 @@
 -- The words that the proofs take from below.
 pub use Rattle.closing.specs.Standing.{Standing, closed_in, protections_in}
 pub use Rattle.feed.proofs.Serving.{is_moved, is_opened, uncut}
-pub use Rattle.feed.specs.Live.{cut_at_max, opened_at}
-pub use Rattle.feed.specs.Room.{IsFeedCount, count_or}
-pub use Rattle.feed.specs.Standing.{IsPolledBy, IsPut, opened_in, place_in}
+pub use Rattle.feed.specs.Standing.{cut_at_max, opened_at, IsPolledBy, IsPut, opened_in, place_in}
+pub use Rattle.feed.specs.Firsts.{IsFeedCount, count_or}
 pub use Rattle.kept.proofs.Floors.{least_floor_is, place_floor_is, placed_by}
 pub use Rattle.kept.proofs.Refusals.{refusal_is, used_is}
 pub use Rattle.kept.specs.Answered.{IsAnswered, IsReplyOf, IsStep, IsWanting}
@@ -12,8 +11,7 @@ pub use Rattle.kept.specs.Finding.{AreKeysOf, is_seen_blocked, kept_committed, s
 pub use Rattle.kept.specs.Places.{AreLeft, AreNext, IsLeastFloor, or_min, place_floor}
 pub use Rattle.kept.specs.Replies.{kept_opening_tests, messages_left, open_reply, poll_place, poll_reply}
 pub use Rattle.kept.specs.StandsFor.{StandsFor}
-pub use Rattle.mvto_rules.specs.Holding.{Steps, closing_of, holding, versions_of}
-pub use Rattle.mvto_rules.specs.Looking.{IsReachedIn, kept_value_version, value_at}
+pub use Rattle.mvto_rules.specs.Holding.{Steps, closing_of, holding, versions_of, IsReachedIn, kept_value_version, value_at}
 pub use Rattle.spans.proofs.Copies.{AllAllowed}
 pub use Rattle.spans.proofs.Dead.{committed_is, left_newest, older_dead}
 pub use Rattle.spans.proofs.Histories.{effect_count, gapless_more, made_at_most, opened_at_most, turned_more}

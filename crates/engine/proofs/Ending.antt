@@ -7,7 +7,7 @@ use Rattle.engine.proofs.Common.{nat_tests, After, AllAllowed, AreKeysOf, Effect
 use Rattle.spans.specs.Keys.{in_span}
 use Rattle.spans.proofs.Keyed.{IsIn, filter_in, filter_rises, filtered_same}
 use Rattle.kept.proofs.Reading.{blocked_is, seen_value}
-use Rattle.mvto_rules.specs.Room.{IsEnd, end_seen, end_within}
+use Rattle.mvto_rules.specs.Scans.{IsEnd, end_seen, end_within}
 use Rattle.engine.specs.Room.{scan_end}
 
 -- a read stops at the key, or finds a value there

@@ -7,12 +7,11 @@ use Rattle.spans.specs.declared.report.Holder.TheVariants as holders
 use Rattle.spans.specs.declared.report.Limit.{Limit}
 use Rattle.spans.proofs.Horizon.{least_join}
 use Rattle.kept.specs.StandsFor as keeping
-use Rattle.kept.specs.Table as table
+use Rattle.kept.specs.Finding as table
 use Rattle.kept.proofs.AfterCloses.{open_is}
-use Rattle.mvto_rules.specs.Reaching.{IsLimit}
-use Rattle.engine.specs.Layers.{kept_of}
+use Rattle.mvto_rules.specs.Holding.{IsLimit}
+use Rattle.engine.specs.Layers.{kept_of, HavePlaces}
 use Rattle.engine.specs.Looking.{ArePlaces, IsOldest, IsReached, feed_floor}
-use Rattle.engine.specs.Progress.{HavePlaces}
 use Rattle.engine.specs.declared.layers.Layers.{Layers}
 use Rattle.engine.specs.declared.looking.Places.{Places}
 

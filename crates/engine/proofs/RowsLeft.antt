@@ -6,11 +6,11 @@ use Rattle.std.specs.Prelude.{filter, is_some, take, ◌↔◌}
 use Rattle.spans.specs.Streams.{row_lt, stream_of}
 use Rattle.spans.proofs.StreamOrder.{IsRowIn, RisingRows, rows_clash, in_stream, stream_rises}
 use Rattle.kept.specs.StandsFor as keeping
-use Rattle.restarts.specs.Rows.{all_keys, is_left}
+use Rattle.restarts.specs.Dump.{all_keys, is_left}
 use Rattle.restarts.proofs.Alike.{committed_begun}
-use Rattle.version_chain.specs.Following.{is_after_place}
+use Rattle.version_chain.specs.Walking.{is_after_place}
 use Rattle.catch_up.specs.Left.{AreLeftIn, AreNextIn}
-use Rattle.engine.specs.Dumping.{IsLeftBehind, IsNextRow, first_row, next_left}
+use Rattle.engine.specs.Looking.{IsLeftBehind, IsNextRow, first_row, next_left}
 use Rattle.engine.specs.Layers.{kept_of}
 use Rattle.engine.specs.declared.layers.Layers.{Layers}
 use Rattle.engine.proofs.Versions.{left_is}

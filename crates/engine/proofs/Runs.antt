@@ -1,7 +1,7 @@
 -- A run's list of events grows at its end.
 use Rattle.std.proofs.Common.{◌≡◌, ℕ, List, [], ◌∷◌, ◌++◌, map, refl, ap}
 use Rattle.engine.proofs.Common.{Cmd, Event}
-use Rattle.engine.specs.Runs.{call_of}
+use Rattle.engine.specs.Engine.{call_of}
 
 -- the call of one more event was the next of those to come
 pub calls_more : (es : List Event) (e : Event) (rest : List (ℕ × Cmd)) → map call_of (es ++ e ∷ []) ++ rest ≡ map call_of es ++ call_of e ∷ rest

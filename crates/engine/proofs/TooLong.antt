@@ -2,8 +2,8 @@
 use Rattle.std.proofs.Common.{Bool, Bor, List, None, Option, Some, [], ap, not, refl, true, ℕ, ◌∙◌, ◌∷◌, ◌≡◌}
 use Rattle.engine.proofs.Common.{BelowHorizon, Effect, IsKeptOf, Kept, NotClosed, is_some, option_copied, refusal_is, snapshot_tests, transaction_tests}
 use Rattle.std.specs.Prelude.{nat_lt, ◌&&◌}
-use Rattle.kept.specs.Table.{refusal}
-use Rattle.mvto_rules.specs.Snapshots.{snapshot_refusal}
+use Rattle.kept.specs.Finding.{refusal}
+use Rattle.mvto_rules.specs.Scans.{snapshot_refusal}
 use Rattle.engine.specs.Room.{passes}
 
 -- those of a transaction

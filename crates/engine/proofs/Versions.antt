@@ -3,7 +3,7 @@ use Rattle.std.proofs.Common.{List, None, Some, ap, arith, false, inl, inr, refl
 use Rattle.std.specs.Prelude.{is_some, nat_le, nat_lt}
 use Rattle.std.proofs.lemmas.Grind.{common_steps}
 use Rattle.engine.proofs.Common.{After, AllAllowed, Effect, IsKeptOf, Kept, both_ways, by_test, committed_is, committed_version_of, horizon_of, is_committed, is_dead, kept_committed, kept_value_version, left_newest, left_version_of, nat_tests, newest_fewer, newest_is, newest_reaches, newest_same, older_dead, value_at, version_name, version_wrote}
-use Rattle.spans.specs.Newest.{Version, newest}
+use Rattle.spans.specs.Versions.{Version, newest}
 use Rattle.kept.proofs.Dead.{committed_stands, high_live, kept_is}
 use Rattle.engine.specs.Looking.{known_version, value_version}
 

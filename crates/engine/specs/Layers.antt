@@ -1,8 +1,12 @@
--- What the layers of an engine hold, as what is kept of a history.
-use Rattle.std.specs.Prelude.{List, length, ℕ, ◌≡◌}
-use Rattle.engine.specs.Prelude.{Event, Kept, Standing, holding, opened_in, place_in}
+-- What the layers of an engine hold, as what is kept of a history, and how far they have come.
+use Rattle.std.specs.Prelude.{List, length, ℕ, ◌≡◌, Option}
+use Rattle.kept.specs.Places.{IsLeastFloor}
+use Rattle.kept.specs.Finding.{IsOldest}
+use Rattle.mvto_rules.specs.Holding.{horizon_of, IsReachedIn, IsLimit}
 use Rattle.kept.specs.StandsFor as keeping
+use Rattle.engine.specs.Prelude.{Event, Kept, Standing, holding, opened_in, place_in, closed_in, closing_of, transactions_of}
 use Rattle.engine.specs.declared.layers.Layers.{Layers}
+use Rattle.engine.specs.declared.looking.Places.{Places}
 
 -- what the feeds are, and nothing else
 abbrev pub feeds_of : Standing → Kept
@@ -20,3 +24,11 @@ pub record StandsFor (e : Layers) (steps : ℕ) (h : List Event) : Type 0 where
 -- of some history
 abbrev pub HasHistory : Layers → ℕ → Type 0
 HasHistory e steps = (h : List Event) × StandsFor e steps h
+
+-- by what each layer holds
+pub record HavePlaces (e : Layers) (places : Places) : Type 0 where
+  pub closed : places.closed ≡ closed_in (closing_of e.rules)
+  pub horizon : places.horizon ≡ horizon_of e.rules
+  pub limit : (floor : Option ℕ) × IsLeastFloor (place_in e.feeds) floor × IsLimit (closing_of e.rules) floor places.limit
+  pub oldest : IsOldest (transactions_of e.rules) places.oldest
+  pub reached : IsReachedIn (kept_of e) places.reached

@@ -1,11 +1,11 @@
 -- The words that the specifications take from below.
 pub use Rattle.closing.specs.Standing.{closed_in}
-pub use Rattle.feed.specs.Room.{IsFeedCount, count_or}
+pub use Rattle.feed.specs.Firsts.{IsFeedCount, count_or}
 pub use Rattle.feed.specs.Standing.{Standing, opened_in, place_in}
 pub use Rattle.kept.specs.Answered.{IsStep}
 pub use Rattle.kept.specs.Replies.{feed_refusal, kept_opening_tests}
 pub use Rattle.mvto_rules.specs.Holding.{closing_of, holding, transactions_of, versions_of}
-pub use Rattle.mvto_rules.specs.Room.{IsEnd, end_within}
+pub use Rattle.mvto_rules.specs.Scans.{IsEnd, end_within}
 pub use Rattle.spans.specs.Answer.{first_refusal, is_gap, snapshot_tests, transaction_tests}
 pub use Rattle.spans.specs.Collection.{floor_of, horizon_of, live_feed}
 pub use Rattle.spans.specs.Effects.{Effect, effects_of, event, open_cmd}

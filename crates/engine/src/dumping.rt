@@ -12,7 +12,7 @@
 ghost use Rattle.std.specs.Prelude.{◌≡◌, IfOk, List};
 ghost use Rattle.std.specs.Option.{option_copied};
 ghost use Rattle.engine.specs.Prelude.{Event, effects_of};
-ghost use Rattle.engine.specs.Dumping.{next_left};
+ghost use Rattle.engine.specs.Looking.{next_left};
 
 use crate::Engine;
 use catch_up::next_rows;

@@ -69,11 +69,20 @@ use spans::report::Report;
 use std::alloc::{AllocError, Global};
 
 /// The layers, with a count of the commands that were answered.
-#[derive(Drop)]
 pub struct Engine {
     layers: Layers,
     steps: u64,
     ghost stands: { ∥ HasHistory layers steps ∥₁ },
+}
+
+// for the proof, which has no case for each part of it where an engine is dropped
+impl Drop for Engine {
+    fn drop(self) {
+        let Engine {
+            layers: _,
+            steps: _,
+        } = self;
+    }
 }
 
 impl Engine {

@@ -2,7 +2,7 @@
 ghost use Rattle.std.specs.Prelude.{◌≡◌, List, [], ◌∷◌, ◌+◌, ◌<◌, ◌≤◌, map, reverse, IfOk, IsOk, vec_capacity, vec_len};
 ghost use Rattle.spans.specs.declared.calls.events.Event.{Event};
 ghost use Rattle.spans.specs.Legal.{IsGapless};
-ghost use Rattle.engine.specs.Runs.{call_of};
+ghost use Rattle.engine.specs.Engine.{call_of};
 
 use crate::Engine;
 use spans::calls::{Cmd, Event};

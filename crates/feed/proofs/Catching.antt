@@ -4,7 +4,7 @@ use Rattle.std.specs.Prelude.{nat_lt}
 use Rattle.feed.proofs.Common.{AreNextFirsts, AreNextIn, Kept, Place, Row, Stored, VersionName, and_from, and_parts, by_test, is_after_name, is_committed_in, is_past, length-take, lt-ltb, ltb-true, name_lt, nat_tests, or_left, take_both, version_in}
 use Rattle.spans.specs.KeyOrder.{key_lt}
 use Rattle.kept.proofs.LeftRows.{parts_left}
-use Rattle.version_chain.specs.Following.{is_after_place}
+use Rattle.version_chain.specs.Walking.{is_after_place}
 use Rattle.feed.specs.Firsts.{AreNextFirstsAt, AreNextStoredAt, IsLeftAt, IsNoneLeft, is_row_above, key_at}
 use Rattle.feed.specs.Standing.{AreNextAt}
 

@@ -1,7 +1,7 @@
 -- The least floor is that of the first by floor.
 use Rattle.std.proofs.Common.{Bool, None, Option, Some, arith, false, refl, sym, true, ℕ, ◌≡◌, ◌∙◌}
 use Rattle.feed.proofs.Common.{IsLeastFloor, Place, eqb-true, is_gt, nat_tests, place_floor}
-use Rattle.feed.specs.Ties.{is_floor, pair_cmp}
+use Rattle.feed.specs.Standing.{is_floor, pair_cmp}
 
 -- the set has just the floors of the feeds, each with its number
 abbrev AreAlike : (ℕ × ℕ → Bool) → (ℕ → Option Place) → Type 0

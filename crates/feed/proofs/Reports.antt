@@ -7,10 +7,9 @@ use Rattle.std.proofs.lemmas.List.Elements.{All-from_recursion, filter_map-appen
 use Rattle.std.proofs.lemmas.List.Sorted.{Contains-permutation, IsNonDecreasingBy-from_sort, IsPermutation-sym}
 use Rattle.std.proofs.lemmas.Map.Keys.{IsDistinct-IsPermutation, IsStrictlyIncreasing-from_distinct}
 use Rattle.spans.specs.declared.report.FeedReport.{FeedReport}
-use Rattle.kept.specs.Lists.{AreThose}
+use Rattle.kept.specs.Finding.{AreThose}
 use Rattle.kept.proofs.Contained.{contains_has}
-use Rattle.feed.specs.Reports.{place_at}
-use Rattle.feed.specs.Standing.{Lives}
+use Rattle.feed.specs.Standing.{place_at, Lives}
 use Rattle.feed.proofs.Counting.{distinct, has_key}
 
 -- ---- the numbers

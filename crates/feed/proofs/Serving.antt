@@ -5,8 +5,7 @@ use Rattle.feed.proofs.Common.{Kept, Message, Place, Span, by_test, eqb-true, mo
 use Rattle.timestamps.specs.declared.ts.TheConstants.{MAX}
 use Rattle.spans.specs.declared.kind.Kind.{Kind}
 use Rattle.kept.specs.Changes.{IsMovedBy, IsOpenedAt}
-use Rattle.feed.specs.Live.{cut_at_max, opened_at}
-use Rattle.feed.specs.Standing.{IsPut, Standing, place_in}
+use Rattle.feed.specs.Standing.{cut_at_max, opened_at, IsPut, Standing, place_in}
 
 -- what is in the range of timestamps stays as it is
 pub uncut : (n : ℕ) → n ≤ MAX → cut_at_max n ≡ n

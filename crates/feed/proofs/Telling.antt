@@ -3,9 +3,8 @@ use Rattle.std.proofs.Common.{List, None, Option, Some, [], ap, get_or, length, 
 use Rattle.feed.proofs.Common.{Message, Place, Row, Stored, VersionName, last_name, last_resolved, moved, name_of, take-map, take_again, take_few, take_more}
 use Rattle.spans.specs.declared.calls.messages.Message.TheVariants as messages
 use Rattle.spans.proofs.Feeding.{last_join, resolved_join}
-use Rattle.feed.specs.Live.{arrived_at, due_at, due_in, row_or}
-use Rattle.feed.specs.Standing.{AreNextAt, IsPolledBy, IsPut, Standing, place_in}
-use Rattle.feed.specs.Telling.{IsTold}
+use Rattle.feed.specs.Standing.{arrived_at, due_at, due_in, row_or, AreNextAt, IsPolledBy, IsPut, Standing, place_in}
+use Rattle.feed.specs.Firsts.{IsTold}
 use Rattle.feed.specs.declared.live.telling.Told.{Told}
 
 -- the last row of some messages, or else that of before

@@ -2,7 +2,7 @@
 use Rattle.std.proofs.Common.{Bool, List, None, Option, Some, arith, cond, false, true, ℕ, ◌+◌, ◌≡◌}
 use Rattle.std.specs.Prelude.{nat_eq}
 use Rattle.feed.proofs.Common.{BTreeSet, Place, contains, is_at, lookup, nat_tests, place_floor}
-use Rattle.feed.specs.Ties.{AreTied, IsFloorMoved, pair_cmp}
+use Rattle.feed.specs.Standing.{AreTied, IsFloorMoved, pair_cmp}
 
 -- f became o
 abbrev pub IsSet : List (ℕ × Place) → List (ℕ × Place) → ℕ → Option Place → Type 0

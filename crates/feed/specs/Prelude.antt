@@ -1,5 +1,5 @@
 -- The words that the specifications take from below.
-pub use Rattle.kept.specs.Lists.{AreThose}
+pub use Rattle.kept.specs.Finding.{AreThose}
 pub use Rattle.kept.specs.Places.{AreFirsts, AreLeft, AreStored, IsFirst, IsLeastFloor, moved, place_floor, row_floor}
 pub use Rattle.kept.specs.Replies.{messages_left}
 pub use Rattle.kept.specs.Reports.{AreLive, complete_at, feed_report, resolved_at, told_through}

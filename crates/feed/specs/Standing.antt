@@ -1,8 +1,41 @@
--- The feeds that live, and how many were opened.
-use Rattle.std.specs.Prelude.{List, None, Option, false, if◌then◌else◌, is_some, length, nat_eq, option_map, take, ℕ, ◌==◌, ◌≡◌, Some}
-use Rattle.feed.specs.Prelude.{AreLeft, AreThose, Message, Place, Row, Stored, is_committed_in, lookup, messages_left, moved, version_in}
+-- The feeds that live, each seen as its place, how many were opened, and what a report tells of them.
+use Rattle.std.specs.Prelude.{List, None, Option, Some, [], if◌then◌else◌, min, ℕ, ◌∷◌, false, is_some, length, nat_eq, option_map, take, ◌==◌, ◌≡◌, Bool, true, ◌≤◌}
+use Rattle.std.specs.BTreeMap.{is_at}
+use Rattle.std.specs.BTreeSet.{BTreeSet, contains}
+use Rattle.std.specs.Ordering.{nat_cmp, ordering_then}
+use Rattle.std.specs.declared.cmp.Ordering.{Ordering}
+use Rattle.spans.specs.declared.kind.Kind.{Kind}
+use Rattle.spans.specs.declared.span.Span.{Span}
+use Rattle.spans.specs.declared.report.FeedReport.{FeedReport}
+use Rattle.spans.specs.declared.calls.messages.Message.TheVariants as messages
+use Rattle.feed.specs.Prelude.{MAX, Message, Place, VersionName, is_due, start_at, AreLeft, AreThose, Row, Stored, is_committed_in, lookup, messages_left, moved, version_in, feed_report, place_floor}
 use Rattle.feed.specs.declared.poll_error.PollError.{PollError}
 use Rattle.feed.specs.declared.poll_error.PollError.TheVariants.{NoFeed, NoMemory, NotOwner}
+
+-- a number above the greatest timestamp counts as that
+abbrev pub cut_at_max : ℕ → ℕ
+cut_at_max n = min n MAX
+
+-- a feed that has just opened
+abbrev pub opened_at : ℕ → Kind → Span → ℕ → Place
+opened_at seat kind span cursor = record { seat = seat; kind = kind; span = span; cursor = cursor; after = start_at kind cursor; row = None }
+
+-- the last row that was told, where there was one
+abbrev pub row_or : Option VersionName → Option VersionName → Option VersionName
+row_or None o = o
+row_or (Some n) o = Some n
+
+-- the place is behind messages
+abbrev pub arrived_at : ℕ → Option VersionName → Place → Place
+arrived_at after row place = record { seat = place.seat; kind = place.kind; span = place.span; cursor = place.cursor; after = after; row = row_or row place.row }
+
+-- the resolved message that is due
+abbrev pub due_in : Place → ℕ → List Message
+due_in place closed = if is_due place.kind place.after closed then messages.Resolved closed ∷ [] else []
+
+abbrev pub due_at : Option ℕ → List Message
+due_at None = []
+due_at (Some t) = messages.Resolved t ∷ []
 
 -- feeds by number, each with its place
 abbrev pub Lives : Type 0
@@ -32,8 +65,7 @@ pub record IsCountOf (s : Standing) (n : ℕ) : Type 0 where
   pub those : AreThose (λ f. is_some (place_in s f)) feeds
   pub count : length feeds ≡ n
 
--- f lives and is the seat's. It told the first of the rows that are left for it in the store, and the resolved message where
--- it is due; its place is behind them
+-- f lives and is the seat's. It told the first rows left for it and the resolved message, where due; its place is behind
 pub record IsPolledBy (store : Stored) (s s' : Standing) (seat f closed max : ℕ) (ms : List Message) : Type 0 where
   pub place : Place
   pub lives : place_in s f ≡ Some place
@@ -54,3 +86,28 @@ pub record AreNextAt (store : Stored) (place : Place) (through n : ℕ) (rows : 
   pub all : List Row
   pub left : AreLeft (version_in store) (is_committed_in store) place through all
   pub first : rows ≡ take n all
+
+-- the place of a feed that lives
+abbrev pub place_at : Lives → ℕ → Option Place
+place_at live f = lookup (nat_eq f) live
+
+-- what is told of it
+abbrev pub report_at : Lives → ℕ → Option FeedReport
+report_at live f = option_map (feed_report f) (place_at live f)
+
+-- by floor, and then by number
+abbrev pub pair_cmp : ℕ × ℕ → ℕ × ℕ → Ordering
+pair_cmp p q = ordering_then (nat_cmp p.0 q.0) (nat_cmp p.1 q.1)
+
+-- the feed lives, and its floor is t
+abbrev pub is_floor : Option Place → ℕ → Bool
+is_floor None t = false
+is_floor (Some place) t = place_floor place == t
+
+-- the floor of f was b and is a, and the others are as they were
+abbrev pub IsFloorMoved : BTreeSet (ℕ × ℕ) → BTreeSet (ℕ × ℕ) → ℕ → ℕ → ℕ → Type 0
+IsFloorMoved floors floors' f b a = (q : ℕ × ℕ) → contains pair_cmp floors' q ≡ (if is_at (pair_cmp (a, f)) q then true else (if is_at (pair_cmp (b, f)) q then false else contains pair_cmp floors q))
+
+pub record AreTied (opened : ℕ) (live : Lives) (floors : BTreeSet (ℕ × ℕ)) : Type 0 where
+  pub numbered : (f : ℕ) (place : Place) → lookup (nat_eq f) live ≡ Some place → f ≤ opened
+  pub each : (t f : ℕ) → contains pair_cmp floors (t, f) ≡ is_floor (lookup (nat_eq f) live) t

@@ -1,10 +1,9 @@
+//! All live feeds.
 ghost use Rattle.std.specs.Prelude.{true, ◌≡◌, ◌<◌, ℕ, None, Some, is_some, option_map, suc, IfErr, IfOk, OnOk, OnErr};
 ghost use Rattle.std.specs.BTreeSet.{contains};
 ghost use Rattle.feed.specs.Prelude.{AreLive, IsLeastFloor, place_floor};
-ghost use Rattle.feed.specs.Live.{cut_at_max, opened_at};
-ghost use Rattle.feed.specs.Standing.{opened_in, place_in, seat_in, IsPut, IsPolledBy, IsUnpolled, IsCountOf};
-ghost use Rattle.feed.specs.Room.{IsFeedCount};
-ghost use Rattle.feed.specs.Ties.{IsFloorMoved, pair_cmp};
+ghost use Rattle.feed.specs.Standing.{cut_at_max, opened_at, opened_in, place_in, seat_in, IsPut, IsPolledBy, IsUnpolled, IsCountOf, IsFloorMoved, pair_cmp};
+ghost use Rattle.feed.specs.Firsts.{IsFeedCount};
 
 use crate::live::LiveFeed;
 use crate::live::telling::Told;
@@ -32,8 +31,7 @@ pub struct Feeds {
 }
 
 impl Model for Feeds {
-    ghost use Rattle.feed.specs.Standing.{Standing};
-    ghost use Rattle.feed.specs.Ties.{AreTied};
+    ghost use Rattle.feed.specs.Standing.{Standing, AreTied};
 
     ghost Value = { Standing };
 

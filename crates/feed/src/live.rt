@@ -1,12 +1,10 @@
 //! One feed that lives: its place, and its next rows, which it reads in the store.
-ghost use Rattle.std.specs.Prelude.{◌≡◌, ◌≤◌, IfOk, MatchOption, max};
+ghost use Rattle.std.specs.Prelude.{◌≡◌, ◌≤◌, IfOk, MatchOption, max, ◌&&◌, nat_lt};
 ghost use Rattle.feed.specs.Prelude.{MAX, Row, is_after_name, place_floor, row_floor};
-ghost use Rattle.std.specs.Prelude.{◌&&◌, nat_lt};
 ghost use Rattle.std.specs.Option.{option_copied};
-ghost use Rattle.version_chain.specs.Following.{is_after_place};
-ghost use Rattle.feed.specs.Standing.{AreNextAt};
+ghost use Rattle.version_chain.specs.Walking.{is_after_place};
+ghost use Rattle.feed.specs.Standing.{AreNextAt, opened_at, arrived_at, due_in, due_at, row_or};
 ghost use Rattle.feed.specs.Firsts.{AreNextFirstsAt, AreNextStoredAt, IsLeftAt, IsNoneLeft, is_row_above, key_at};
-ghost use Rattle.feed.specs.Live.{opened_at, arrived_at, due_in, due_at, row_or};
 
 mod report;
 pub(crate) mod telling;

@@ -1,3 +1,4 @@
+//! Why a poll tells nothing.
 /// Why a feed tells a seat nothing.
 #[derive(Clone, Copy, Debug, PartialEq, Eq)]
 pub enum PollError {

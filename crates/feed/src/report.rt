@@ -1,8 +1,9 @@
+//! What a report tells of the feeds.
 ghost use Rattle.std.specs.Prelude.{◌≡◌, IfOk, filter_map, nat_eq};
 ghost use Rattle.std.specs.List.{IsDistinct};
 ghost use Rattle.std.specs.Map.{keys_of};
 ghost use Rattle.feed.specs.Prelude.{AreLive};
-ghost use Rattle.feed.specs.Reports.{place_at, report_at};
+ghost use Rattle.feed.specs.Standing.{place_at, report_at};
 
 use crate::live::LiveFeed;
 use indexmap::IndexMap;

@@ -7,8 +7,7 @@ use Rattle.follow.specs.declared.ending.FollowEnd.TheVariants as ends
 use Rattle.follow.specs.declared.options.FollowOptions.{FollowOptions}
 use Rattle.follow.specs.declared.fault.FollowError.{FollowError}
 use Rattle.follow.specs.declared.fault.FollowError.TheVariants as errors
-use Rattle.follow.specs.Followed.{IsUnbegun}
-use Rattle.follow.specs.Following.{followed_at}
+use Rattle.follow.specs.Following.{IsUnbegun, followed_at}
 use Rattle.follow.specs.Ends.{ComesBy, CouldBegin, EndsBy, FailsAt, HasLine, IsFollowed, IsOwed, last_line}
 use Rattle.follow.specs.Steps.{EndsWritten, IsStopped, end_by}
 

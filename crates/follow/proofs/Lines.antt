@@ -11,9 +11,7 @@ use Rattle.sessions.proofs.FirstLines as first
 use Rattle.follow.specs.declared.options.FollowOptions.{FollowOptions}
 use Rattle.follow.specs.Ends.{TakesNext}
 use Rattle.follow.specs.declared.fault.FollowError.{FollowError}
-use Rattle.follow.specs.Chosen.{is_taking_after}
-use Rattle.follow.specs.Followed.{start_of, is_chosen, error_of_line}
-use Rattle.follow.specs.Following.{Followed, chosen_at, said_by, line_at, taking_behind, error_of_test, stopped_at, followed_through, onto_followed, followed_step, followed_lines}
+use Rattle.follow.specs.Following.{is_taking_after, start_of, is_chosen, error_of_line, Followed, chosen_at, said_by, line_at, taking_behind, error_of_test, stopped_at, followed_through, onto_followed, followed_step, followed_lines}
 use Rattle.follow.specs.Steps.{onto_taken}
 use Rattle.follow.proofs.MessagesRead.{line_is_message}
 

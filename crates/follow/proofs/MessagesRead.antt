@@ -19,10 +19,8 @@ use Rattle.serde_json.specs.Read.{of_json, read}
 use Rattle.timestamps.specs.declared.row.Row.{Row}
 use Rattle.spans.specs.declared.calls.messages.Message.TheVariants as message
 use Rattle.json_lines.specs.declared.fault.MessageFault.TheVariants.{Shape}
-use Rattle.json_lines.specs.Meaning.{message_of}
-use Rattle.json_lines.specs.Steps.{◌>>=◌}
+use Rattle.json_lines.specs.Meaning.{message_of, ◌>>=◌, Texts, resolved, row, texts_of}
 use Rattle.json_lines.specs.Tests.{text_at}
-use Rattle.json_lines.specs.Texts.{Texts, resolved, row, texts_of}
 use Rattle.json_lines.proofs.Base64.{base64_none, base64_one, base64_two, base64_three}
 use Rattle.json_lines.proofs.Meanings.{message_again}
 use Rattle.json_lines.proofs.Trees.{tree_good}

@@ -27,14 +27,10 @@ use Rattle.follow.specs.declared.fault.FollowError.{FollowError}
 use Rattle.follow.specs.declared.fault.FollowError.TheVariants as errors
 use Rattle.follow.specs.declared.follower.Follower.{Follower}
 use Rattle.follow.specs.declared.telling.Telling.{Telling}
-use Rattle.follow.specs.Chosen.{is_taking_after}
-use Rattle.follow.specs.Followed.{start_of, error_of_replica}
-use Rattle.follow.specs.Following.{Followed, error_of_test, line_at, followed_at, followed_lines, followed_through, onto_followed, stopped_at}
-use Rattle.follow.specs.Reports.{IsFollowReport, IsToldAt, shown_before, resolved_by, named_with, unless_told}
+use Rattle.follow.specs.Following.{is_taking_after, start_of, error_of_replica, Followed, error_of_test, line_at, followed_at, followed_lines, followed_through, onto_followed, stopped_at}
+use Rattle.follow.specs.Reports.{IsFollowReport, IsToldAt, shown_before, resolved_by, named_with, unless_told, named_in, NamesKey, TellsAt}
 use Rattle.follow.specs.Ends.{StopAt, TakesNext, ComesBy, FailsAt}
-use Rattle.follow.specs.Taking.{HasRead, IsMisreadAt}
-use Rattle.follow.specs.Telling.{named_in, NamesKey, TellsAt}
-use Rattle.follow.specs.Steps.{onto_taken, named_through, ready_told, are_some, GoesBy, IsFollowing, HasReported, lines_ahead, message_ahead, IsAhead, IsHolding, IsGoing, IsOver, IsStopped, IsFresh, GoesOn, TakesMore, StopsWithLine, end_at, end_by, end_unfound}
+use Rattle.follow.specs.Steps.{HasRead, IsMisreadAt, onto_taken, named_through, ready_told, are_some, GoesBy, IsFollowing, HasReported, lines_ahead, message_ahead, IsAhead, IsHolding, IsGoing, IsOver, IsStopped, IsFresh, GoesOn, TakesMore, StopsWithLine, end_at, end_by, end_unfound}
 use Rattle.follow.proofs.Reports.{told_more, named_more, told_by, resolved_last}
 use Rattle.follow.proofs.Lines.{chosen_stays, line_whole, line_comes, line_ahead, followed_none, followed_misread, followed_passed, followed_message, message_adds, line_adds, takes_more}
 

@@ -9,8 +9,7 @@ use Rattle.follow.specs.declared.ending.FollowEnd.TheVariants as ends
 use Rattle.follow.specs.declared.options.FollowOptions.{FollowOptions}
 use Rattle.follow.specs.declared.fault.FollowFault.{FollowFault}
 use Rattle.follow.specs.declared.fault.FollowError.TheVariants as errors
-use Rattle.follow.specs.Followed.{IsUnbegun, MayStart, fault_line}
-use Rattle.follow.specs.Following.{Followed, followed_at, followed_through}
+use Rattle.follow.specs.Following.{IsUnbegun, MayStart, fault_line, Followed, followed_at, followed_through}
 use Rattle.follow.specs.Reports.{IsFollowReport}
 
 -- whatever the source holds, its first messages are these
@@ -81,16 +80,11 @@ HasLine (ends.Fault line fault) = Unit {0}
 HasLine ends.Spent = Unit {0}
 HasLine _ = ⊥
 
--- the output is the report of the messages, and this line behind it
-abbrev pub IsReportWith : FollowOptions → List Message → List ℕ → List ℕ → Type 0
-IsReportWith o ms last output = (text : List ℕ) × IsFollowReport o ms text × (output ≡ text ++ last)
-
 -- an end comes so, and this is the report of the messages with its line
 abbrev pub IsOwed : FollowOptions → List ℕ → Bool → List Message → FollowEnd → List ℕ → Type 0
-IsOwed o input ended ms e text = ComesBy o input ended ms e × IsReportWith o ms (last_line e) text
+IsOwed o input ended ms e text = ComesBy o input ended ms e × ((report : List ℕ) × IsFollowReport o ms report × (text ≡ report ++ last_line e))
 
--- how each end comes, after these messages and with this output: all that is owed at this end; or a write failed, and the output
--- begins what is owed at some end
+-- how each end comes: with all that is owed at this end as output, or, where a write failed, with a beginning of what is owed
 abbrev pub EndsBy : FollowOptions → List ℕ → Bool → List Message → List ℕ → FollowEnd → Type 0
 EndsBy o input ended ms output ends.Output = (e : FollowEnd) × (text : List ℕ) × IsOwed o input ended ms e text × StartsWith text output
 EndsBy o input ended ms output e = IsOwed o input ended ms e output

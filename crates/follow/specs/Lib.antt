@@ -1,12 +1,7 @@
 pub mod Prelude
-pub mod Followed
-pub mod Chosen
 pub mod Following
 pub mod Reports
 pub mod Ends
 pub mod WorkedFollowing
-pub mod Taking
-pub mod Telling
 pub mod Steps
-pub mod SpanWords
 pub mod Seeds

@@ -1,12 +1,13 @@
 -- What a follower tells of the messages that it took (this project).
 use Rattle.std.specs.Prelude.{ℕ, ◌≡◌, if◌then◌else◌, List, [], ◌∷◌, ◌++◌, length, codes, Option, Some, None, is_some}
 use Rattle.std.specs.List.{flat_map}
-use Rattle.follow.specs.Prelude.{AreRowsOf, Map, Message, insert_key, ready_after, row_line, view_of}
 use Rattle.spans.specs.declared.calls.messages.Message.TheVariants as messages
+use Rattle.follow.specs.Prelude.{AreRowsOf, Map, Message, insert_key, ready_after, row_line, view_of}
 use Rattle.follow.specs.declared.options.FollowOptions.{FollowOptions}
 use Rattle.follow.specs.declared.options.Shown.{Shown}
+use Rattle.follow.specs.Following.{start_of, count_line, gone_line}
+use Rattle.follow.specs.declared.telling.Telling.{Telling}
 use Rattle.follow.specs.declared.options.Shown.TheVariants as shown
-use Rattle.follow.specs.Followed.{start_of, count_line, gone_line}
 
 -- a key's line: its value, or that it has none any more
 abbrev pub change_line : List ℕ → Option (List ℕ) → List ℕ
@@ -68,3 +69,23 @@ AreTold o before named (m ∷ ms) text = (first : List ℕ) × (rest : List ℕ)
 -- the report of a feed whose messages are these
 abbrev pub IsFollowReport : FollowOptions → List Message → List ℕ → Type 0
 IsFollowReport o ms text = AreTold o [] [] ms text
+
+-- the keys that rows named since rows were told
+abbrev pub named_in : Telling → List (List ℕ)
+named_in t = t.changed.keys
+
+-- what is shown of the map was added, whichever rows are its own
+abbrev pub ShowsRows : Telling → Map → (before after : List ℕ) → Type 0
+ShowsRows t m before after = (rows : List (List ℕ × List ℕ)) → AreRowsOf m rows → after ≡ before ++ shown_lines t.shown m rows (named_in t)
+
+-- by a word, that the rows of the map are complete at a timestamp, was added, where there is one
+pub record TellsAt (t t' : Telling) (word : List ℕ) (at : Option ℕ) (m : Map) (before after : List ℕ) : Type 0 where
+  pub text : List ℕ
+  pub is : IsToldAt t.shown word at m (named_in t) text
+  pub added : after ≡ before ++ text
+  pub named : named_in t' ≡ unless_told at (named_in t)
+  pub same : t'.shown ≡ t.shown
+
+-- where changes are shown, the key of a row is named too
+abbrev pub NamesKey : Telling → Telling → Message → Type 0
+NamesKey t t' m = t.shown ≡ shown.Changes → named_in t' ≡ named_with (named_in t) m

@@ -1,20 +1,38 @@
--- A follower between two lines, and where it stops.
-use Rattle.std.specs.Prelude.{◌≡◌, ◌≢◌, ◌⊎◌, ℕ, ◌+◌, ◌≤◌, Bool, true, false, if◌then◌else◌, List, [], ◌∷◌, ◌++◌, length, Option, None, is_none, Result, Ok, Err}
-use Rattle.follow.specs.Prelude.{Follows, HasBegun, HasTaken, Message, Reads, Start, Writes, apply_fault, has_ended, lines_of, ready_after, waiting}
+-- A follower between two lines: what it takes of the bytes that wait, and where it stops.
+use Rattle.std.specs.Prelude.{◌≡◌, ℕ, true, List, take, drop, Option, Ok, Err, ◌≢◌, ◌⊎◌, ◌+◌, ◌≤◌, Bool, false, if◌then◌else◌, [], ◌∷◌, ◌++◌, length, None, is_none, Result}
 use Rattle.sessions.specs.declared.ending.ServeEnd.{ServeEnd}
 use Rattle.sessions.specs.declared.ending.ServeEnd.TheVariants as serve_ends
-use Rattle.follow.specs.declared.ending.FollowEnd.{FollowEnd}
-use Rattle.follow.specs.declared.ending.FollowEnd.TheVariants as ends
-use Rattle.follow.specs.declared.options.FollowOptions.{FollowOptions}
-use Rattle.follow.specs.declared.options.Shown.TheVariants as shown
-use Rattle.follow.specs.declared.fault.FollowError.{FollowError}
-use Rattle.follow.specs.declared.fault.FollowError.TheVariants as errors
+use Rattle.follow.specs.Prelude.{Message, format_of, has_ended, text_at, waiting, Follows, HasBegun, HasTaken, Reads, Start, Writes, apply_fault, lines_of, ready_after}
 use Rattle.follow.specs.declared.follower.Follower.{Follower}
-use Rattle.follow.specs.Followed.{start_of}
-use Rattle.follow.specs.Following.{Followed, followed_at, followed_lines, onto_followed}
-use Rattle.follow.specs.Reports.{IsFollowReport, named_after}
+use Rattle.follow.specs.declared.fault.FollowError.{FollowError}
+use Rattle.follow.specs.Following.{is_taking_after, is_chosen, start_of, line_at, Followed, followed_at, followed_lines, onto_followed}
+use Rattle.follow.specs.declared.ending.FollowEnd.{FollowEnd}
+use Rattle.follow.specs.declared.options.FollowOptions.{FollowOptions}
+use Rattle.follow.specs.Reports.{IsFollowReport, named_after, named_in}
 use Rattle.follow.specs.Ends.{BeginWith, ComesBy, FailsAt, IsFollowed, TakesNext}
-use Rattle.follow.specs.Telling.{named_in}
+use Rattle.follow.specs.declared.fault.FollowError.TheVariants as errors
+use Rattle.follow.specs.declared.ending.FollowEnd.TheVariants as ends
+use Rattle.follow.specs.declared.options.Shown.TheVariants as shown
+
+-- the bytes that wait in front, so many of them
+abbrev pub front_of : Follower → ℕ → List ℕ
+front_of f count = take count (waiting f.lines)
+
+-- so many bytes are a line that has its newline and isn't too long, with this message where it is one to take; they were taken off the front
+pub record HasRead (f f' : Follower) (count : ℕ) (taken : Option Message) : Type 0 where
+  pub text : List ℕ
+  pub whole : text_at f.format (front_of f count) ≡ Ok text
+  pub message : line_at f.format f.choice.taking (front_of f count) ≡ Ok taken
+  pub feed : f'.choice.feed ≡ f.choice.feed
+  pub taking : f'.choice.taking ≡ is_taking_after f.choice.feed f.choice.taking text
+  pub left : waiting f'.lines ≡ drop count (waiting f.lines)
+  pub ended : has_ended f'.lines ≡ has_ended f.lines
+  pub formed : format_of f'.lines ≡ format_of f.lines
+
+-- so many bytes can't be read; where memory was wanted they are a line that is one to take
+abbrev pub IsMisreadAt : Follower → ℕ → FollowError → Type 0
+IsMisreadAt f count errors.NoMemory = (text : List ℕ) × (text_at f.format (front_of f count) ≡ Ok text) × (is_chosen f.choice.taking text ≡ true)
+IsMisreadAt f count (errors.Fault fault) = line_at f.format f.choice.taking (front_of f count) ≡ Err (errors.Fault fault)
 
 -- messages that were taken, ahead of those that come below
 abbrev pub onto_taken : List Message → Followed → Followed

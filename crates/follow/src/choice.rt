@@ -1,6 +1,6 @@
 //! Which lines of an input are messages to take.
 ghost use Rattle.std.specs.Prelude.{◌≡◌, ◌&&◌, is_none};
-ghost use Rattle.follow.specs.Chosen.{begins_message, polled_in, is_feed, is_taking_after};
+ghost use Rattle.follow.specs.Following.{begins_message, polled_in, is_feed, is_taking_after};
 
 use json_lines::numbers::number_of;
 use word_lines::words::words_of;

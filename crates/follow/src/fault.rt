@@ -1,7 +1,7 @@
 //! Why a line can't be followed.
 ghost use Rattle.std.specs.Prelude.{◌≡◌, ◌≢◌};
 ghost use Rattle.follow.specs.declared.fault.FollowError.TheVariants.{NoMemory};
-ghost use Rattle.follow.specs.Followed.{code_of, error_of_line, error_of_message, error_of_replica, name_of};
+ghost use Rattle.follow.specs.Following.{code_of, error_of_line, error_of_message, error_of_replica, name_of};
 
 use json_lines::MessageFault;
 use replica::Fault;

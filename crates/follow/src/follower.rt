@@ -2,7 +2,7 @@
 //! `specs/Steps.antt` says what holds between two lines.
 ghost use Rattle.std.specs.Prelude.{◌≡◌, ◌≤◌, [], Some, length, IfOk, IfErr, OnOk, OnErr};
 ghost use Rattle.follow.specs.Prelude.{Follows, format_of};
-ghost use Rattle.follow.specs.Followed.{start_of, IsUnbegun, MayStart};
+ghost use Rattle.follow.specs.Following.{start_of, IsUnbegun, MayStart};
 
 use crate::choice::Choice;
 use crate::ending::{FollowEnd, end_by, unfound};
@@ -35,12 +35,10 @@ pub(crate) struct Follower {
 }
 
 impl Follower {
-    ghost use Rattle.sessions.specs.NextLines.{IsNextLine};
-    ghost use Rattle.sessions.specs.Waiting.{waiting};
-    ghost use Rattle.sessions.specs.Writing.{pending_of};
-    ghost use Rattle.follow.specs.Taking.{HasRead, IsMisreadAt};
+    ghost use Rattle.sessions.specs.Waiting.{IsNextLine, waiting};
+    ghost use Rattle.sessions.specs.Devices.{pending_of};
+    ghost use Rattle.follow.specs.Steps.{HasRead, IsMisreadAt, IsFresh, IsStopped, TakesLine, StopsAtLine, TakesMore, StopsWithLine, TakesMessage, StopsWithMessage, ShowsReady, end_at, end_of};
     ghost use Rattle.follow.specs.declared.options.FollowOptions.{FollowOptions};
-    ghost use Rattle.follow.specs.Steps.{IsFresh, IsStopped, TakesLine, StopsAtLine, TakesMore, StopsWithLine, TakesMessage, StopsWithMessage, ShowsReady, end_at, end_of};
 
     pub(crate) fn begin(alloc: Global, options: FollowOptions) -> Result<Follower, FollowError>
         ensures fresh { IfOk result (IsFresh options) }

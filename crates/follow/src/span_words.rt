@@ -1,6 +1,6 @@
 //! Two words read as the span that is followed: a lower and an upper bound, `-` for none.
 ghost use Rattle.word_lines.specs.Reading.{Gives};
-ghost use Rattle.follow.specs.SpanWords.{bound_in, span_in};
+ghost use Rattle.follow.specs.Seeds.{bound_in, span_in};
 
 use spans::bound::{Bound, BoundError};
 use spans::span::Span;

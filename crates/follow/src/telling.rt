@@ -11,7 +11,7 @@
 //! ```
 ghost use Rattle.std.specs.Prelude.{◌≡◌, [], OnOk, OnErr};
 ghost use Rattle.replica.specs.Replicas.{view_in};
-ghost use Rattle.follow.specs.Telling.{named_in, ShowsRows, TellsAt, NamesKey};
+ghost use Rattle.follow.specs.Reports.{named_in, ShowsRows, TellsAt, NamesKey};
 
 use crate::options::Shown;
 use crate::texts::{put_changes, put_count, put_rows};

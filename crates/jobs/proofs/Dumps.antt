@@ -7,12 +7,10 @@ use Rattle.restarts.specs.Dump.{mark_of}
 use Rattle.jobs.proofs.Common.{Checker, Dumps, commands_by_row, left_rows, lines_of, row_commands}
 use Rattle.restarts.proofs.ByRows.{by_row}
 use Rattle.plain_database.specs.declared.dump.Dump.{Dump}
-use Rattle.plain_database.specs.Dumps.{IsDump}
+use Rattle.plain_database.specs.Streams.{IsDump}
 use Rattle.jobs.specs.declared.ending.End.{End}
 use Rattle.jobs.specs.declared.ending.End.TheVariants as ends
-use Rattle.jobs.specs.Dumps.{IsDumped, dump_text}
-use Rattle.jobs.specs.Judging.{HasTakenText}
-use Rattle.jobs.specs.Verdicts.{IsVerdict, is_right}
+use Rattle.jobs.specs.Verdicts.{IsDumped, dump_text, HasTakenText, IsVerdict, is_right}
 
 -- what is said of a text that isn't a trace's is said in the place of its dump
 pub refused_dump : (at : ℕ) (text : List ℕ) (end : End) (out : List ℕ) → IsVerdict text end out → is_right end ≡ false → IsDumped at text end out

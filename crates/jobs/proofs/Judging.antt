@@ -5,7 +5,7 @@ use Rattle.spans.specs.declared.calls.events.Event.{Event}
 use Rattle.jobs.proofs.Common.{Checker, Fault, StandsFor, TakesNext, Transcript, nothing_left}
 use Rattle.script.proofs.TakeLines.{behind, reads_more, reads_end}
 use Rattle.jobs.specs.declared.verdicts.Judged.TheVariants.{Right}
-use Rattle.jobs.specs.Judging.{IsJudged}
+use Rattle.jobs.specs.Verdicts.{IsJudged}
 
 -- the event stands in front of what is left behind it
 abbrev pub IsAhead : Event → Transcript → Transcript → Type 0

@@ -6,9 +6,7 @@ use Rattle.report_lines.specs.Lines.{report_text}
 use Rattle.jobs.specs.declared.ending.End.{End}
 use Rattle.jobs.specs.declared.ending.End.TheVariants as ends
 use Rattle.jobs.specs.declared.state.Detail.{Detail}
-use Rattle.jobs.specs.Judging.{HasTakenText}
-use Rattle.jobs.specs.Verdicts.{IsVerdict, is_right}
-use Rattle.jobs.specs.States.{is_whole, IsState}
+use Rattle.jobs.specs.Verdicts.{HasTakenText, IsVerdict, is_right, is_whole, IsState}
 
 -- what is said of a text that isn't a trace's is said in the place of its state
 pub refused_state : (detail : Detail) (text : List ℕ) (end : End) (out : List ℕ) → IsVerdict text end out → is_right end ≡ false → IsState detail text end out

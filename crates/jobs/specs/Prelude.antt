@@ -1,14 +1,12 @@
 -- The words that the specifications take from below.
 pub use Rattle.dump_lines.specs.Lines.{lines_of}
-pub use Rattle.restarts.specs.Rows.{dump_commands, row_commands}
+pub use Rattle.restarts.specs.Dump.{dump_commands, row_commands}
 pub use Rattle.script.specs.Transcripts.{Fails, Fault, outcome, transcript_at, transcript_text}
-pub use Rattle.sessions.specs.Devices.{EndsOnce, Reads, Writes}
-pub use Rattle.sessions.specs.Writing.{HasBegun}
+pub use Rattle.sessions.specs.Devices.{EndsOnce, Reads, Writes, HasBegun}
 pub use Rattle.shared_db.specs.declared.config.Config.{Config}
 pub use Rattle.spans.specs.Effects.{effects_of}
 pub use Rattle.spans.specs.declared.calls.events.Event.{Event}
 pub use Rattle.text_format.specs.Limits.{format_of, header}
 pub use Rattle.text_format.specs.declared.Format.{Format}
-pub use Rattle.trace_check.specs.Checkers.{StandsFor}
-pub use Rattle.trace_check.specs.Traces.{IsFirstWrong, IsTrace}
+pub use Rattle.trace_check.specs.Traces.{StandsFor, IsFirstWrong, IsTrace}
 pub use Rattle.word_lines.specs.Events.{fault_line}

@@ -1,6 +1,5 @@
 //! A transcript is checked.
-ghost use Rattle.jobs.specs.Answers.{IsAnswered, IsSilentAt};
-ghost use Rattle.jobs.specs.Ends.{end_of};
+ghost use Rattle.jobs.specs.Ends.{IsAnswered, IsSilentAt, end_of};
 ghost use Rattle.jobs.specs.Verdicts.{IsVerdict};
 
 use crate::ending::End;

@@ -2,9 +2,8 @@
 ghost use Rattle.std.specs.Prelude.{◌≡◌, ◌++◌, ◌≤◌, IfOk, OnOk, None, unwrap_or};
 ghost use Rattle.timestamps.specs.declared.ts.TheConstants.{MAX};
 ghost use Rattle.jobs.specs.Prelude.{lines_of, row_commands};
-ghost use Rattle.jobs.specs.Answers.{IsAnswered, IsSilentAt};
-ghost use Rattle.jobs.specs.Dumps.{IsDumped};
-ghost use Rattle.jobs.specs.Ends.{end_of};
+ghost use Rattle.jobs.specs.Ends.{IsAnswered, IsSilentAt, end_of};
+ghost use Rattle.jobs.specs.Verdicts.{IsDumped};
 
 use crate::ending::End;
 use crate::verdicts::verdict_by;

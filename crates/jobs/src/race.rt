@@ -1,8 +1,7 @@
 //! The sessions of a script race.
 ghost use Rattle.std.specs.Prelude.{◌≡◌, ◌++◌, IfOk};
 ghost use Rattle.jobs.specs.Prelude.{fault_line, header};
-ghost use Rattle.jobs.specs.Answers.{IsAnswered};
-ghost use Rattle.jobs.specs.Ends.{end_of};
+ghost use Rattle.jobs.specs.Ends.{IsAnswered, end_of};
 ghost use Rattle.jobs.specs.Races.{IsRace};
 
 use crate::ending::End;

@@ -1,8 +1,7 @@
 //! The state after a transcript is told.
 ghost use Rattle.std.specs.Prelude.{◌≡◌, IfOk};
-ghost use Rattle.jobs.specs.Answers.{IsAnswered, IsSilentAt};
-ghost use Rattle.jobs.specs.Ends.{end_of};
-ghost use Rattle.jobs.specs.States.{IsState, is_whole};
+ghost use Rattle.jobs.specs.Ends.{IsAnswered, IsSilentAt, end_of};
+ghost use Rattle.jobs.specs.Verdicts.{IsState, is_whole};
 
 use crate::ending::End;
 use crate::verdicts::verdict_by;

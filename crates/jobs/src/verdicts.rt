@@ -1,8 +1,7 @@
 //! What is said of a transcript, apart from where it comes from and where the answer goes.
 ghost use Rattle.std.specs.Prelude.{◌≡◌, ◌<◌, ◌++◌, [], length, true, IfOk, OnOk, MatchResult, None, decimal, codes};
 ghost use Rattle.jobs.specs.Prelude.{Fails, StandsFor, format_of, outcome, transcript_at};
-ghost use Rattle.jobs.specs.Verdicts.{IsVerdict, is_right};
-ghost use Rattle.jobs.specs.Judging.{IsJudged, HasTakenText};
+ghost use Rattle.jobs.specs.Verdicts.{IsVerdict, is_right, IsJudged, HasTakenText};
 
 use crate::ending::End;
 use json_lines::numbers::put_number;

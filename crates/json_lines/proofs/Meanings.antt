@@ -9,8 +9,7 @@ use Rattle.base64.specs.GeneralPurpose.{decode_of, decoded_of}
 use Rattle.base64.proofs.EngineFacts.{decode_of-encode_of}
 use Rattle.json_lines.specs.declared.fault.MessageFault.TheVariants.{Base64}
 use Rattle.json_lines.specs.Messages.{base64, AreBytes, IsTimestamp, IsKey, IsAfter, IsMessage}
-use Rattle.json_lines.specs.Texts.{texts_of}
-use Rattle.json_lines.specs.Meaning.{timestamp_of, bytes_of, after_of, key_of, value_of, row_of, message_of}
+use Rattle.json_lines.specs.Meaning.{texts_of, timestamp_of, bytes_of, after_of, key_of, value_of, row_of, message_of}
 use Rattle.json_lines.proofs.NumberWords.{number_only}
 
 -- ---- bytes by place and by recursion

@@ -1,18 +1,14 @@
 -- A message is read of its line, and of no other line.
 use Rattle.json_lines.proofs.Common.{Format, IsUtf8, Message, common_steps, is_utf8-from_IsUtf8}
-use Rattle.std.proofs.Common.{arith}
-use Rattle.std.proofs.Common.{◌≡◌, ◌≢◌, ℕ, List, Result, Ok, Err, refl, sym, ap, subst, ◌∙◌}
+use Rattle.std.proofs.Common.{arith, ◌≡◌, ◌≢◌, ℕ, List, Result, Ok, Err, refl, sym, ap, subst, ◌∙◌}
 use Rattle.std.specs.Prelude.{IfOk, IfErr, decimal}
 use Rattle.spans.specs.declared.calls.messages.Message.TheVariants as message
 use Rattle.json_lines.specs.declared.fault.MessageFault.{MessageFault}
 use Rattle.json_lines.specs.declared.fault.MessageFault.TheVariants as fault
 use Rattle.json_lines.specs.Messages.{IsMessage, message_line}
-use Rattle.json_lines.specs.Memory.{AreOfRow, IsUnresolved, MayWantMemory}
-use Rattle.json_lines.specs.Tests.{message_at, meant_by}
-use Rattle.json_lines.specs.Texts.{Texts, resolved, texts_of}
+use Rattle.json_lines.specs.Tests.{AreOfRow, IsUnresolved, MayWantMemory, message_at, meant_by}
+use Rattle.json_lines.specs.Meaning.{Texts, resolved, texts_of, message_of, Gives}
 use Rattle.json_lines.specs.Written.{texts_written}
-use Rattle.json_lines.specs.Meaning.{message_of}
-use Rattle.json_lines.specs.Steps.{Gives}
 use Rattle.json_lines.proofs.Steps.{ok_is}
 use Rattle.json_lines.proofs.Ascii.{line_utf8}
 use Rattle.json_lines.proofs.Meanings.{message_again}

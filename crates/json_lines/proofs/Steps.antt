@@ -1,7 +1,7 @@
 -- What a step gave that did not fail.
 use Rattle.std.proofs.Common.{◌≡◌, Bool, true, false, cond, Result, Ok, Err, refl}
 use Rattle.json_lines.specs.declared.fault.MessageFault.{MessageFault}
-use Rattle.json_lines.specs.Steps.{◌>>=◌}
+use Rattle.json_lines.specs.Meaning.{◌>>=◌}
 
 -- the value of a step that did not fail
 pub bind_ok : {A B : Type 0} (r : Result A MessageFault) (f : A → Result B MessageFault) (y : B) → (r >>= f) ≡ Ok y → (x : A) × (r ≡ Ok x) × (f x ≡ Ok y)

@@ -1,7 +1,6 @@
 -- Trees, test by test.
 use Rattle.json_lines.proofs.Common.{IsUtf8, IsUtf8-from_is_utf8, common_steps, is_utf8-from_IsUtf8, members_len, ne_eqb}
-use Rattle.std.proofs.Common.{arith}
-use Rattle.std.proofs.Common.{◌≡◌, ◌≢◌, ℕ, Bool, cond, List, Option, Some, None, Result, Ok, Err, ap, ◌∙◌}
+use Rattle.std.proofs.Common.{arith, ◌≡◌, ◌≢◌, ℕ, Bool, cond, List, Option, Some, None, Result, Ok, Err, ap, ◌∙◌}
 use Rattle.std.specs.Prelude.{ok_or, ◌==◌}
 use Rattle.serde_json.specs.Data.{Data, Members}
 use Rattle.serde_json.specs.Read.{read}
@@ -9,8 +8,7 @@ use Rattle.serde_json.specs.Find.{as_object}
 use Rattle.serde_json.proofs.Views.{members_len-members_view}
 use Rattle.json_lines.specs.declared.fault.MessageFault.{MessageFault}
 use Rattle.json_lines.specs.declared.fault.MessageFault.TheVariants.{NotJson, Shape}
-use Rattle.json_lines.specs.Texts.{Texts}
-use Rattle.json_lines.specs.Steps.{◌>>=◌}
+use Rattle.json_lines.specs.Meaning.{Texts, ◌>>=◌}
 use Rattle.json_lines.specs.Tests.{tree_of, texts_in, resolved_in, row_in}
 
 -- UTF-8 that is read

@@ -2,7 +2,7 @@
 use Rattle.std.proofs.Common.{◌≡◌, List, ℕ, ◌++◌, [], length, take, append_assoc, sym, ◌∙◌, ap, refl, Result, Ok, Err, OnErr}
 use Rattle.std.proofs.lemmas.List.{append-nil, take_at}
 use Rattle.std.specs.declared.alloc.AllocError.{AllocError}
-use Rattle.json_lines.specs.Writing.{Keeps}
+use Rattle.json_lines.specs.Messages.{Keeps}
 
 pub keeps_text : (old new text : List ℕ) → new ≡ old ++ text → Keeps old new
 keeps_text old new text e = record { more = text; is = e }

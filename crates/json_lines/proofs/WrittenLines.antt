@@ -7,8 +7,7 @@ use Rattle.spans.specs.declared.calls.messages.Message.TheVariants as message
 use Rattle.json_lines.specs.declared.fault.MessageFault.{MessageFault}
 use Rattle.json_lines.specs.declared.fault.MessageFault.TheVariants.{Shape}
 use Rattle.json_lines.specs.Messages.{base64, message_line, IsMessage}
-use Rattle.json_lines.specs.Texts.{Texts, resolved, row, texts_of}
-use Rattle.json_lines.specs.Steps.{◌>>=◌}
+use Rattle.json_lines.specs.Meaning.{Texts, resolved, row, texts_of, ◌>>=◌}
 use Rattle.json_lines.specs.Written.{is_quote, behind, quoted, otherwise, last_text, text_at_front, null_at_front, after_at_front, resolved_written, row_written, texts_written}
 use Rattle.json_lines.proofs.Base64.{base64_all}
 use Rattle.json_lines.proofs.NumberWords.{decimal_all}

@@ -1,11 +1,5 @@
 pub mod Prelude
-pub mod Writing
-pub mod Numbers
 pub mod Messages
-pub mod Steps
-pub mod Texts
-pub mod TextsView
-pub mod Written
 pub mod Meaning
+pub mod Written
 pub mod Tests
-pub mod Memory

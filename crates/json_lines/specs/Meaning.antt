@@ -1,13 +1,51 @@
--- The message that texts mean, or what is wrong with them: numbers first, then base64, then lengths.
-use Rattle.json_lines.specs.Steps.{◌>>=◌}
-use Rattle.std.specs.Prelude.{ℕ, nat_le, ◌&&◌, if◌then◌else◌, List, length, Option, Some, None, Result, Ok, Err, ok_or}
-use Rattle.json_lines.specs.Prelude.{Format, Message, decoded_of, key_limit, standard, value_limit}
+-- The texts of a message's members, and the message that they mean, or what is wrong with them.
+use Rattle.std.specs.Prelude.{ℕ, ◌^◌, ◌==◌, nat_lt, Bool, not, ◌&&◌, ◌||◌, if◌then◌else◌, List, length, slice_index, Option, Some, None, ◌≡◌, ◌≢◌, Result, Ok, Err, decimal, option_map, nat_le, ok_or}
+use Rattle.std.specs.Str.{all_ascii_digits}
+use Rattle.std.specs.Str.Parse.{digits_value}
 use Rattle.timestamps.specs.declared.row.Row.{Row}
 use Rattle.spans.specs.declared.calls.messages.Message.TheVariants as message
 use Rattle.json_lines.specs.declared.fault.MessageFault.{MessageFault}
-use Rattle.json_lines.specs.declared.fault.MessageFault.TheVariants.{Number, Base64, Length}
-use Rattle.json_lines.specs.Numbers.{number_of}
-use Rattle.json_lines.specs.Texts.{Texts, resolved, row}
+use Rattle.json_lines.specs.declared.fault.MessageFault.TheVariants.{NoMemory, Number, Base64, Length}
+use Rattle.json_lines.specs.Messages.{base64}
+use Rattle.json_lines.specs.declared.texts.Texts.{Texts as Lent}
+use Rattle.json_lines.specs.Prelude.{Format, Message, decoded_of, key_limit, standard, value_limit}
+use Rattle.json_lines.specs.declared.texts.Texts.TheVariants as lent
+
+abbrev pub is_number_word : List ℕ → Bool
+is_number_word word = nat_lt 0 (length word) && all_ascii_digits word && (length word == 1 || not (slice_index word 0 == 48))
+
+-- the number that a word writes, from 0 to 18446744073709551615
+unfoldable pub number_of : List ℕ → Option ℕ
+number_of word = if is_number_word word && nat_lt (digits_value 10 word) (2 ^ 64) then Some (digits_value 10 word) else None
+
+infixl 10 ◌>>=◌
+abbrev pub ◌>>=◌ : {A B : Type 0} → Result A MessageFault → (A → Result B MessageFault) → Result B MessageFault
+(Ok x) >>= f = f x
+(Err e) >>= f = Err e
+
+-- what a function returned, seen by view, is what the steps give
+abbrev pub Reads : {X Y : Type 0} → (X → Y) → Result X MessageFault → Result Y MessageFault → Type 0
+Reads view (Ok x) steps = steps ≡ Ok (view x)
+Reads view (Err e) steps = steps ≡ Err e
+
+-- the same of a function that takes memory, unless memory ran out
+abbrev pub Gives : {X Y : Type 0} → (X → Y) → Result X MessageFault → Result Y MessageFault → Type 0
+Gives view (Ok x) steps = steps ≡ Ok (view x)
+Gives view (Err e) steps = e ≢ NoMemory → steps ≡ Err e
+
+-- of a resolved message its one member, of a row `after`, `key` and `updated`
+pub data Texts : Type 0 where
+  resolved : List ℕ → Texts
+  row : Option (List ℕ) → List ℕ → List ℕ → Texts
+
+-- the texts that are written of a message
+abbrev pub texts_of : Message → Texts
+texts_of (message.Row r) = row (option_map base64 r.after) (base64 r.key) (decimal r.ts)
+texts_of (message.Resolved ts) = resolved (decimal ts)
+
+abbrev pub texts_view : Lent → Texts
+texts_view (lent.Resolved ts) = resolved ts.now
+texts_view (lent.Row after key updated) = row (option_map (λ t. t.now) after) key.now updated.now
 
 -- a number word from 1 to the greatest timestamp
 unfoldable pub timestamp_of : List ℕ → Result ℕ MessageFault

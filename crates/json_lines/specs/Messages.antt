@@ -1,8 +1,8 @@
 -- The JSON line (RFC 8259) of a message of a feed, with bytes as base64 (RFC 4648).
-use Rattle.std.specs.Prelude.{ℕ, ◌<◌, ◌≤◌, List, ◌++◌, length, codes, decimal, Option, Some, None}
+use Rattle.std.specs.Prelude.{ℕ, ◌<◌, ◌≤◌, List, ◌++◌, length, codes, decimal, Option, Some, None, ◌≡◌, take, drop}
 use Rattle.std.specs.List.{AllByRecursion}
-use Rattle.json_lines.specs.Prelude.{Format, Message, encode_of, engine_symbols, key_limit, standard, value_limit}
 use Rattle.spans.specs.declared.calls.messages.Message.TheVariants as message
+use Rattle.json_lines.specs.Prelude.{Format, Message, encode_of, engine_symbols, key_limit, standard, value_limit}
 
 -- the standard alphabet
 abbrev pub symbols : List ℕ
@@ -41,3 +41,12 @@ IsAfter format (Some value) = (length value ≤ value_limit format) × AreBytes 
 abbrev pub IsMessage : Format → Message → Type 0
 IsMessage format (message.Row row) = IsTimestamp row.ts × IsKey format row.key × IsAfter format row.after
 IsMessage format (message.Resolved ts) = IsTimestamp ts
+
+-- what stood there stands there, and more may stand behind it
+pub record Keeps (old new : List ℕ) : Type 0 where
+  pub more : List ℕ
+  pub is : new ≡ old ++ more
+
+-- the text stands at the front of the bytes, as far as there is room, the other bytes are as they were, and its whole length is told
+abbrev pub Copied : List ℕ → (old new : List ℕ) → ℕ → Type 0
+Copied text old new told = (told ≡ length text) × (new ≡ take (length old) text ++ drop (length text) old)

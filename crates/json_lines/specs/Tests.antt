@@ -1,16 +1,15 @@
--- The tests of a line in their order, over what `serde_json` reads of it.
-use Rattle.json_lines.specs.Steps.{◌>>=◌}
-use Rattle.std.specs.Prelude.{ℕ, ◌==◌, if◌then◌else◌, is_some, List, codes, bytes_eq, Option, Some, None, option_and_then, Result, Ok, Err, ok_or}
-use Rattle.json_lines.specs.Prelude.{Format, Message, is_utf8}
+-- The tests of a line, over what `serde_json` reads of it, and which lines may want memory (this project's own).
+use Rattle.std.specs.Prelude.{ℕ, ◌==◌, if◌then◌else◌, is_some, List, codes, bytes_eq, Option, Some, None, option_and_then, Result, Ok, Err, ok_or, true, ◌≡◌, ◌≢◌}
 use Rattle.serde_json.specs.Data.{Data}
 use Rattle.serde_json.specs.Read.{read}
 use Rattle.serde_json.specs.Find.{get, as_null, as_str, as_object}
 use Rattle.serde_json.specs.Events.{members_len}
+use Rattle.spans.specs.declared.calls.messages.Message.TheVariants.{Resolved}
+use Rattle.json_lines.specs.Meaning.{◌>>=◌, message_of, Texts, resolved, row}
+use Rattle.json_lines.specs.Prelude.{Format, Message, is_utf8}
 use Rattle.json_lines.specs.declared.fault.MessageFault.{MessageFault}
 use Rattle.json_lines.specs.declared.fault.MessageFault.TheVariants.{NotJson, Shape}
-use Rattle.json_lines.specs.Messages.{message_line}
-use Rattle.json_lines.specs.Meaning.{message_of}
-use Rattle.json_lines.specs.Texts.{Texts, resolved, row}
+use Rattle.json_lines.specs.Messages.{message_line, IsTimestamp}
 
 -- a member that is a string
 unfoldable pub text_at : List ℕ → Data → Result (List ℕ) MessageFault
@@ -58,3 +57,17 @@ unfoldable pub message_at : Format → List ℕ → Result Message MessageFault
 message_at format line = do
   m ← meant_by format line
   if bytes_eq line (message_line m) then Ok m else Err Shape
+
+-- the texts are a row's, whose bytes are kept
+abbrev pub AreOfRow : Texts → Type 0
+AreOfRow (resolved ts) = ⊥
+AreOfRow (row after key updated) = Unit {0}
+
+-- the line is no resolved message's
+abbrev pub IsUnresolved : List ℕ → Type 0
+IsUnresolved line = (t : ℕ) → IsTimestamp t → line ≢ message_line (Resolved t)
+
+-- the line is UTF-8, and no resolved message's
+pub record MayWantMemory (line : List ℕ) : Type 0 where
+  pub utf8 : is_utf8 line ≡ true
+  pub unresolved : IsUnresolved line

@@ -2,8 +2,7 @@
 use Rattle.std.specs.Prelude.{ℕ, ◌==◌, Bool, if◌then◌else◌, List, [], ◌∷◌, codes, bytes_eq, Option, Some, None, Result, Ok, Err}
 use Rattle.json_lines.specs.declared.fault.MessageFault.{MessageFault}
 use Rattle.json_lines.specs.declared.fault.MessageFault.TheVariants.{Shape}
-use Rattle.json_lines.specs.Texts.{Texts, resolved, row}
-use Rattle.json_lines.specs.Steps.{◌>>=◌}
+use Rattle.json_lines.specs.Meaning.{Texts, resolved, row, ◌>>=◌}
 
 -- what stands behind a front
 abbrev pub behind : List ℕ → List ℕ → Result (List ℕ) MessageFault

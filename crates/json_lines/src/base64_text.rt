@@ -1,8 +1,7 @@
 //! Base64 (RFC 4648, the standard alphabet with padding), written straight into a buffer.
 ghost use Rattle.std.specs.Prelude.{◌≡◌, ◌++◌, ◌∷◌, [], ◌<◌, length, slice_index, OnOk, OnErr};
 ghost use Rattle.base64.specs.Rfc4648.{encode_group};
-ghost use Rattle.json_lines.specs.Writing.{Keeps};
-ghost use Rattle.json_lines.specs.Messages.{base64, symbols};
+ghost use Rattle.json_lines.specs.Messages.{Keeps, base64, symbols};
 
 use std::alloc::AllocError;
 

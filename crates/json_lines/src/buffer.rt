@@ -3,7 +3,7 @@
 //! A function `put_..` writes at the end, and where memory runs out a part may stand there. What is
 //! offered to a caller of its own is called `write_..`, and then takes that part away again.
 ghost use Rattle.std.specs.Prelude.{◌≡◌, take, OnOk, OnErr};
-ghost use Rattle.json_lines.specs.Writing.{Copied};
+ghost use Rattle.json_lines.specs.Messages.{Copied};
 
 use std::alloc::AllocError;
 

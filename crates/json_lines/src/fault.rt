@@ -1,7 +1,7 @@
 //! Why a line is no message.
 use thiserror::Error;
 
-/// What was read of a line, or why it is no message.
+/// A part of a line that was read, or why it is no message.
 pub(crate) type Read<T> = Result<T, MessageFault>;
 
 /// The first test that a line doesn't pass, or out of memory.

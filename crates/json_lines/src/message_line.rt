@@ -1,7 +1,6 @@
 //! The JSON line of a message of a feed.
 ghost use Rattle.std.specs.Prelude.{◌≡◌, ◌++◌, IfOk, OnOk, OnErr};
-ghost use Rattle.json_lines.specs.Writing.{Keeps};
-ghost use Rattle.json_lines.specs.Messages.{after_text, message_line};
+ghost use Rattle.json_lines.specs.Messages.{Keeps, after_text, message_line};
 
 use crate::base64_text::put_base64;
 use crate::buffer::or_undo;

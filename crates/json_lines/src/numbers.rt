@@ -3,8 +3,8 @@ ghost use Rattle.std.specs.Prelude.{◌≡◌, ◌+◌, ◌++◌, ◌<◌, ◌�
 ghost use Rattle.std.specs.Option.{SomeIff};
 ghost use Rattle.std.specs.Str.{all_ascii_digits};
 ghost use Rattle.std.specs.Str.Parse.{digits_value};
-ghost use Rattle.json_lines.specs.Numbers.{number_of};
-ghost use Rattle.json_lines.specs.Writing.{Keeps};
+ghost use Rattle.json_lines.specs.Meaning.{number_of};
+ghost use Rattle.json_lines.specs.Messages.{Keeps};
 
 use itoa::Buffer;
 use std::alloc::AllocError;
@@ -39,7 +39,7 @@ fn put_digits(out: &mut Vec<u8>, number: u64) -> Result<(), AllocError>
 }
 
 /// The number that a word is, from 0 to 18446744073709551615, or `None` where it is no number word.
-#[tactic(auto, unfolding(crate::specs::Numbers::number_of))]
+#[tactic(auto, unfolding(crate::specs::Meaning::number_of))]
 pub fn number_of(word: &[u8]) -> Option<u64>
     ensures { result ≡ number_of word.now }
 {

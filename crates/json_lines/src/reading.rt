@@ -3,8 +3,7 @@ ghost use Rattle.std.specs.Prelude.{◌≡◌, ◌≢◌, IfOk, IfErr, Err};
 ghost use Rattle.spans.specs.declared.calls.messages.Message.{Message};
 ghost use Rattle.json_lines.specs.declared.fault.MessageFault.TheVariants.{NoMemory};
 ghost use Rattle.json_lines.specs.Messages.{IsMessage, message_line};
-ghost use Rattle.json_lines.specs.Tests.{message_at};
-ghost use Rattle.json_lines.specs.Memory.{IsUnresolved, MayWantMemory};
+ghost use Rattle.json_lines.specs.Tests.{message_at, IsUnresolved, MayWantMemory};
 
 use crate::fault::MessageFault;
 use crate::texts::message_of;

@@ -4,11 +4,8 @@ ghost use Rattle.std.specs.Prelude.{◌≡◌, ◌≤◌, length, decimal, optio
 ghost use Rattle.text_format.specs.Limits.{key_limit, value_limit};
 ghost use Rattle.json_lines.specs.Messages.{AreBytes, IsMessage, base64};
 ghost use Rattle.json_lines.specs.declared.fault.MessageFault.TheVariants.{NoMemory, Number};
-ghost use Rattle.json_lines.specs.Memory.{AreOfRow};
-ghost use Rattle.json_lines.specs.Texts.{texts_of};
-ghost use Rattle.json_lines.specs.TextsView.{texts_view};
-ghost use Rattle.json_lines.specs.Steps.{Gives, Reads};
-ghost use Rattle.json_lines.specs.Meaning.{timestamp_of, bytes_of, after_of, key_of, value_of, message_of};
+ghost use Rattle.json_lines.specs.Tests.{AreOfRow};
+ghost use Rattle.json_lines.specs.Meaning.{texts_of, texts_view, Gives, Reads, timestamp_of, bytes_of, after_of, key_of, value_of, message_of};
 
 use crate::fault::{MessageFault, Read};
 use crate::numbers::number_of;

@@ -2,8 +2,7 @@
 ghost use Rattle.std.specs.Prelude.{option_map, IfOk};
 ghost use Rattle.serde_json.specs.View.{view};
 ghost use Rattle.json_lines.specs.Messages.{IsMessage};
-ghost use Rattle.json_lines.specs.Steps.{Gives, Reads};
-ghost use Rattle.json_lines.specs.TextsView.{texts_view};
+ghost use Rattle.json_lines.specs.Meaning.{Gives, Reads, texts_view};
 ghost use Rattle.json_lines.specs.Tests.{text_at, after_at, resolved_in, row_in, texts_in, tree_of, meant_by};
 
 use crate::fault::{MessageFault, Read};

@@ -2,8 +2,7 @@
 //!
 //! It takes no memory: the texts are lent from the line.
 ghost use Rattle.std.specs.Prelude.{◌≡◌, ◌<◌, length, option_map, position, IfSome};
-ghost use Rattle.json_lines.specs.Steps.{Reads};
-ghost use Rattle.json_lines.specs.TextsView.{texts_view};
+ghost use Rattle.json_lines.specs.Meaning.{Reads, texts_view};
 ghost use Rattle.json_lines.specs.Written.{is_quote, behind, quoted, last_text, after_at_front, resolved_written, row_written, texts_written};
 
 use crate::fault::{MessageFault, Read};

@@ -3,7 +3,7 @@ use Rattle.kept.proofs.Marking.{marks_fewer}
 use Rattle.kept.proofs.Common.{AllAllowed, Effect, HardCloses, IsKeptOf, Kept, and_parts, begun_among, begun_of, by_test, closed_grows, committed_is, committed_version_of, common_steps, decided_through, false_from_ne_true, is_undecided, kept_version, least_below, least_low, least_of, open_above, too_late, IsCrossed}
 use Rattle.std.proofs.Common.{Bool, List, refl, None, Option, arith, false, true, Some, sym, map, ◌≡◌, ◌<◌, ◌≤◌, ◌-◌, ◌∷◌, ◌∙◌, ℕ, []}
 use Rattle.std.specs.Prelude.{filter, ◌↔◌}
-use Rattle.kept.specs.Table.{is_open, reach, IsOldest}
+use Rattle.kept.specs.Finding.{is_open, reach, IsOldest}
 use Rattle.kept.proofs.Staying.{kept_stays, Keeps}
 
 -- the table says who is undecided

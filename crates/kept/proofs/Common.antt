@@ -18,13 +18,12 @@ pub use Rattle.spans.specs.Collection.{LiveFeed, Protection, VersionName, collec
 pub use Rattle.spans.specs.Consumer.{is_after_name, name_of}
 pub use Rattle.spans.specs.Effects.{Aborts, After, Begins, Cancels, Closes, Collects, Commits, Effect, HardCloses, NoEffect, Opens, Polls, Protects, Reads, Releases, Scans, SnapshotReads, SnapshotScans, Writes, effect, effect_of, effects_of, event, kind_of}
 pub use Rattle.spans.specs.Feeds.{Feed, due_message, feed_of, feeds_opened, is_cancelled, is_due, last_resolved, next_messages, resolved_of, rows_in, start_at, start_of, told_to, untold_rows}
-pub use Rattle.spans.specs.Kept.{IsCrossed, IsKeptOf, Kept, Place, Transaction, kept_version, last_name, place_of, place_with, state_of, transaction_with}
+pub use Rattle.spans.specs.Kept.{IsCrossed, IsKeptOf, Kept, Place, Transaction, kept_version, last_name, place_of, place_with, transaction_with}
 pub use Rattle.spans.specs.Keys.{in_span, insert_key, insert_where, pairs_of}
 pub use Rattle.spans.specs.Legal.{IsRightEvent, is_accepted}
-pub use Rattle.spans.specs.Newest.{IsNewest, Version, newest, version_at}
+pub use Rattle.spans.specs.Versions.{IsNewest, Version, newest, version_at, committed_value, committed_version_of, is_blocked, version_of, visible, write_count, write_of, write_set, written_keys}
 pub use Rattle.spans.specs.Reads.{too_late}
 pub use Rattle.spans.specs.Transactions.{begun_of, closed_of, decided_through, is_aborted, is_committed, is_undecided, least_of, owner_of, undecided_timestamps}
-pub use Rattle.spans.specs.Versions.{committed_value, committed_version_of, is_blocked, version_of, visible, write_count, write_of, write_set, written_keys}
 pub use Rattle.spans.specs.declared.calls.commands.Cmd.TheVariants.{Abort, Begin, Cancel, Close, CloseHard, Collect, Commit, Del, Get, Open, OpenEvery, OpenInitial, OpenInitialEvery, Poll, Protect, Put, ReadAt, Release, Scan, ScanAt, Stats}
 pub use Rattle.spans.specs.declared.calls.events.Event.{Event}
 pub use Rattle.spans.specs.declared.calls.messages.Message.{Message}

@@ -4,8 +4,7 @@ use Rattle.kept.proofs.Staying.{Keeps}
 use Rattle.kept.proofs.Common.{After, AllAllowed, Allowed, Collects, Effect, IsKeptOf, Kept, VersionName, both_ways, by_test, committed_is, committed_version_of, common_steps, dead_is, dead_of, distinct_filter, has_filter, has_versions, horizon_of, is_committed, is_dead, kept_version, ltb-true, nat_tests, newest, newest_fewer, newest_is, newest_reaches, older_dead, same_length, version_name, version_of, version_wrote, versions_distinct, versions_of, write_of, IsCrossed, closed_of, too_late, horizon_low}
 use Rattle.std.proofs.Common.{Bool, List, None, Option, Some, arith, cond, false, inl, inr, length, not, refl, sym, true, ℕ, ◌&&◌, ◌-◌, ◌<◌, ◌∙◌, ◌∷◌, ◌≡◌, ◌≤◌}
 use Rattle.std.specs.Prelude.{filter, is_some, nat_lt, ◌↔◌}
-use Rattle.kept.specs.Finding.{is_dropped, is_dead_in, kept_committed}
-use Rattle.kept.specs.Lists.{AreThose}
+use Rattle.kept.specs.Finding.{is_dropped, is_dead_in, kept_committed, AreThose}
 use Rattle.kept.proofs.AfterCollects.{grown, dead_grows}
 use Rattle.kept.proofs.Dead.{committed_stands, kept_is, kept_above}
 

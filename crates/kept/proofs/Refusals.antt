@@ -4,7 +4,7 @@ use Rattle.std.proofs.Common.{Bool, List, None, [], ap, arith, cond, false, ℕ,
 use Rattle.std.specs.Prelude.{is_some, nat_le, nat_lt}
 use Rattle.spans.proofs.Refusals.{tests_past, tests_met}
 use Rattle.kept.specs.Replies.{unless_refused}
-use Rattle.kept.specs.Table.{refusal}
+use Rattle.kept.specs.Finding.{refusal}
 
 -- a number that is in range passes its test
 pub within : (to : ℕ) (reply : Reply) → to ≤ MAX → first_refusal_or ((nat_lt MAX to, TsRange) ∷ []) reply ≡ reply

@@ -4,11 +4,10 @@ use Rattle.std.proofs.Common.{Bool, List, None, Option, Some, [], ap, arith, con
 use Rattle.std.specs.Prelude.{is_some, max, nat_le, nat_lt, option_map}
 use Rattle.kept.specs.Answered.{IsReplyOf}
 use Rattle.spans.specs.declared.calls.commands.Cmd.{Cmd}
-use Rattle.kept.specs.Collecting.{reached}
+use Rattle.kept.specs.Places.{reached, AreNext}
 use Rattle.kept.specs.Marks.{IsLate}
-use Rattle.kept.specs.Places.{AreNext}
 use Rattle.kept.specs.Replies.{feed_refusal, in_range, messages_left, poll_place, poll_reply, write_reply}
-use Rattle.kept.specs.Table.{refusal}
+use Rattle.kept.specs.Finding.{refusal}
 use Rattle.kept.proofs.AfterCloses.{reach_is}
 use Rattle.kept.proofs.Counts.{cut_count, feeds_count, undecided_count, versions_count, written_count}
 use Rattle.kept.proofs.Floors.{horizon_reached}

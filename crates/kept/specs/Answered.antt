@@ -2,13 +2,10 @@
 use Rattle.std.specs.Prelude.{false, Bool, List, None, Option, Some, is_some, nat_le, true, ℕ, ◌&&◌, ◌≡◌, ◌≤◌, ◌⊎◌}
 use Rattle.kept.specs.Prelude.{Abort, Aborts, Begin, Begins, Cancel, Cancels, Close, CloseHard, Closes, Cmd, Collect, Collects, Commit, Commits, Del, Effect, Get, HardCloses, Kept, MAX, NoEffect, NoMemory, Open, OpenEvery, OpenInitial, OpenInitialEvery, Opens, Place, Poll, Polls, Protect, Protects, Put, ReadAt, Reads, Refused, Release, Releases, Reply, Row, Scan, ScanAt, Scans, SnapshotReads, SnapshotScans, Span, Stats, VersionName, Writes, effect, is_accepted, kind_of, may_lack_memory}
 use Rattle.kept.specs.Changes.{IsAbortedBy, IsAlike, IsBegun, IsCancelledFrom, IsClosedAt, IsCollectedTo, IsCommittedBy, IsHardClosedAt, IsMovedBy, IsOpenedAt, IsProtectedBy, IsReadBy, IsReleasedFrom, IsScannedBy, IsWritten}
-use Rattle.kept.specs.Collecting.{IsCollected, reached}
-use Rattle.kept.specs.Finding.{AreKeysOf}
-use Rattle.kept.specs.Lists.{AreThose, IsNumberOf}
+use Rattle.kept.specs.Places.{IsCollected, reached, AreNext}
+use Rattle.kept.specs.Finding.{AreKeysOf, AreThose, IsNumberOf, IsOldest, is_open, refusal}
 use Rattle.kept.specs.Marks.{IsLate}
-use Rattle.kept.specs.Places.{AreNext}
 use Rattle.kept.specs.Replies.{abort_reply, begin_reply, cancel_reply, close_hard_reply, close_reply, collect_reply, commit_reply, get_reply, open_reply, poll_reply, protect_reply, read_at_reply, release_reply, scan_at_reply, scan_reply, stats_reply, write_reply}
-use Rattle.kept.specs.Table.{IsOldest, is_open, refusal}
 
 -- ---- replies that rest on what the layers find in what is kept, which is asked for only where the reply uses it
 

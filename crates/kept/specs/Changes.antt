@@ -2,10 +2,9 @@
 -- each record says that all else is as it was. Whether a version is committed is asked only where there is one.
 use Rattle.std.specs.Prelude.{List, None, Some, bytes_eq, false, filter, if◌then◌else◌, nat_le, nat_lt, not, option_map, suc, true, ℕ, ◌&&◌, ◌==◌, ◌||◌, ◌∷◌, ◌≡◌}
 use Rattle.kept.specs.Prelude.{After, Kept, Kind, Message, Protection, Span, Transaction, in_span, start_at}
-use Rattle.kept.specs.Finding.{is_dead_in}
+use Rattle.kept.specs.Finding.{is_dead_in, is_open, new_transaction}
 use Rattle.kept.specs.Marks.{IsForgotten, IsNoted}
 use Rattle.kept.specs.Places.{moved}
-use Rattle.kept.specs.Table.{is_open, new_transaction}
 use Rattle.spans.specs.declared.state.State.TheVariants as states
 
 -- all is as it was

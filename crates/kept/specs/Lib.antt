@@ -1,12 +1,8 @@
 pub mod Prelude
-pub mod Lists
 pub mod Finding
 pub mod Marks
-pub mod Table
 pub mod Places
 pub mod StandsFor
-pub mod Leading
-pub mod Collecting
 pub mod Changes
 pub mod Replies
 pub mod Answered

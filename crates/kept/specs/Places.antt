@@ -1,8 +1,10 @@
--- What the place of a live feed answers.
-use Rattle.std.specs.Prelude.{Bool, List, None, Option, Some, is_some, length, max, min, nat_lt, take, true, ℕ, ◌&&◌, ◌++◌, ◌-◌, ◌↔◌, ◌≡◌, ◌<◌, ◌≤◌, ◌⊎◌}
-use Rattle.kept.specs.Prelude.{After, Kept, LiveFeed, Message, Place, Row, VersionName, in_span, last_name, last_resolved, newest}
+-- What the place of a live feed answers. What a collection drops, and what holds it back.
+use Rattle.std.specs.Prelude.{Bool, List, None, Option, Some, is_some, length, max, min, nat_lt, take, true, ℕ, ◌&&◌, ◌++◌, ◌-◌, ◌↔◌, ◌≡◌, ◌<◌, ◌≤◌, ◌⊎◌, map}
 use Rattle.spans.specs.Consumer.{is_after_name}
 use Rattle.spans.proofs.StreamOrder.{IsRowIn, RisingRows}
+use Rattle.spans.specs.Transactions.{least_of}
+use Rattle.kept.specs.Prelude.{After, Kept, LiveFeed, Message, Place, Row, VersionName, in_span, last_name, last_resolved, newest, Protection}
+use Rattle.kept.specs.Finding.{is_dropped, AreThose}
 
 -- more rows of the last row's timestamp may follow
 abbrev pub row_floor : Option VersionName → ℕ
@@ -89,3 +91,13 @@ pub record AreNext (k : Kept) (place : Place) (max : ℕ) (rows : List Row) : Ty
   pub all : List Row
   pub left : AreLeft k.version k.committed place k.closed all
   pub first : take max rows ≡ take max all
+
+-- how far a collection through to reaches, by the least protection and the least floor of a live feed, where there are any
+abbrev pub reached : Kept → ℕ → Option ℕ → Option ℕ → ℕ
+reached k to protection floor = max k.horizon (or_min protection (or_min floor (min to k.closed)))
+
+-- with the least protected timestamp and the least floor of a live feed, if any; what is dropped is dead by the horizon
+pub record IsCollected (k : Kept) (horizon : ℕ) (protection floor : Option ℕ) (dropped : List VersionName) : Type 0 where
+  pub least_protection : (n : ℕ) → or_min protection n ≡ least_of n (map (λ (n : Protection). n.at) k.protections)
+  pub lowest_floor : IsLeastFloor k.feed floor
+  pub drops : AreThose (is_dropped k horizon) dropped

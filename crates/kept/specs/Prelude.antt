@@ -6,7 +6,7 @@ pub use Rattle.spans.specs.Feeds.{is_due, last_resolved, start_at}
 pub use Rattle.spans.specs.Kept.{IsCrossed, IsKeptOf, Kept, Place, Transaction, kept_version, last_name, transaction_of}
 pub use Rattle.spans.specs.Keys.{in_span, pairs_of}
 pub use Rattle.spans.specs.Legal.{IsLegal, IsRightEvent, is_accepted, may_lack_memory}
-pub use Rattle.spans.specs.Newest.{Version, newest}
+pub use Rattle.spans.specs.Versions.{Version, newest}
 pub use Rattle.spans.specs.Report.{IsReport, protection_report}
 pub use Rattle.spans.specs.declared.calls.commands.Cmd.{Cmd}
 pub use Rattle.spans.specs.declared.calls.commands.Cmd.TheVariants.{Abort, Begin, Cancel, Close, CloseHard, Collect, Commit, Del, Get, Open, OpenEvery, OpenInitial, OpenInitialEvery, Poll, Protect, Put, ReadAt, Release, Scan, ScanAt, Stats}

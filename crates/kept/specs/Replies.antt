@@ -2,8 +2,7 @@
 use Rattle.std.specs.List.{list_any}
 use Rattle.std.specs.Prelude.{Bool, List, None, Option, Some, [], if◌then◌else◌, is_some, length, map, max, nat_le, nat_lt, not, suc, take, ℕ, ◌&&◌, ◌++◌, ◌==◌, ◌∷◌}
 use Rattle.kept.specs.Prelude.{Aborted, BelowClosed, BelowHorizon, Blocked, Cancelled, Closed, Collected, Committed, FeedCancelled, Found, GapRange, Kept, Kind, MAX, Message, Messages, NoFeed, NoProtection, NotClosed, NotOwner, Opened, Place, Protected, Protection, Refusal, Refused, Released, Reply, Row, Rows, Started, TooLate, TsRange, TsUsed, VersionName, Written, first_refusal_or, is_due, is_gap, is_timestamp, pairs_of}
-use Rattle.kept.specs.Finding.{is_seen_blocked, seen}
-use Rattle.kept.specs.Table.{reach, refusal}
+use Rattle.kept.specs.Finding.{is_seen_blocked, seen, reach, refusal}
 use Rattle.spans.specs.declared.calls.messages.Message.TheVariants as messages
 use Rattle.spans.specs.declared.calls.replies.Reply.TheVariants as replies
 

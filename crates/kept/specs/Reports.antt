@@ -4,9 +4,8 @@ use Rattle.std.specs.List.Sorted.{IsStrictlyIncreasing}
 use Rattle.kept.specs.Prelude.{Kept, Place, Report, Transaction, VersionName, protection_report, start_at}
 use Rattle.spans.specs.declared.report.FeedReport.{FeedReport}
 use Rattle.spans.specs.declared.report.TransactionReport.{TransactionReport}
-use Rattle.kept.specs.Lists.{IsNumberOf}
+use Rattle.kept.specs.Finding.{IsNumberOf, is_open}
 use Rattle.kept.specs.Places.{place_floor, row_floor}
-use Rattle.kept.specs.Table.{is_open}
 
 -- a transaction: its seat, and how many keys have a version at its timestamp
 pub record IsToldOf (k : Kept) (n : TransactionReport) : Type 0 where
@@ -56,15 +55,11 @@ pub record AreLive (feed : ℕ → Option Place) (ns : List FeedReport) : Type 0
   pub each : (f : ℕ) → Contains (map (λ (n : FeedReport). n.number) ns) f ↔ (is_some (feed f) ≡ true)
   pub right : All (λ (n : FeedReport). option_map (feed_report n.number) (feed n.number) ≡ Some n) ns
 
--- n is how many versions are kept
-abbrev pub IsVersionCount : Kept → ℕ → Type 0
-IsVersionCount k n = IsNumberOf (λ (v : VersionName). is_some (k.version v.key v.ts)) n
-
 -- the report of what is kept
 pub record IsKeptReport (k : Kept) (r : Report) : Type 0 where
   pub closed : r.closed ≡ k.closed
   pub horizon : r.horizon ≡ k.horizon
-  pub versions : IsVersionCount k r.versions
+  pub versions : IsNumberOf (λ (v : VersionName). is_some (k.version v.key v.ts)) r.versions
   pub removable : r.removable ≡ None
   pub transactions : AreOpen k r.transactions.items
   pub protections : r.protections.items ≡ map protection_report (reverse k.protections)

@@ -1,6 +1,7 @@
+//! The replies made of what is kept are the answers of the definitions.
 ghost use Rattle.std.specs.Prelude.{List, ℕ, Some, None, true, false};
 ghost use Rattle.kept.specs.Prelude.{Abort, Begin, Cancel, Close, CloseHard, Collect, Commit, Del, Get, Kept, Open, OpenEvery, OpenInitial, OpenInitialEvery, Poll, Protect, Put, ReadAt, Release, Reply, Scan, ScanAt, Span, Stats, kind_of};
-ghost use Rattle.kept.specs.Leading.{Answers};
+ghost use Rattle.kept.specs.StandsFor.{Answers};
 ghost use Rattle.kept.specs.Answered.{IsScanReply, IsWriteReply, IsCommitReply, IsCloseReply, IsHardCloseReply, IsScanAtReply, IsCollectReply, IsPollReply, IsStatsReply};
 ghost use Rattle.kept.specs.Replies.{begin_reply, get_reply, abort_reply, read_at_reply, protect_reply, release_reply, open_reply, cancel_reply};
 

@@ -1,3 +1,4 @@
+//! The rows that are left for a feed, in the two parts in which a store finds them.
 ghost use Rattle.std.specs.Prelude.{List, [], ℕ, Some, false, ◌++◌, ◌≡◌, ◌<◌, ◌≤◌};
 ghost use Rattle.kept.specs.Prelude.{Event, Kept, Place, Row, VersionName, start_at};
 ghost use Rattle.kept.specs.StandsFor.{StandsFor};

@@ -1,3 +1,4 @@
+//! Ways to note a read in the marks of a key.
 ghost use Rattle.std.specs.Prelude.{List, ℕ, Bool, Option};
 ghost use Rattle.spans.specs.Kept.{Kept};
 ghost use Rattle.kept.specs.Marks.{AreSameMarks, FindsOther, FindsOwn, IsAddedMark, IsMergedMark, IsNoted};

@@ -1,3 +1,4 @@
+//! The report that is made of what is kept.
 ghost use Rattle.std.specs.Prelude.{List, false};
 ghost use Rattle.kept.specs.Prelude.{Event, IsReport, Kept, Report, effects_of};
 ghost use Rattle.kept.specs.Reports.{IsKeptReport};

@@ -2,8 +2,7 @@
 ghost use Rattle.std.specs.Prelude.{List, [], ℕ};
 ghost use Rattle.kept.specs.Prelude.{Aborts, After, Begins, Cancels, Closes, Cmd, Collects, Commits, Event, HardCloses, Kept, Kind, Message, NoEffect, Opens, Polls, Protects, Reads, Releases, Reply, Scans, SnapshotReads, SnapshotScans, Span, Writes};
 ghost use Rattle.kept.specs.Answered.{IsStep};
-ghost use Rattle.kept.specs.StandsFor.{StandsFor, nothing_kept};
-ghost use Rattle.kept.specs.Leading.{LeadsTo, LeadsOn, Pairs};
+ghost use Rattle.kept.specs.StandsFor.{StandsFor, nothing_kept, LeadsTo, LeadsOn, Pairs};
 ghost use Rattle.kept.specs.Changes.{IsAlike, IsBegun, IsReadBy, IsScannedBy, IsWritten, IsCommittedBy, IsAbortedBy, IsClosedAt, IsHardClosedAt, IsCollectedTo, IsProtectedBy, IsReleasedFrom, IsOpenedAt, IsMovedBy, IsCancelledFrom};
 
 /// Simulation: if `k` stands for a history, an event is legal after it, and `k'` is `k` changed by the event's effect, then

@@ -1,3 +1,4 @@
+//! The keys of a set.
 ghost use Rattle.std.specs.Prelude.{◌≡◌, ◌∷◌, ◌↔◌, ◌<◌, ◌^◌, ℕ, List, [], IsTrue, IfOk, OnOk, OnErr, bytes_eq, true, false, filter, if◌then◌else◌, length, not};
 ghost use Rattle.std.specs.BTreeMap.{is_at};
 ghost use Rattle.std.specs.Fn.{CalledAt};
@@ -6,7 +7,7 @@ ghost use Rattle.std.specs.Iterator.{at_most};
 ghost use Rattle.std.specs.Map.Iter.{TakesFirst, deref};
 ghost use Rattle.std.specs.Set.{remove_key};
 ghost use Rattle.std.specs.declared.cmp.Ordering.TheVariants.{Less};
-ghost use Rattle.timestamps.specs.Bytes.{key_cmp};
+ghost use Rattle.timestamps.specs.Words.{key_cmp};
 ghost use Rattle.key_set.specs.Prelude.{RisingKeys, key_lt};
 ghost use Rattle.spans.specs.Keys.{insert_key};
 ghost use Rattle.spans.proofs.WriteSets.{has};

@@ -6,8 +6,7 @@ use Rattle.std.proofs.lemmas.Bool.Decides.{nat_tests}
 use Rattle.std.proofs.lemmas.Map.Text.{is_eq-slice_cmp}
 use Rattle.std.proofs.lemmas.Slice.Eq.{bytes_eq-Decides}
 use Rattle.slab.specs.Slab as slab
-use Rattle.key_table.specs.Numbers.{Numbered, number_in, IsNumberedAt, IsOwn}
-use Rattle.key_table.specs.Ties.{AreTied}
+use Rattle.key_table.specs.Numbers.{Numbered, number_in, IsNumberedAt, IsOwn, AreTied}
 
 by_test : {P : Type 0} (b : Bool) → (b ≡ true → P) → (b ≡ false → P) → P
 by_test true on off = on refl

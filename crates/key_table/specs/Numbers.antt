@@ -1,7 +1,9 @@
 -- What a table of keys is seen as.
-use Rattle.std.specs.Prelude.{ℕ, List, Option, Some, ◌≡◌, if◌then◌else◌, bytes_eq}
+use Rattle.std.specs.Prelude.{ℕ, List, Option, Some, ◌≡◌, if◌then◌else◌, bytes_eq, ◌↔◌}
 use Rattle.std.specs.Map.{lookup}
-use Rattle.key_table.specs.Prelude.{is_at, key_cmp}
+use Rattle.slab.specs.Slab.{Slab}
+use Rattle.slab.specs.Slab as slab
+use Rattle.key_table.specs.Prelude.{is_at, key_cmp, BTreeMap, get}
 
 -- keys, each with its number
 abbrev pub Numbered : Type 0
@@ -22,3 +24,7 @@ AreApart ns = (x y : List ℕ) (n : ℕ) → number_in ns x ≡ Some n → numbe
 -- x has the number n, or none, and any other key has what it had
 abbrev pub IsNumberedAt : Numbered → Numbered → List ℕ → Option ℕ → Type 0
 IsNumberedAt ns ms x n = (y : List ℕ) → number_in ms y ≡ (if bytes_eq x y then n else number_in ns y)
+
+-- x has the number n exactly where it stands at n
+abbrev pub AreTied : BTreeMap (List ℕ) ℕ → Slab (List ℕ) → Type 0
+AreTied numbers keys = (x : List ℕ) (n : ℕ) → (get key_cmp numbers x ≡ Some n) ↔ (slab.get keys n ≡ Some x)

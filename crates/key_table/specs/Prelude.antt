@@ -1,3 +1,3 @@
 -- The words that the specifications take from below.
 pub use Rattle.std.specs.BTreeMap.{BTreeMap, get, is_at}
-pub use Rattle.timestamps.specs.Bytes.{key_cmp}
+pub use Rattle.timestamps.specs.Words.{key_cmp}

@@ -1,3 +1,4 @@
+//! Numbers that are tried before a map is searched.
 use slab::Slab;
 use std::alloc::{AllocError, Global};
 use timestamps::key::Key;

@@ -1,3 +1,4 @@
+//! Keys and their numbers.
 ghost use Rattle.std.specs.Prelude.{◌≡◌, ◌↔◌, ◌≤◌, ℕ, List, [], Some, None, IfSome, IfOk, OnErr, true};
 ghost use Rattle.std.specs.Option.{option_copied};
 ghost use Rattle.std.specs.Map.{keys_of};
@@ -5,7 +6,7 @@ ghost use Rattle.std.specs.List.Sorted.{IsStrictlySortedBy};
 ghost use Rattle.std.specs.Range.Bound.{bound_map};
 ghost use Rattle.std.specs.BTreeMap.Range.{entries_between};
 ghost use Rattle.std.specs.declared.ops.Bound.TheVariants.{Unbounded};
-ghost use Rattle.timestamps.specs.Bytes.{key_cmp};
+ghost use Rattle.timestamps.specs.Words.{key_cmp};
 ghost use Rattle.key_table.specs.Numbers.{number_in, AreApart, IsNumberedAt, IsOwn};
 
 use crate::hints::{Hints, PLACES, hash_of};
@@ -28,8 +29,7 @@ pub struct KeyTable {
 }
 
 impl Model for KeyTable {
-    ghost use Rattle.key_table.specs.Numbers.{Numbered};
-    ghost use Rattle.key_table.specs.Ties.{AreTied};
+    ghost use Rattle.key_table.specs.Numbers.{Numbered, AreTied};
 
     ghost Value = { Numbered };
 

@@ -2,7 +2,7 @@
 use Rattle.mvto_rules.proofs.Common.{After, AreKeysOf, Found, IsAnswered, IsStep, IsWanting, Kept, MAX, NoProtection, Protect, Protected, Protection, ReadAt, Refusal, Refused, Release, Released, Rows, ScanAt, Span, Standing, TsRange, alike_self, closed_in, common_steps, list_any, made_in, nat_tests, pairs_of, protection, protections_in, seen}
 use Rattle.std.proofs.Common.{List, None, Option, Some, arith, false, refl, suc, true, ℕ, ◌<◌, ◌≤◌, ◌==◌, ◌∷◌, ◌≡◌, []}
 use Rattle.std.specs.Prelude.{filter, not}
-use Rattle.mvto_rules.specs.Snapshots.{horizon_refusal, snapshot_refusal}
+use Rattle.mvto_rules.specs.Scans.{horizon_refusal, snapshot_refusal}
 
 -- ---- tests
 

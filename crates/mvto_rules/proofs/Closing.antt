@@ -2,7 +2,7 @@
 use Rattle.mvto_rules.proofs.Common.{After, AreDistinct, AreDroppedAt, AreThose, Close, CloseHard, Closed, Has, IsClosedAt, IsHardClosedAt, IsOldest, IsStep, Kept, MAX, Protection, Refused, Stored, Table, Transaction, TsRange, and_parts, both_ways, by_test, common_steps, is_committed_in, is_open, nat_tests, reach, transaction_in, version_in}
 use Rattle.std.proofs.Common.{Bool, List, None, Option, Some, arith, cond, eqb-true, eq-eqb, inl, inr, length, refl, subst, sym, true, ℕ, ◌<◌, ◌==◌, ◌&&◌, ◌∷◌, ◌≡◌, ◌∙◌, []}
 use Rattle.std.specs.Prelude.{is_some, max, nat_le, ◌≤◌}
-use Rattle.mvto_rules.specs.Closings.{AreTakenBack, is_taken_back}
+use Rattle.mvto_rules.specs.Holding.{AreTakenBack, is_taken_back}
 use Rattle.mvto_rules.specs.Tables.{AreInRange}
 
 -- the transactions that are left are still to be taken back

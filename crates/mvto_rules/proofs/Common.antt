@@ -4,12 +4,10 @@ pub use Rattle.kept.proofs.Refusals.{within}
 pub use Rattle.kept.proofs.Staying.{alike_self}
 pub use Rattle.kept.specs.Answered.{IsAnswered, IsChangedBy, IsScanReply, IsStep, IsWanting, IsWriteReply}
 pub use Rattle.kept.specs.Changes.{IsAbortedBy, IsAlike, IsBegun, IsClosedAt, IsCollectedTo, IsCommittedBy, IsHardClosedAt, IsReadBy, IsScannedBy, IsWritten}
-pub use Rattle.kept.specs.Collecting.{reached}
-pub use Rattle.kept.specs.Finding.{AreKeysOf, IsNextAbove, is_dropped, is_seen_blocked, seen}
-pub use Rattle.kept.specs.Lists.{AreThose, IsNumberOf}
+pub use Rattle.kept.specs.Places.{reached}
+pub use Rattle.kept.specs.Finding.{AreKeysOf, IsNextAbove, is_dropped, is_seen_blocked, seen, AreThose, IsNumberOf, IsOldest, is_open, reach, refusal}
 pub use Rattle.kept.specs.Marks.{IsLate, IsNoted, IsPiece, until}
 pub use Rattle.kept.specs.Replies.{begin_reply, get_reply, scan_reply, unless_refused, write_reply}
-pub use Rattle.kept.specs.Table.{IsOldest, is_open, reach, refusal}
 pub use Rattle.spans.proofs.Keyed.{IsIn, RisingKeys}
 pub use Rattle.spans.proofs.Members.{AreDistinct, Has}
 pub use Rattle.spans.proofs.Results.{any_err}
@@ -20,7 +18,7 @@ pub use Rattle.spans.specs.Effects.{After, effect}
 pub use Rattle.spans.specs.Kept.{Kept, Transaction}
 pub use Rattle.spans.specs.Keys.{in_span, pairs_of, with_value}
 pub use Rattle.spans.specs.Legal.{is_accepted}
-pub use Rattle.spans.specs.Newest.{newest, version_at}
+pub use Rattle.spans.specs.Versions.{newest, version_at}
 pub use Rattle.spans.specs.declared.calls.commands.Cmd.TheVariants.{Abort, Begin, Close, CloseHard, Collect, Commit, Del, Get, Protect, Put, ReadAt, Release, Scan, ScanAt}
 pub use Rattle.spans.specs.declared.calls.replies.Refusal.{Refusal}
 pub use Rattle.spans.specs.declared.calls.replies.Refusal.TheVariants.{BelowHorizon, Blocked, NoMemory, NoProtection, NotClosed, TooLate, TsRange}
@@ -39,10 +37,8 @@ pub use Rattle.std.specs.Map.{keys_of}
 pub use Rattle.std.specs.Map.Iter.{deref_pair}
 pub use Rattle.std.specs.Option.{option_copied}
 pub use Rattle.timestamps.specs.declared.ts.TheConstants.{MAX}
-pub use Rattle.txn_table.specs.TransactionIn.{Table, transaction_in}
+pub use Rattle.txn_table.specs.States.{Table, transaction_in}
 pub use Rattle.version_chain.proofs.InSpans.{chain_among, chain_nowhere, key_among, rises_filtered}
-pub use Rattle.version_chain.specs.Chains.{AreFilled, Entry, chain_of}
-pub use Rattle.version_chain.specs.Marking.{AreMarkedAt, IsCrossedIn, IsMarkedAt, newest_in}
-pub use Rattle.version_chain.specs.Stores.{AreDroppedAt, HaveSameMarks, IsAsBefore, IsNewestIn, IsWrittenTo, Stored, after_of, is_committed_in, marked_in, version_in}
+pub use Rattle.version_chain.specs.Stores.{AreFilled, Entry, chain_of, AreMarkedAt, IsCrossedIn, IsMarkedAt, newest_in, AreDroppedAt, HaveSameMarks, IsAsBefore, IsNewestIn, IsWrittenTo, Stored, after_of, is_committed_in, marked_in, version_in}
 pub use Rattle.version_chain.specs.Versions.{IsNewestOf, IsNoneUpTo, version_of}
 pub use Rattle.version_chain.specs.declared.chain.Version.{Version}

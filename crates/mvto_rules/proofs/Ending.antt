@@ -2,9 +2,7 @@
 use Rattle.mvto_rules.proofs.Common.{AllByRecursion, Entry, RisingKeys, Span, Stored, chain_of, common_steps, in_span, is_committed_in, keys_of, version_in}
 use Rattle.std.proofs.Common.{List, None, Option, Some, ap, arith, false, refl, true, ℕ, ◌∷◌, ◌≡◌, []}
 use Rattle.version_chain.specs.declared.chain.Version as stored
-use Rattle.mvto_rules.specs.Room.{end_in, has_room, room_behind, stops_at}
-use Rattle.mvto_rules.specs.Scans.{entries_of, keys_in}
-use Rattle.mvto_rules.specs.Sights.{value_in}
+use Rattle.mvto_rules.specs.Scans.{end_in, has_room, room_behind, stops_at, entries_of, keys_in, value_in}
 use Rattle.mvto_rules.specs.declared.room.Room.{Room}
 use Rattle.mvto_rules.proofs.Seeing.{IsThere}
 use Rattle.mvto_rules.proofs.Walking.{each_found}

@@ -1,9 +1,7 @@
 -- The rows of a span at a closed timestamp, one key after another.
 use Rattle.mvto_rules.proofs.Common.{AllByRecursion, Entry, RisingKeys, Span, Stored, Version, append-nil, chain_of, common_steps, in_span, is_committed_in, keys_of, version_in, with_value}
-use Rattle.std.proofs.Common.{arith}
-use Rattle.std.proofs.Common.{refl, List, Option, ap, sym, true, ℕ, ◌++◌, ◌∷◌, ◌≡◌, ◌∙◌, []}
-use Rattle.mvto_rules.specs.Scans.{entries_of, keys_in, rows_in}
-use Rattle.mvto_rules.specs.Sights.{value_in}
+use Rattle.std.proofs.Common.{arith, refl, List, Option, ap, sym, true, ℕ, ◌++◌, ◌∷◌, ◌≡◌, ◌∙◌, []}
+use Rattle.mvto_rules.specs.Scans.{entries_of, keys_in, rows_in, value_in}
 use Rattle.mvto_rules.proofs.Seeing.{IsThere}
 use Rattle.mvto_rules.proofs.Walking.{each_found}
 

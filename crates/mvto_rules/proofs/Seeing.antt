@@ -2,7 +2,7 @@
 use Rattle.mvto_rules.proofs.Common.{After, Blocked, Found, IsNewestIn, IsNewestOf, IsNoneUpTo, Kept, Refused, Reply, Stored, Version, after_of, chain_of, common_steps, get_reply, is_committed_in, newest, newest_only, option_copied, refusal, seen, version_at, version_in, version_of}
 use Rattle.std.proofs.Common.{Bool, Bor, List, None, Option, Some, ap, arith, false, inl, inr, refl, true, ℕ, ◌<◌, ◌≤◌, ◌≡◌, ◌∙◌}
 use Rattle.std.specs.Prelude.{IfSome, MatchOption}
-use Rattle.mvto_rules.specs.Sights.{sight_of, ts_of, value_in, would_stop}
+use Rattle.mvto_rules.specs.Scans.{sight_of, ts_of, value_in, would_stop}
 use Rattle.mvto_rules.specs.declared.sight.Sight.{Sight}
 use Rattle.mvto_rules.specs.Holding.{holding}
 use Rattle.mvto_rules.specs.declared.rules.Rules.{Rules}

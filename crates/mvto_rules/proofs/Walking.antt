@@ -1,10 +1,8 @@
 -- A walk through the entries of a span.
 use Rattle.mvto_rules.proofs.Common.{AllByRecursion, Entry, IsIn, IsNewestOf, IsNoneUpTo, RisingKeys, Span, Stored, Version, chain_among, chain_of, common_steps, in_span, is_committed_in, key_among, keys_of, newest_in, option_copied, version_in}
-use Rattle.std.proofs.Common.{arith}
-use Rattle.std.proofs.Common.{Bor, List, Option, Some, ap, append_assoc, cond, false, inl, inr, refl, subst, sym, true, ℕ, ◌<◌, ◌≤◌, ◌++◌, ◌∷◌, ◌≡◌, ◌∙◌, []}
+use Rattle.std.proofs.Common.{arith, Bor, List, Option, Some, ap, append_assoc, cond, false, inl, inr, refl, subst, sym, true, ℕ, ◌<◌, ◌≤◌, ◌++◌, ◌∷◌, ◌≡◌, ◌∙◌, []}
 use Rattle.std.specs.Prelude.{IfSome, MatchOption}
-use Rattle.mvto_rules.specs.Scans.{entries_of, first_blocker, keys_in}
-use Rattle.mvto_rules.specs.Sights.{sight_of}
+use Rattle.mvto_rules.specs.Scans.{entries_of, first_blocker, keys_in, sight_of}
 use Rattle.mvto_rules.specs.declared.sight.Sight.TheVariants as sights
 use Rattle.mvto_rules.proofs.Seeing.{IsThere, blocked_is, chain_newest, found_there, is_stopped}
 

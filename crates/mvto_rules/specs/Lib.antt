@@ -1,11 +1,4 @@
 pub mod Prelude
 pub mod Tables
-pub mod Sights
 pub mod Scans
-pub mod Readings
 pub mod Holding
-pub mod Snapshots
-pub mod Closings
-pub mod Reaching
-pub mod Looking
-pub mod Room

@@ -17,7 +17,7 @@
 ghost use Rattle.std.specs.Prelude.{ℕ, ◌≡◌};
 ghost use Rattle.kept.specs.Places.{or_min};
 ghost use Rattle.mvto_rules.specs.Prelude.{Collect, IsLeastFloor, IsStep};
-ghost use Rattle.mvto_rules.specs.Reaching.{IsLimit};
+ghost use Rattle.mvto_rules.specs.Holding.{IsLimit};
 
 use crate::rules::Rules;
 use spans::calls::{Refusal, Reply};

@@ -1,7 +1,7 @@
 //! Closings, and what they let go: transactions, readers, and versions.
 ghost use Rattle.std.specs.Prelude.{ℕ, ◌≡◌, ◌≤◌};
 ghost use Rattle.mvto_rules.specs.Prelude.{Close, CloseHard, HaveSameMarks, IsClosedAt, MAX, closed_in};
-ghost use Rattle.mvto_rules.specs.Closings.{AreTakenBack, IsCountTakenBack, is_taken_back, with_closed};
+ghost use Rattle.mvto_rules.specs.Holding.{AreTakenBack, IsCountTakenBack, is_taken_back};
 ghost use Rattle.mvto_rules.specs.Tables.{AreInRange};
 
 use crate::rules::Rules;
@@ -11,8 +11,7 @@ use txn_table::Txns;
 use version_chain::Store;
 
 impl Rules {
-    ghost use Rattle.mvto_rules.specs.Holding.{Changes, Steps, closing_of};
-    ghost use Rattle.mvto_rules.specs.Closings.{AreMarksForgotten};
+    ghost use Rattle.mvto_rules.specs.Holding.{Changes, Steps, closing_of, AreMarksForgotten};
 
     /// Closes through `to`, or up to just below the oldest undecided transaction where that is lower. It
     /// forgets the transactions and the readers there, and takes no memory.
@@ -48,7 +47,7 @@ impl Rules {
     fn forget_closed(&mut self)
         ensures marks { AreMarksForgotten self.old self.new (closed_in (closing_of self.old)) }
         ensures closing { closing_of self.new ≡ closing_of self.old }
-        ensures closed { (was : ℕ) → Changes self.old self.new (λ k k'. IsClosedAt (with_closed was k) k' k.closed) }
+        ensures closed { (was : ℕ) → Changes self.old self.new (λ k k'. IsClosedAt (record k { closed = was }) k' k.closed) }
     {
         let closed = self.closing.closed();
         self.store.forget_through(closed);

@@ -2,8 +2,8 @@
 //! and whether a command is refused.
 ghost use Rattle.std.specs.Prelude.{◌≡◌, is_some, not};
 ghost use Rattle.mvto_rules.specs.Prelude.{IsOldest, refusal};
-ghost use Rattle.mvto_rules.specs.Looking.{IsReachedIn, kept_value_version};
-ghost use Rattle.mvto_rules.specs.Snapshots.{snapshot_refusal};
+ghost use Rattle.mvto_rules.specs.Holding.{IsReachedIn, kept_value_version};
+ghost use Rattle.mvto_rules.specs.Scans.{snapshot_refusal};
 
 use crate::rules::Rules;
 use timestamps::key::Key;

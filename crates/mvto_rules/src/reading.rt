@@ -3,9 +3,7 @@ ghost use Rattle.std.specs.Prelude.{◌≡◌, ◌≤◌, ◌++◌, [], IfOk, If
 ghost use Rattle.std.specs.Option.{option_copied};
 ghost use Rattle.std.specs.Map.{keys_of};
 ghost use Rattle.mvto_rules.specs.Prelude.{AreFilled, RisingKeys, with_value};
-ghost use Rattle.mvto_rules.specs.Scans.{entries_of, first_blocker, keys_in, rows_in};
-ghost use Rattle.mvto_rules.specs.Readings.{IsReading};
-ghost use Rattle.mvto_rules.specs.Sights.{value_in};
+ghost use Rattle.mvto_rules.specs.Scans.{entries_of, first_blocker, keys_in, rows_in, IsReading, value_in};
 
 use crate::sight::{Sight, value_of};
 use spans::span::Span;

@@ -12,9 +12,7 @@ ghost use Rattle.std.specs.Prelude.{◌≡◌, true};
 ghost use Rattle.std.specs.Map.{keys_of};
 ghost use Rattle.std.specs.Option.{option_copied};
 ghost use Rattle.mvto_rules.specs.Prelude.{AreFilled, RisingKeys};
-ghost use Rattle.mvto_rules.specs.Room.{IsEnd, end_in, has_room, room_behind, stops_at};
-ghost use Rattle.mvto_rules.specs.Scans.{entries_of, keys_in};
-ghost use Rattle.mvto_rules.specs.Sights.{value_in};
+ghost use Rattle.mvto_rules.specs.Scans.{IsEnd, end_in, has_room, room_behind, stops_at, entries_of, keys_in, value_in};
 
 use crate::reading::is_named;
 use crate::rules::Rules;

@@ -1,7 +1,7 @@
 //! What a read finds at a key.
 ghost use Rattle.std.specs.Prelude.{◌≡◌, ◌≤◌, ◌<◌, IfOk, IfSome};
 ghost use Rattle.std.specs.Option.{option_copied};
-ghost use Rattle.mvto_rules.specs.Sights.{value_in};
+ghost use Rattle.mvto_rules.specs.Scans.{value_in};
 
 use std::alloc::AllocError;
 use timestamps::row::copy_after;
@@ -21,7 +21,7 @@ pub(crate) enum Sight {
 }
 
 impl Sight {
-    ghost use Rattle.mvto_rules.specs.Sights.{sight_of};
+    ghost use Rattle.mvto_rules.specs.Scans.{sight_of};
 
     /// The sight of a read of `ts`, whose newest version is this one, where there is one.
     pub(crate) fn of(newest: Option<&Version>, ts: Ts) -> Sight

@@ -1,7 +1,7 @@
 //! Reads at a closed timestamp, of what was committed there, which mark nothing; and protections of it.
 ghost use Rattle.std.specs.Prelude.{ℕ, ◌≡◌, ◌<◌};
 ghost use Rattle.mvto_rules.specs.Prelude.{Protect, ReadAt, Release, ScanAt, made_in};
-ghost use Rattle.mvto_rules.specs.Snapshots.{horizon_refusal, snapshot_refusal};
+ghost use Rattle.mvto_rules.specs.Scans.{horizon_refusal, snapshot_refusal};
 
 use crate::reading::{is_named, rows_at};
 use crate::rules::Rules;

@@ -1,8 +1,6 @@
 -- The words that the proofs take from below.
-pub use Rattle.follow.specs.Chosen.{begins_message, is_feed, is_taking_after, polled_among, polled_by, polled_in}
-pub use Rattle.follow.specs.Followed.{is_chosen, start_of}
+pub use Rattle.follow.specs.Following.{begins_message, is_feed, is_taking_after, polled_among, polled_by, polled_in, is_chosen, start_of, Followed, chosen_at, followed_lines, followed_through, line_at, onto_followed, said_by}
 unfoldable pub use Rattle.follow.specs.Following.{followed_at}
-pub use Rattle.follow.specs.Following.{Followed, chosen_at, followed_lines, followed_through, line_at, onto_followed, said_by}
 pub use Rattle.follow.specs.Reports.{IsFollowReport, shown_before}
 pub use Rattle.follow.specs.declared.options.FollowOptions.{FollowOptions}
 unfoldable pub use Rattle.json_lines.specs.Messages.{message_line}
@@ -13,7 +11,7 @@ pub use Rattle.replica.specs.Starts.{IsStartOf, Pairs, Start, seeded_start}
 pub use Rattle.replica.specs.declared.replica.Replica.{Replica}
 pub use Rattle.script.proofs.CutLines.{lines_again, words_line_again}
 pub use Rattle.script.proofs.EventsAgain.{row_again, transcript_again}
-unfoldable pub use Rattle.script.specs.Lines.{lines_of}
+unfoldable pub use Rattle.script.specs.EventLines.{lines_of}
 pub use Rattle.script.specs.Transcripts.{events_text, transcript_at, transcript_text}
 pub use Rattle.sessions.specs.Runs.{BeginWith, IsOpenAt, IsServed, MayHold, calls_of}
 pub use Rattle.spans.proofs.Copies.{AllAllowed}
@@ -29,9 +27,8 @@ pub use Rattle.spans.specs.Collection.{LiveFeed, Protection, collection_horizon,
 pub use Rattle.spans.specs.Consumer.{AllTaken, ApplyFault, ConsumerIsRight, apply_fault, seed_of, view_of}
 pub use Rattle.spans.specs.Effects.{After, Begins, Cancels, Collects, Effect, Opens, Writes, effect, effects_of, kind_of}
 pub use Rattle.spans.specs.Feeds.{Feed, due_message, feed_of, feeds_opened, is_cancelled, is_due, list_of, next_messages, resolved_of, rows_in, same_version, told_to, untold_rows}
-pub use Rattle.spans.specs.Keys.{AreRows, in_span, insert_key, insert_where, pairs_of, value_among, with_value}
+pub use Rattle.spans.specs.Keys.{AreRows, in_span, insert_key, insert_where, pairs_of, value_among, with_value, Has}
 pub use Rattle.spans.specs.Legal.{IsGapless, IsLegal, IsRightEvent}
-pub use Rattle.spans.specs.Members.{Has}
 pub use Rattle.spans.specs.Serial.{Map, map_at, put, span_part}
 pub use Rattle.spans.specs.Transactions.{begun_of, closed_of, decided_through, is_undecided, owner_of, undecided_timestamps}
 pub use Rattle.spans.specs.Versions.{committed_value, committed_version_of, is_blocked, version_of, visible, write_count, write_of, written_keys}
@@ -58,11 +55,8 @@ pub use Rattle.trace_check.proofs.TraceSteps.{gapless_begins, gapless_from_first
 pub use Rattle.word_lines.proofs.JoinedParts.{IsWord, Lacks, decimal_all, is_false, text_again, words_again}
 pub use Rattle.word_lines.proofs.ReadWords.{ok_is}
 pub use Rattle.word_lines.proofs.WrittenWords.{bytes_few, bytes_word, command_few, joined_few, letters, number_length, number_word, room, words_then}
-unfoldable pub use Rattle.word_lines.specs.Commands.{words_of}
-pub use Rattle.word_lines.specs.Commands.{joined}
-pub use Rattle.word_lines.specs.Events.{event_text, heading_text}
+unfoldable pub use Rattle.word_lines.specs.Events.{words_of, following_lines, reply_words}
+pub use Rattle.word_lines.specs.Events.{joined, event_text, heading_text, refusal_words, row_line}
 unfoldable pub use Rattle.word_lines.specs.Limits.{IsCommand, IsReply}
 pub use Rattle.word_lines.specs.Limits.{IsEvent, IsNumber, IsPair, IsRefusal, KeepsLimit}
-unfoldable pub use Rattle.word_lines.specs.Replies.{following_lines, reply_words}
-pub use Rattle.word_lines.specs.Replies.{refusal_words, row_line}
 pub use Rattle.word_lines.specs.Words.{text_at}

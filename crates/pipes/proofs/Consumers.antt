@@ -6,7 +6,7 @@ use Rattle.json_lines.specs.declared.fault.MessageFault.{MessageFault}
 use Rattle.json_lines.specs.declared.fault.MessageFault.TheVariants as lines
 use Rattle.replica.specs.declared.fault.Fault.{Fault}
 use Rattle.replica.specs.declared.fault.Fault.TheVariants as faults
-use Rattle.replica.specs.Faults.{AddsValue}
+use Rattle.replica.specs.Replicas.{AddsValue}
 use Rattle.embedded_replica.specs.Consumers.{HasTaken, IsLineOf, IsNoMessage, IsRefused}
 use Rattle.embedded_replica.specs.declared.consumer.TakeError.{TakeError}
 use Rattle.embedded_replica.specs.declared.consumer.TakeError.TheVariants as takes

@@ -3,7 +3,7 @@ use Rattle.std.proofs.Common.{◌≡◌, ℕ, ◌==◌, Bool, true, false, List,
 use Rattle.std.specs.Prelude.{is_none}
 use Rattle.pipes.proofs.Common.{All-append, All-from_recursion, AllByRecursion, AllTaken, Cmd, ConsumerIsRight, Effect, Event, Feed, FollowOptions, Format, IsEvent, IsLegal, IsMessage, IsReply, IsStartOf, KeepsLimit, Message, Messages, Poll, Refused, Reply, Span, Start, TooLate, append-nil, by_test, effect, effects_of, events_text, feed_of, flat_map, followed_at, followed_lines, followed_through, is_feed, lawful, lines_of, recursion_from_All, reverse-append, reverse-reverse, taken_after, told_to, transcript_text}
 use Rattle.std.proofs.lemmas.Grind.{flat_map-append}
-use Rattle.follow.specs.Followed.{start_of as options_start}
+use Rattle.follow.specs.Following.{start_of as options_start}
 use Rattle.pipes.specs.Followers.{Follows, IsFollowing, TakesAll, told_in, told_lines}
 use Rattle.pipes.specs.Texts.{IsWritable}
 use Rattle.pipes.proofs.TakenLines.{AreTaken, Goes, event_goes, header_goes, messages_taken, nothing_goes, polled_of, told_of, told_where}

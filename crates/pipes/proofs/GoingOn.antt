@@ -2,8 +2,8 @@
 use Rattle.std.proofs.Common.{◌≡◌, ℕ, List, [], ◌∷◌, Some, None, Ok, refl, sym, ap, ◌∙◌}
 use Rattle.pipes.proofs.Common.{All, AllByRecursion, AreRows, Cmd, IsPair, Map, Pairs, Replica, Span, Two, among_rows, flat_map, lines_of, ok_is, recursion_from_All, row_again, row_line, seeded_start, span_in, value_among, view_in}
 use Rattle.replica.specs.Rows.{AreRowsOf}
-use Rattle.embedded_replica.specs.Seeds.{pairs_at, pairs_of_lines, seeded_of}
-use Rattle.pipes.specs.GoingOn.{GoOnFrom, IsKept}
+use Rattle.embedded_replica.specs.Consumers.{pairs_at, pairs_of_lines, seeded_of}
+use Rattle.pipes.specs.Consumers.{GoOnFrom, IsKept}
 
 lines_read : (rows : Pairs) → AllByRecursion (IsPair Two) rows → pairs_at (flat_map row_line rows) ≡ Ok rows
 unfolding pairs_of_lines lines_of

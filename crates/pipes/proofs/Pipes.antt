@@ -14,8 +14,7 @@ use Rattle.sessions.specs.Devices.{Reads, Writes}
 use Rattle.sessions.specs.Runs.{EndsBy}
 use Rattle.sessions.specs.declared.ending.ServeEnd.{ServeEnd}
 use Rattle.sessions.specs.declared.ending.ServeEnd.TheVariants as run
-use Rattle.races.specs.Calls.{IsRaceOf, commands_by}
-use Rattle.races.specs.Playing.{commands_of}
+use Rattle.races.specs.Racing.{IsRaceOf, commands_by, commands_of}
 use Rattle.jobs.specs.Races.{IsRaced}
 use Rattle.embedded.specs.Embedded.{StandsFor}
 use Rattle.embedded.specs.declared.database.Database.{Database}

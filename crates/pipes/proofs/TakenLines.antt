@@ -6,7 +6,7 @@ use Rattle.spans.specs.declared.calls.commands.Cmd.TheVariants as cmd
 use Rattle.spans.specs.declared.calls.messages.Message.TheVariants as messages
 use Rattle.spans.specs.declared.calls.replies.Reply.TheVariants as reply
 use Rattle.json_lines.proofs.NumberWords.{number_only}
-use Rattle.word_lines.specs.Spelling.{spelling}
+use Rattle.word_lines.specs.Words.{spelling}
 use Rattle.word_lines.proofs.Spellings.{both}
 use Rattle.word_lines.proofs.ReadParts.{command_words}
 use Rattle.script.proofs.WrittenReplies.{reply_are_words}

@@ -2,7 +2,7 @@
 use Rattle.std.proofs.Common.{◌≡◌, ℕ, ◌==◌, ◌&&◌, List, [], ◌∷◌, Option, Some, None, refl, sym, subst, inl, inr}
 use Rattle.std.specs.Prelude.{bytes_eq}
 use Rattle.pipes.proofs.Common.{After, AllByRecursion, Cmd, Del, Effect, Event, Format, IsAfter, IsCommand, IsIn, IsKey, IsPair, Put, Refused, Reply, TooLate, Writes, Written, and_parts, by_test, committed_value, committed_version_of, effect, effects_of, newest_is, only_in, pairs_of, same_key, version_of, version_wrote, visible, with_value, write_of, written_keys}
-use Rattle.spans.specs.Newest.{newest}
+use Rattle.spans.specs.Versions.{newest}
 use Rattle.spans.proofs.Dead.{committed_is}
 use Rattle.pipes.specs.Texts.{KeepsFormat}
 

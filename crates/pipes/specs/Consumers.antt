@@ -1,12 +1,17 @@
 -- Which consumers take the lines of a feed's polls (this project's own).
-use Rattle.std.specs.Prelude.{ℕ, List, ◌∷◌, ◌++◌, ◌≡◌, Some, reverse}
-use Rattle.pipes.specs.Prelude.{Event, Feed, Follows, IsStartOf, Message, Replica, Start, Takes, Two, effects_of, feed_of, message_line}
+use Rattle.std.specs.Prelude.{ℕ, List, ◌∷◌, ◌++◌, ◌≡◌, Some, reverse, [], Ok}
+use Rattle.embedded_replica.specs.Consumers.{HasTaken, IsRefused}
+use Rattle.embedded_replica.specs.declared.consumer.TakeError.{TakeError}
+use Rattle.spans.specs.declared.calls.commands.Cmd.{Cmd}
+use Rattle.word_lines.specs.Reading.{command_at}
+use Rattle.word_lines.specs.Table.{table}
+use Rattle.replica.specs.Right.{StartsFrom}
+use Rattle.replica.specs.Rows.{AreRowsOf}
 use Rattle.json_lines.specs.declared.fault.MessageFault.TheVariants as lines
 use Rattle.spans.specs.declared.calls.messages.Message.TheVariants as messages
 use Rattle.replica.specs.declared.fault.Fault.TheVariants as faults
-use Rattle.embedded_replica.specs.Consumers.{HasTaken, IsRefused}
-use Rattle.embedded_replica.specs.declared.consumer.TakeError.{TakeError}
 use Rattle.embedded_replica.specs.declared.consumer.TakeError.TheVariants as takes
+use Rattle.pipes.specs.Prelude.{Event, Feed, Follows, IsStartOf, Message, Replica, Start, Takes, Two, effects_of, feed_of, message_line, All, BeginsWith, IsPair, Pairs, flat_map, row_line, seeded_of, span_in, view_in}
 use Rattle.pipes.specs.Followers.{told_in}
 use Rattle.pipes.specs.Texts.{IsWritable}
 
@@ -34,3 +39,22 @@ IsOutOfMemoryAt _ _ = ⊥
 pub record TakesLine (r : Replica) (m : Message) : Type 0 where
   pub taken : (new : Replica) → HasTaken (message_line m) r new → Takes r new m
   pub refused : (error : TakeError) → IsRefused (message_line m) r error → IsOutOfMemoryAt m error
+
+-- the rows are all that the replica has, and keep the format's limits, and the line opens a feed of its span at n
+pub record IsKept (r : Replica) (n : ℕ) (line : List ℕ) (rows : Pairs) : Type 0 where
+  pub all : AreRowsOf (view_in r) rows
+  pub limits : All (IsPair Two) rows
+  pub seat : ℕ
+  pub command : Cmd
+  pub read : command_at Two table 64 line ≡ Ok (seat, command)
+  pub opens : seeded_of command ≡ Some (span_in r, n)
+
+-- the new replica has taken nothing yet, and goes on from the old one, at n
+pub record HasGoneOn (r : Replica) (n : ℕ) (new : Replica) : Type 0 where
+  pub start : Start
+  pub follows : Follows new start []
+  pub from : StartsFrom start r n
+
+-- whoever begins by the line and with the lines of the rows does so
+abbrev pub GoOnFrom : Replica → ℕ → List ℕ → Pairs → Type 0
+GoOnFrom r n line rows = (new : Replica) → BeginsWith line (flat_map row_line rows) new → HasGoneOn r n new

@@ -9,8 +9,7 @@ use Rattle.follow.specs.declared.ending.FollowEnd.{FollowEnd}
 use Rattle.follow.specs.declared.ending.FollowEnd.TheVariants as ends
 use Rattle.follow.specs.declared.fault.FollowFault.{FollowFault}
 use Rattle.follow.specs.Ends.{IsFollowed}
-use Rattle.follow.specs.Followed.{start_of}
-use Rattle.follow.specs.Following.{followed_at, followed_through}
+use Rattle.follow.specs.Following.{start_of, followed_at, followed_through}
 use Rattle.follow.specs.Reports.{IsFollowReport, shown_before}
 use Rattle.pipes.specs.Texts.{IsWritable}
 

@@ -2,4 +2,3 @@ pub mod Prelude
 pub mod Texts
 pub mod Followers
 pub mod Consumers
-pub mod GoingOn

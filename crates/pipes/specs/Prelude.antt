@@ -1,5 +1,5 @@
 -- The words that the specifications take from below.
-pub use Rattle.embedded_replica.specs.Seeds.{BeginsWith, pairs_at, seeded_of}
+pub use Rattle.embedded_replica.specs.Consumers.{BeginsWith, pairs_at, seeded_of}
 pub use Rattle.follow.specs.declared.options.FollowOptions.{FollowOptions}
 pub use Rattle.json_lines.specs.Messages.{message_line}
 pub use Rattle.replica.specs.Replicas.{Follows, Takes, span_in, view_in}
@@ -17,4 +17,4 @@ pub use Rattle.std.specs.List.{All, flat_map}
 pub use Rattle.text_format.specs.declared.Format.{Format}
 pub use Rattle.text_format.specs.declared.Format.TheVariants.{Two}
 pub use Rattle.word_lines.specs.Limits.{IsCommand, IsEvent, IsPair, KeepsLimit}
-pub use Rattle.word_lines.specs.Replies.{row_line}
+pub use Rattle.word_lines.specs.Events.{row_line}

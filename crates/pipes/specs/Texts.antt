@@ -1,7 +1,7 @@
 -- Which histories have a text that is read again (this project's own).
 use Rattle.std.specs.Prelude.{ℕ, List, ◌+◌, ◌<◌, ◌≡◌, ◌≤◌, codes, length, true}
 use Rattle.pipes.specs.Prelude.{All, Event, Format, IsCommand, ServeEnd, transcript_text}
-use Rattle.sessions.specs.Made.{IsHistory}
+use Rattle.sessions.specs.Runs.{IsHistory}
 use Rattle.sessions.specs.declared.ending.ServeEnd.TheVariants as run
 use Rattle.jobs.specs.Verdicts.{IsVerdict, is_right}
 use Rattle.jobs.specs.declared.ending.End.{End}
@@ -21,8 +21,7 @@ pub record IsWritable (format : Format) (first : ℕ) (events : List Event) : Ty
   pub positions : InPositions first events
   pub commands : All (KeepsFormat format) events
 
--- `check` says `yes` of the text, and nothing else. A text with a faulty line would contradict this, and so would one of
--- events of which one is wrong
+-- `check` says `yes` of the text, and nothing else: each line of a text is without fault, and each event is right
 abbrev pub SaysYes : List ℕ → Type 0
 SaysYes text = (end : End) (out : List ℕ) → IsVerdict text end out → (is_right end ≡ true) × (out ≡ codes "yes\n")
 

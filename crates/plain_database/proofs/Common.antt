@@ -2,8 +2,7 @@
 pub use Rattle.kept.proofs.Counts.{has_undecided, write_set_length}
 pub use Rattle.kept.proofs.Untold.{beyond_is, only_rows}
 pub use Rattle.restarts.proofs.InRange.{at_most, each_low, first_low, has_mark}
-pub use Rattle.restarts.specs.Dump.{greatest_of, mark_of}
-pub use Rattle.restarts.specs.Rows.{all_keys, is_left, left_rows}
+pub use Rattle.restarts.specs.Dump.{greatest_of, mark_of, all_keys, is_left, left_rows}
 pub use Rattle.spans.proofs.Ascending.{rising_keys}
 pub use Rattle.spans.proofs.Closed.{closed_committed, closed_value, closed_version, wrote_begun}
 pub use Rattle.spans.proofs.Copies.{AllAllowed, Allowed, IsActive, closed_stays, not_both}
@@ -26,15 +25,13 @@ pub use Rattle.spans.specs.Collection.{LiveFeed, Protection, VersionName, collec
 pub use Rattle.spans.specs.Consumer.{name_of}
 pub use Rattle.spans.specs.Effects.{Aborts, After, Begins, Cancels, Collects, Commits, Effect, HardCloses, NoEffect, Opens, Polls, Reads, Scans, SnapshotReads, SnapshotScans, Writes, effect, effects_of, event, kind_of, open_cmd}
 pub use Rattle.spans.specs.Feeds.{Feed, due_message, feed_of, feeds_opened, first_rows, is_cancelled, is_due, list_of, next_messages, resolved_of, rows_in, same_version, start_at, told_to, untold_rows}
-pub use Rattle.spans.specs.KeyOrder.{below_high, key_lt}
+pub use Rattle.spans.specs.KeyOrder.{below_high, key_lt, start_of}
 pub use Rattle.spans.specs.Keys.{in_span, insert_key, insert_where, pairs_of, with_value}
 pub use Rattle.spans.specs.Legal.{IsLegal, IsRightEvent, is_accepted, may_lack_memory}
-pub use Rattle.spans.specs.Newest.{IsNewest, Version, newer_or, newest}
+pub use Rattle.spans.specs.Versions.{IsNewest, Version, newer_or, newest, committed_value, committed_version_of, is_blocked, version_of, visible, write_count, write_of, write_set, written_keys}
 pub use Rattle.spans.specs.Report.{AreFeeds, AreUndecided, IsFeedReport, feed_limit, first_least, in_whole, last_told, limit, limit_of, protection_limit, removable_of}
-pub use Rattle.spans.specs.Starting.{start_of}
 pub use Rattle.spans.specs.Streams.{stream_of}
 pub use Rattle.spans.specs.Transactions.{begun_of, closed_of, decided_through, is_aborted, is_committed, is_undecided, least_of, owner_of, undecided_timestamps}
-pub use Rattle.spans.specs.Versions.{committed_value, committed_version_of, is_blocked, version_of, visible, write_count, write_of, write_set, written_keys}
 pub use Rattle.spans.specs.declared.calls.commands.Cmd.{Cmd}
 pub use Rattle.spans.specs.declared.calls.commands.Cmd.TheVariants.{Abort, Begin, Close, CloseHard, Collect, Commit, Del, Get, Poll, Protect, Put, ReadAt, Scan, ScanAt, Stats}
 pub use Rattle.spans.specs.declared.calls.events.Event.{Event}
@@ -68,6 +65,6 @@ pub use Rattle.std.specs.Ordering.{is_eq, is_gt, is_lt, match_ordering, nat_cmp,
 pub use Rattle.std.specs.declared.cmp.Ordering.{Ordering}
 pub use Rattle.std.specs.declared.cmp.Ordering.TheVariants.{Equal, Greater, Less}
 pub use Rattle.std.specs.declared.ops.Bound.TheVariants.{Excluded, Included, Unbounded}
-pub use Rattle.timestamps.specs.Bytes.{key_cmp}
+pub use Rattle.timestamps.specs.Words.{key_cmp}
 pub use Rattle.timestamps.specs.declared.row.Row.{Row}
 pub use Rattle.timestamps.specs.declared.ts.TheConstants.{MAX}

@@ -5,7 +5,7 @@ use Rattle.restarts.proofs.InRange.{all_in_range}
 use Rattle.spans.proofs.Histories.{effect_count}
 use Rattle.spans.proofs.Members.{parted}
 use Rattle.plain_database.proofs.Common.{After, AllAllowed, Collects, Effect, Event, Has, IsLegal, MAX, VersionName, Writes, among_has, begun_among, begun_of, closed_of, common_steps, dead_of, effects_of, fits_in, has_versions, is_dead, legal_allowed, nat_tests, same_key, version_name, versions_distinct, versions_of, write_of, wrote_begun}
-use Rattle.plain_database.specs.Counts.{passed_then, versions_between}
+use Rattle.plain_database.specs.VersionsTied.{passed_then, versions_between}
 use Rattle.plain_database.proofs.Dead.{dead_then_is}
 use Rattle.plain_database.proofs.Passed.{passed_is}
 

@@ -5,7 +5,7 @@ use Rattle.std.specs.Prelude.{filter, is_some, nat_le, nat_lt}
 use Rattle.kept.proofs.AfterCollects.{dead_grows}
 use Rattle.spans.specs.Effects.{Collects}
 use Rattle.spans.proofs.Steps.{newest_reaches}
-use Rattle.plain_database.specs.Counts.{dead_then, newly_dead}
+use Rattle.plain_database.specs.VersionsTied.{dead_then, newly_dead}
 use Rattle.plain_database.proofs.Passed.{counted_by_key, counted_same, counts_three, keys_at, one_if, version_stays}
 
 -- ---- the versions of one key

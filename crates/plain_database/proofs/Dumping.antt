@@ -4,7 +4,7 @@ use Rattle.std.specs.Prelude.{filter, max}
 use Rattle.spans.proofs.Dead.{committed_is}
 use Rattle.plain_database.proofs.Common.{Event, IsRowIn, Row, all_keys, closed_version, committed_version_of, common_steps, effects_of, greatest_of, horizon_low, horizon_of, in_stream, is_left, left_rows, legal_allowed, nat_tests, newest, newest_same, stream_of}
 use Rattle.plain_database.specs.declared.database.PlainDatabase.{PlainDatabase}
-use Rattle.plain_database.specs.Dumps.{is_kept}
+use Rattle.plain_database.specs.Streams.{is_kept}
 use Rattle.plain_database.specs.Tied.{StandsFor}
 use Rattle.plain_database.specs.VersionsTied.{version_in}
 

@@ -2,9 +2,7 @@
 use Rattle.plain_database.proofs.Common.{Effect, common_steps, IsFeedReport, in_whole, untold_rows}
 use Rattle.std.proofs.Common.{◌≡◌, ℕ, Bool, List, Option, length, arith}
 use Rattle.plain_database.specs.declared.feeds.record.FeedRecord.{FeedRecord}
-use Rattle.plain_database.specs.Records.{feed_part}
-use Rattle.plain_database.specs.FeedTie.{IsRecordOf}
-use Rattle.plain_database.specs.FeedReports.{record_report}
+use Rattle.plain_database.specs.FeedTie.{feed_part, IsRecordOf, record_report}
 use Rattle.plain_database.proofs.FeedTies.{floor_is}
 
 pub record_reported : (whole : Bool) (p : List Effect) (x : FeedRecord) (untold : Option ℕ) → IsRecordOf p x.number x → untold ≡ in_whole whole (length (untold_rows p x.number (feed_part x))) → IsFeedReport whole p (record_report untold x)

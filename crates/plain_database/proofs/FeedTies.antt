@@ -6,8 +6,7 @@ use Rattle.plain_database.proofs.Least.{folded}
 use Rattle.std.specs.List.{fold, position, AllByRecursion}
 use Rattle.spans.specs.declared.calls.replies.Refusal.TheVariants.{FeedCancelled}
 use Rattle.plain_database.specs.declared.feeds.record.FeedRecord.{FeedRecord}
-use Rattle.plain_database.specs.Records.{floor_in, fresh_told, new_record, telling, telling_in, told_more}
-use Rattle.plain_database.specs.FeedTie.{AllFall, Book, FeedsTied, IsRecordOf, live_part, refusal_of_cancel}
+use Rattle.plain_database.specs.FeedTie.{floor_in, fresh_told, new_record, telling, telling_in, told_more, AllFall, Book, FeedsTied, IsRecordOf, live_part, refusal_of_cancel}
 use Rattle.plain_database.proofs.Telling.{told_join}
 
 abbrev number_of : FeedRecord → ℕ

@@ -5,7 +5,7 @@ use Rattle.std.specs.Prelude.{filter}
 use Rattle.timestamps.specs.declared.key.TheConstants.{MAX_KEY_BYTES}
 use Rattle.spans.specs.KeyOrder.{from_low}
 use Rattle.spans.proofs.KeyOrder.{starts_before, starts_at, stays_above}
-use Rattle.plain_database.specs.KeysIn.{AreFromLow, AreAhead}
+use Rattle.plain_database.specs.Replies.{AreFromLow, AreAhead}
 
 -- ---- the range that begins there
 

@@ -10,17 +10,15 @@ use Rattle.spans.proofs.Taking.{resolved_grows}
 use Rattle.spans.specs.Consumer.{is_after_name}
 use Rattle.spans.specs.Serial.{Map, map_at, span_part}
 use Rattle.spans.specs.Streams.{pair_row, rows_of, written_value}
-use Rattle.plain_database.specs.FeedTie.{IsRecordOf}
-use Rattle.plain_database.specs.Places.{key_above, row_ts, tells_snapshot, told_through}
-use Rattle.plain_database.specs.Records.{feed_part}
+use Rattle.plain_database.specs.FeedTie.{IsRecordOf, feed_part}
+use Rattle.plain_database.specs.Streams.{key_above, row_ts, tells_snapshot, told_through}
 use Rattle.plain_database.specs.declared.feeds.record.FeedRecord.{FeedRecord}
 use Rattle.plain_database.specs.declared.feeds.record.Told.{Told}
 use Rattle.plain_database.specs.declared.database.PlainDatabase.{PlainDatabase}
 use Rattle.plain_database.specs.Tied.{StandsFor}
 use Rattle.plain_database.proofs.ClosedRange.{closed_in_range}
 use Rattle.plain_database.proofs.Streaming.{grows, past_of}
-use Rattle.plain_database.specs.Behind.{beside, is_past}
-use Rattle.plain_database.specs.Replies.{rows_past}
+use Rattle.plain_database.specs.Replies.{beside, is_past, rows_past}
 
 -- ---- those of a list that were not told
 

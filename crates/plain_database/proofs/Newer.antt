@@ -2,7 +2,7 @@
 use Rattle.std.proofs.Common.{◌≡◌, ℕ, ◌<◌, ◌≤◌, ◌-◌, ◌==◌, zero, suc, Bool, true, false, List, Option, Some, None, refl, sym, ◌∙◌, ap, arith}
 use Rattle.std.specs.Prelude.{unwrap_or}
 use Rattle.plain_database.proofs.Common.{After, by_test, common_steps, eqb-true, false_from_ne_true, is_gt, is_lt, nat_cmp, nat_tests, newer_or, newest}
-use Rattle.plain_database.specs.Indexed.{IsIndexed, IsLast, Listed, is_listed}
+use Rattle.plain_database.specs.Table.{IsIndexed, IsLast, Listed, is_listed}
 use Rattle.plain_database.specs.VersionsTied.{Held, version_in}
 
 -- the greatest that passes and isn't above t is the last

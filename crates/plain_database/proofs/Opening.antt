@@ -15,8 +15,7 @@ use Rattle.spans.specs.declared.report.TransactionReport.{TransactionReport}
 use Rattle.plain_database.proofs.Common.{AllAllowed, AllByRecursion, Effect, Has, Less, among_has, at_most, begun_among, begun_of, by_test, common_steps, decided_through, distinct_filter, distinct_times, each_low, greatest_of, has_begun, has_filter, has_undecided, is_at, is_undecided, keys_of, least_low, least_of, nat_cmp, nat_tests, open_distinct, owner_of, same_length, undecided_timestamps, write_count, write_set_length}
 use Rattle.plain_database.specs.declared.versions.begun.Begun.{Begun}
 use Rattle.plain_database.specs.Table.{AllBegun, begun_at, committed_at, gone_in, keys_in, seat_in}
-use Rattle.plain_database.specs.VersionsTied.{Held, VersionsTied}
-use Rattle.plain_database.specs.Opens.{IsRising, above_closed, is_open, stopped}
+use Rattle.plain_database.specs.VersionsTied.{Held, VersionsTied, IsRising, above_closed, is_open, stopped}
 
 -- ---- transactions whose timestamps rise
 

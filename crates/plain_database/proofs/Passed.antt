@@ -5,7 +5,7 @@ use Rattle.std.specs.Prelude.{◌↔◌, filter, is_some, nat_le, nat_lt}
 use Rattle.spans.specs.Effects.{Closes, HardCloses}
 use Rattle.spans.proofs.Copies.{closed_grows}
 use Rattle.spans.proofs.WriteSets.{has_in, has_written, write_set_rises}
-use Rattle.plain_database.specs.Counts.{passed_then, versions_between}
+use Rattle.plain_database.specs.VersionsTied.{passed_then, versions_between}
 
 -- ---- lists
 

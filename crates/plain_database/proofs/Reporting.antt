@@ -5,9 +5,7 @@ use Rattle.std.specs.List.{AllByRecursion}
 use Rattle.spans.specs.declared.report.FeedReport.{FeedReport}
 use Rattle.plain_database.proofs.FeedReporting.{record_reported}
 use Rattle.plain_database.specs.declared.feeds.record.FeedRecord.{FeedRecord}
-use Rattle.plain_database.specs.FeedTie.{IsRecordOf, live_part}
-use Rattle.plain_database.specs.Records.{feed_part}
-use Rattle.plain_database.specs.FeedReports.{record_report}
+use Rattle.plain_database.specs.FeedTie.{IsRecordOf, live_part, feed_part, record_report}
 use Rattle.spans.specs.Report.{in_whole}
 use Rattle.plain_database.proofs.Common.{All-cons, Effect, IsFeedReport, LiveFeed, common_steps, drop_more, live_feeds, map-append, reverse-append, untold_rows}
 

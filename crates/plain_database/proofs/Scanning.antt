@@ -1,10 +1,9 @@
 -- What the store finds is what the definitions say.
 use Rattle.std.proofs.Common.{◌≡◌, ℕ, ◌<◌, List, [], ◌∷◌, None, length, take, refl, ap, ◌∙◌}
 use Rattle.std.specs.Prelude.{filter}
-use Rattle.spans.specs.Newest.{newest}
+use Rattle.spans.specs.Versions.{newest}
 use Rattle.plain_database.proofs.Common.{Effect, Span, in_span, newest_same, pairs_of, version_of, visible, written_keys}
-use Rattle.plain_database.specs.Behind.{keys_past}
-use Rattle.plain_database.specs.Replies.{rows_seen}
+use Rattle.plain_database.specs.Replies.{keys_past, rows_seen}
 use Rattle.plain_database.specs.VersionsTied.{Held, VersionsTied, version_in}
 use Rattle.plain_database.proofs.Taken.{all_taken}
 

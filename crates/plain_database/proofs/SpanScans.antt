@@ -6,11 +6,9 @@ use Rattle.std.specs.Prelude.{filter, is_some}
 use Rattle.std.proofs.lemmas.Map.Lookups.{exact_bytes}
 use Rattle.spans.specs.KeyOrder.{from_low}
 use Rattle.spans.proofs.KeyOrder.{above_low, less_is}
-use Rattle.spans.specs.Newest.{Version}
-use Rattle.plain_database.specs.Behind.{is_past, keys_past}
-use Rattle.plain_database.specs.Indexed.{IsIndexed, Listed, is_listed}
-use Rattle.plain_database.specs.ReadBy.{source_found}
-use Rattle.plain_database.specs.Replies.{block_tests}
+use Rattle.spans.specs.Versions.{Version}
+use Rattle.plain_database.specs.Replies.{is_past, keys_past, block_tests}
+use Rattle.plain_database.specs.Table.{IsIndexed, Listed, is_listed, source_found}
 use Rattle.plain_database.specs.VersionsTied.{Held, VersionsTied, version_in}
 
 -- ---- the keys of the index

@@ -15,8 +15,7 @@ use Rattle.spans.specs.Answer.{is_timestamp}
 use Rattle.spans.specs.Streams.{rows_of, written_value}
 use Rattle.spans.specs.declared.state.State.TheVariants.{Committed}
 use Rattle.plain_database.specs.declared.versions.begun.Begun.{Begun}
-use Rattle.plain_database.specs.Behind.{beside}
-use Rattle.plain_database.specs.Filling.{filled, write_rows}
+use Rattle.plain_database.specs.Replies.{beside, filled, write_rows}
 use Rattle.plain_database.specs.Table.{AllBegun, begun_at, committed_at, in_begun, is_committed_state, keys_in, write_in}
 use Rattle.plain_database.specs.VersionsTied.{Held, VersionsTied}
 

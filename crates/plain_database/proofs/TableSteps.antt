@@ -5,8 +5,7 @@ use Rattle.std.proofs.lemmas.List.Folds.{list_any-append}
 use Rattle.plain_database.proofs.Common.{Excluded, Unbounded, common_steps, is_at, list_any, nat_cmp, nat_tests, range_contains, set_value}
 use Rattle.plain_database.specs.declared.versions.begun.Begun.{Begun}
 use Rattle.plain_database.specs.declared.versions.reads.Read.{Read}
-use Rattle.plain_database.specs.ReadBy.{is_across}
-use Rattle.plain_database.specs.Table.{AllBegun, begun_at, changed, is_crossed, new_begun, reading, with_begun}
+use Rattle.plain_database.specs.Table.{is_across, AllBegun, begun_at, changed, is_crossed, new_begun, reading, with_begun}
 
 -- ---- one of them changed
 

@@ -7,8 +7,7 @@ use Rattle.std.proofs.lemmas.List.{take-map}
 use Rattle.spans.proofs.Feeding.{last_join, resolved_join}
 use Rattle.plain_database.specs.declared.feeds.record.Told.{Told}
 use Rattle.plain_database.specs.declared.feeds.record.FeedRecord.{FeedRecord}
-use Rattle.plain_database.specs.FeedTie.{IsRecordOf}
-use Rattle.plain_database.specs.Records.{due_in, feed_part, told_more}
+use Rattle.plain_database.specs.FeedTie.{IsRecordOf, due_in, feed_part, told_more}
 
 latest_join : (o : Option ℕ) (ms ns : List Message) → last_told o (ms ++ ns) ≡ last_told (last_told o ms) ns
 latest_join o [] ns = refl

@@ -8,8 +8,7 @@ use Rattle.spans.specs.declared.state.State.TheVariants as states
 use Rattle.plain_database.proofs.Common.{Aborts, After, AllAllowed, Allowed, Begins, Commits, Effect, HardCloses, IsActive, Reads, Scans, Span, Writes, by_test, closed_of, common_steps, eqb-true, false_from_ne_true, in_span, insert_entry, is_at, is_eq-slice_cmp, key_cmp, key_itself, keys_of, lookup, nat_tests, open_above, same_key, visible}
 use Rattle.plain_database.specs.declared.versions.begun.Begun.{Begun}
 use Rattle.plain_database.specs.declared.versions.reads.Read.TheVariants as reads
-use Rattle.plain_database.specs.ReadBy.{source_found}
-use Rattle.plain_database.specs.Table.{changed, ended, is_crossed, keys_in, reading, seat_in, with_begun, write_in, writing}
+use Rattle.plain_database.specs.Table.{source_found, changed, ended, is_crossed, keys_in, reading, seat_in, with_begun, write_in, writing}
 use Rattle.plain_database.specs.VersionsTied.{Held, VersionsTied}
 use Rattle.plain_database.proofs.TableSteps.{crossed_begun, crossed_more, crossed_same, lookup_begun, lookup_changed}
 

@@ -4,8 +4,7 @@ use Rattle.std.specs.Prelude.{filter, is_some}
 use Rattle.std.specs.List.Sorted.{IsStrictlySortedBy}
 use Rattle.plain_database.proofs.Common.{After, AllAllowed, AllByRecursion, AreDistinct, Effect, Excluded, Has, Included, Less, Version, closed_of, common_steps, dead_of, entries_between, horizon_of, is_at, is_eq-slice_cmp, key_cmp, key_itself, keys_of, length-map, lookup, nat_cmp, nat_tests, newest, newest_same, same_key, version_of}
 use Rattle.plain_database.specs.Table.{AllBegun, begun_at}
-use Rattle.plain_database.specs.VersionsTied.{Held, VersionsTied, version_in}
-use Rattle.plain_database.specs.Counts.{deaths_by, newly_dead, standing, versions_between}
+use Rattle.plain_database.specs.VersionsTied.{Held, VersionsTied, version_in, deaths_by, newly_dead, standing, versions_between}
 use Rattle.spans.specs.Effects.{Collects}
 use Rattle.plain_database.proofs.Dead.{dead_next, dying, is_deleted, is_replaced}
 use Rattle.plain_database.proofs.Passed.{between_are, distinct_keys, keys_at, through_more, versions_through}

@@ -1,5 +1,5 @@
 -- The words that the specifications take from below.
-pub use Rattle.restarts.specs.Rows.{is_left, left_rows}
+pub use Rattle.restarts.specs.Dump.{is_left, left_rows}
 pub use Rattle.spans.proofs.Copies.{AllAllowed}
 pub use Rattle.spans.specs.Answer.{answer_of, first_refusal, first_refusal_or, horizon_tests, is_gap, opening_answer, snapshot_tests, transaction_tests}
 pub use Rattle.spans.specs.Collection.{LiveFeed, Protection, VersionName, collection_horizon, dead_of, floor_after, floor_of, horizon_of, is_protected, live_feeds, protections_made, protections_of, versions_of}
@@ -23,6 +23,6 @@ pub use Rattle.spans.specs.declared.span.Span.{Span}
 pub use Rattle.std.specs.List.{AllZip, list_any}
 pub use Rattle.std.specs.Map.{keys_of, lookup}
 pub use Rattle.std.specs.Ordering.{nat_cmp}
-pub use Rattle.timestamps.specs.Bytes.{key_cmp}
+pub use Rattle.timestamps.specs.Words.{key_cmp}
 pub use Rattle.timestamps.specs.declared.row.Row.{Row}
 pub use Rattle.timestamps.specs.declared.ts.TheConstants.{MAX}

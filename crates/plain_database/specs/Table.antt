@@ -1,12 +1,22 @@
--- What the table of transactions says.
-use Rattle.std.specs.Prelude.{ℕ, List, [], ◌∷◌, ◌++◌, Bool, true, false, ◌&&◌, Option, Some, None, if◌then◌else◌, nat_le, nat_lt}
-use Rattle.std.specs.BTreeMap.{insert_entry, is_at}
-use Rattle.plain_database.specs.Prelude.{After, key_cmp, keys_of, list_any, lookup, nat_cmp}
+-- What the table of transactions says, and the index of who may have written each key.
+use Rattle.std.specs.Prelude.{ℕ, List, Bool, ◌&&◌, bytes_eq, nat_lt, unwrap_or, [], ◌∷◌, ◌++◌, true, false, Option, Some, None, if◌then◌else◌, nat_le, ◌≡◌, ◌≤◌, ◌<◌, is_some}
+use Rattle.std.specs.BTreeMap.{is_at, insert_entry}
+use Rattle.std.specs.BTreeSet.{BTreeSet, contains}
 use Rattle.spans.specs.declared.state.State.{State}
 use Rattle.spans.specs.declared.state.State.TheVariants.{Undecided, Committed, Aborted}
-use Rattle.plain_database.specs.declared.versions.begun.Begun.{Begun}
+use Rattle.plain_database.specs.Prelude.{in_span, key_cmp, lookup, After, keys_of, list_any, nat_cmp}
 use Rattle.plain_database.specs.declared.versions.reads.Read.{Read}
-use Rattle.plain_database.specs.ReadBy.{is_across}
+use Rattle.plain_database.specs.declared.versions.begun.Begun.{Begun}
+use Rattle.plain_database.specs.declared.versions.reads.Read.TheVariants as reads
+
+-- the timestamp of the version that was given of x: 0 where x wasn't found
+abbrev pub source_found : List (List ℕ × ℕ) → List ℕ → ℕ
+source_found sources x = unwrap_or (lookup (is_at (key_cmp x)) sources) 0
+
+-- the read was given a version of x from below i
+abbrev pub is_across : List ℕ → ℕ → Read → Bool
+is_across x i (reads.Key y k) = bytes_eq y x && nat_lt k i
+is_across x i (reads.Span span sources) = in_span span x && nat_lt (source_found sources x) i
 
 -- the transactions, each with its timestamp
 abbrev pub AllBegun : Type 0
@@ -74,3 +84,24 @@ reading r b = record b { reads = b.reads ++ r ∷ [] }
 
 abbrev pub writing : List ℕ → After → Begun → Begun
 writing x a b = record b { writes = insert_entry key_cmp b.writes x a }
+
+-- each key, with the timestamps that may have written it
+abbrev pub Listed : Type 0
+Listed = List (List ℕ × BTreeSet ℕ)
+
+abbrev pub is_among : Option (BTreeSet ℕ) → ℕ → Bool
+is_among None t = false
+is_among (Some ts) t = contains nat_cmp ts t
+
+-- t may have written x
+abbrev pub is_listed : Listed → List ℕ → ℕ → Bool
+is_listed ws x t = is_among (lookup (is_at (key_cmp x)) ws) t
+
+-- whoever wrote a key is listed there
+abbrev pub IsIndexed : AllBegun → Listed → Type 0
+IsIndexed es ws = (x : List ℕ) (t : ℕ) → is_some (write_in (begun_at es t) x) ≡ true → is_listed ws x t ≡ true
+
+-- the last one at or below t that passes the test
+abbrev pub IsLast : (ℕ → Bool) → ℕ → Option ℕ → Type 0
+IsLast test t None = (i : ℕ) → i ≤ t → test i ≡ false
+IsLast test t (Some k) = (k ≤ t) × (test k ≡ true) × ((i : ℕ) → k < i → i ≤ t → test i ≡ false)

@@ -3,9 +3,8 @@ ghost use Rattle.std.specs.Prelude.{◌≡◌, ◌+◌, ◌-◌, ◌^◌, OnErr,
 ghost use Rattle.spans.specs.declared.calls.commands.Cmd.TheVariants.{Close, CloseHard, Collect};
 ghost use Rattle.spans.specs.Collection.{collection_horizon};
 ghost use Rattle.plain_database.specs.Prelude.{Protect, Release, first_refusal, horizon_tests, is_accepted};
-ghost use Rattle.plain_database.specs.Answering.{AfterCounted, AfterEach, Answers, AnswersCounted, Records, any_seat};
-ghost use Rattle.plain_database.specs.Counts.{newly_dead, versions_between};
-ghost use Rattle.plain_database.specs.VersionsTied.{Says};
+ghost use Rattle.plain_database.specs.Tied.{AfterCounted, AfterEach, Answers, AnswersCounted, Records, any_seat};
+ghost use Rattle.plain_database.specs.VersionsTied.{newly_dead, versions_between, Says};
 
 use crate::Allocated;
 use crate::database::PlainDatabase;

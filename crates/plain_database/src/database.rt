@@ -23,8 +23,7 @@ pub struct PlainDatabase {
 
 impl PlainDatabase {
     ghost use Rattle.spans.specs.Legal.{is_accepted, may_lack_memory};
-    ghost use Rattle.plain_database.specs.Answering.{AnswersCounted, MayLackMemory, Records};
-    ghost use Rattle.plain_database.specs.Tied.{StandsFor};
+    ghost use Rattle.plain_database.specs.Tied.{AnswersCounted, MayLackMemory, Records, StandsFor};
 
     /// The database of the empty history.
     pub fn new(alloc: Global) -> PlainDatabase

@@ -2,8 +2,8 @@
 ghost use Rattle.std.specs.Prelude.{◌≡◌, ◌≤◌, IfOk};
 ghost use Rattle.plain_database.specs.Prelude.{MAX, left_rows};
 ghost use Rattle.restarts.specs.Dump.{mark_of};
-ghost use Rattle.plain_database.specs.Answering.{AfterEach};
-ghost use Rattle.plain_database.specs.Dumps.{IsDump, is_kept};
+ghost use Rattle.plain_database.specs.Tied.{AfterEach};
+ghost use Rattle.plain_database.specs.Streams.{IsDump, is_kept};
 
 use crate::Allocated;
 use crate::database::PlainDatabase;

@@ -3,7 +3,7 @@ ghost use Rattle.std.specs.Prelude.{◌≡◌, ◌≤◌, IfOk, OnErr, OnOk, len
 ghost use Rattle.std.specs.Option.{option_copied};
 ghost use Rattle.spans.specs.Streams.{pair_row};
 ghost use Rattle.plain_database.specs.Prelude.{Cancel, MAX, Opened, Poll, feeds_opened, is_accepted, is_gap, kind_of, open_cmd, opening_answer};
-ghost use Rattle.plain_database.specs.Answering.{Accepts, AfterCounted, Answers, Records, any_seat};
+ghost use Rattle.plain_database.specs.Tied.{Accepts, AfterCounted, Answers, Records, any_seat};
 ghost use Rattle.plain_database.specs.Replies.{rows_past};
 ghost use Rattle.plain_database.specs.Streams.{AreLeft, IsInSnapshot};
 ghost use Rattle.plain_database.specs.VersionsTied.{Says};

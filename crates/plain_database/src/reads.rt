@@ -2,7 +2,7 @@
 ghost use Rattle.std.specs.Prelude.{◌≡◌, IfOk, OnErr, OnOk, true, ℕ};
 ghost use Rattle.std.specs.Option.{option_copied};
 ghost use Rattle.plain_database.specs.Prelude.{Get, ReadAt, Scan, ScanAt, first_refusal, is_accepted, snapshot_tests};
-ghost use Rattle.plain_database.specs.Answering.{Accepts, AfterEach, Answers, Records, any_seat};
+ghost use Rattle.plain_database.specs.Tied.{Accepts, AfterEach, Answers, Records, any_seat};
 ghost use Rattle.plain_database.specs.Replies.{rows_seen};
 
 use crate::Allocated;

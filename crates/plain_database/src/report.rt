@@ -1,8 +1,8 @@
 //! What an operator may ask of the database: the statistics, and the report.
 ghost use Rattle.std.specs.Prelude.{◌≡◌, ◌-◌, IfOk, length, ℕ};
 ghost use Rattle.plain_database.specs.Prelude.{AreFeeds, IsReport, Stats, dead_of, versions_of};
-ghost use Rattle.plain_database.specs.Answering.{AfterCounted, AfterEach, AnswersCounted, any_seat};
-ghost use Rattle.plain_database.specs.Reports.{IsUntoldIn};
+ghost use Rattle.plain_database.specs.Tied.{AfterCounted, AfterEach, AnswersCounted, any_seat};
+ghost use Rattle.plain_database.specs.Streams.{IsUntoldIn};
 
 use crate::Allocated;
 use crate::database::PlainDatabase;

@@ -3,7 +3,7 @@ ghost use Rattle.std.specs.Prelude.{◌≡◌, OnErr, OnOk, length, true, ℕ};
 ghost use Rattle.std.specs.Option.{option_copied};
 ghost use Rattle.plain_database.specs.Prelude.{Abort, Begin, Commit, first_refusal, is_accepted, transaction_tests};
 ghost use Rattle.plain_database.specs.Table.{begun_at, keys_in};
-ghost use Rattle.plain_database.specs.Answering.{AfterEach, Answers, Records, any_seat};
+ghost use Rattle.plain_database.specs.Tied.{AfterEach, Answers, Records, any_seat};
 ghost use Rattle.plain_database.specs.Replies.{write_answer, write_cmd};
 
 use crate::Allocated;

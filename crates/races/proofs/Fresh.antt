@@ -7,12 +7,9 @@ use lib.ListN.{get_elem?, get_or}
 use Rattle.races.proofs.Common.{Cmd, Db, Engine, Event, IsGapless, IsOf, number, of_seat}
 use Rattle.timestamps.specs.declared.oracle.OraclePass.{OraclePass}
 use Rattle.shared_db.specs.declared.config.Config.{Config}
-use Rattle.shared_db.specs.Opening.{IsOpened}
+use Rattle.shared_db.specs.Seats.{IsOpened}
 use Rattle.races.specs.declared.ended.Ended.{Ended}
-use Rattle.races.specs.Calls.{AreLists, IsRaceOf}
-use Rattle.races.specs.Playing.{commands_of}
-use Rattle.races.specs.Racing.{AllEnded}
-use Rattle.races.specs.Settling.{IsSettled}
+use Rattle.races.specs.Racing.{AreLists, IsRaceOf, commands_of, AllEnded, IsSettled}
 use Rattle.races.proofs.Shares.{elem_at}
 
 pub found_at : {A : Type 0} (xs : List A) (k : ℕ) → k < length xs → (a : A) × (get_elem? xs k ≡ some a)

@@ -4,7 +4,7 @@ use Rattle.std.specs.Prelude.{Vec}
 use mathlib.Core.Option.{some}
 use lib.ListN.{get_elem?}
 use Rattle.races.proofs.Common.{Cmd, each_set}
-use Rattle.races.specs.Calls.{commands_by, AreLists}
+use Rattle.races.specs.Racing.{commands_by, AreLists}
 use Rattle.races.proofs.Promised.{all_at}
 
 -- what each list holds, and what is still to come for it, is what it has to hold

@@ -4,8 +4,7 @@ use Rattle.std.specs.Prelude.{Result, Vec, vec_len, IfOk}
 use Rattle.races.proofs.Common.{Cmd, Db, length-map}
 use Rattle.races.specs.declared.ended.Ended.{Ended}
 use Rattle.races.specs.declared.racing.Plays.{Plays}
-use Rattle.races.specs.Playing.{IsPlayed}
-use Rattle.races.specs.Racing.{AreStarted, AreOk, AllEnded}
+use Rattle.races.specs.Racing.{IsPlayed, AreStarted, AreOk, AllEnded}
 use mathlib.Core.Option.{some, some-injective, some-ne-none}
 use lib.ListN.{get_elem?}
 

@@ -10,13 +10,12 @@ use Rattle.engine.specs.Engine.{StandsFor}
 use Rattle.ticket_lock.specs.declared.chronicle.Chronicle.{Ghosts}
 use Rattle.ticket_lock.specs.declared.lock.Seat.{Seat}
 use Rattle.shared_db.specs.declared.served.Served.{Served}
-use Rattle.shared_db.specs.Whole.{IsWhole}
+use Rattle.shared_db.specs.Seats.{IsWhole}
 use Rattle.races.specs.declared.ended.Ended.{Ended}
 use Rattle.races.specs.declared.merging.MergeError.{MergeError}
 use Rattle.races.specs.declared.merging.MergeError.TheVariants as errors
-use Rattle.races.specs.Playing.{IsIdle}
+use Rattle.races.specs.Racing.{IsIdle, IsSettled}
 use Rattle.races.specs.Merging.{events_of, IsMerged, IsReason}
-use Rattle.races.specs.Settling.{IsSettled}
 use Rattle.races.proofs.Weighing.{same_parts, parts_of}
 use Rattle.races.proofs.Ordered.{merged_is, never_refused}
 use Rattle.races.proofs.Promised.{all_at, of_map}

@@ -1,6 +1,3 @@
 pub mod Prelude
-pub mod Calls
-pub mod Merging
-pub mod Playing
 pub mod Racing
-pub mod Settling
+pub mod Merging

@@ -1,6 +1,6 @@
 //! The calls of a script, given to sessions that race.
 ghost use Rattle.std.specs.Prelude.{◌≡◌, ◌<◌, [], vec_len, IfOk, IfErr, All};
-ghost use Rattle.races.specs.Calls.{AreLists, IsRaceOf, IsFreshReason};
+ghost use Rattle.races.specs.Racing.{AreLists, IsRaceOf, IsFreshReason};
 
 use crate::gate::Gate;
 use crate::racing::{RaceError, race};

@@ -1,9 +1,8 @@
 //! Sessions that race: a thread for each.
 ghost use Rattle.std.specs.Prelude.{◌≡◌, ◌≢◌, ◌↔◌, ◌<◌, vec_len, true, IfOk, IfErr, All};
 ghost use Rattle.races.specs.Prelude.{Cmd, IsOf, number};
-ghost use Rattle.races.specs.Playing.{IsIdle, IsPlayed};
+ghost use Rattle.races.specs.Racing.{IsIdle, IsPlayed, AreStarted, AreOk, AllEnded};
 ghost use Rattle.races.specs.declared.racing.RaceError.TheVariants.{Counts};
-ghost use Rattle.races.specs.Racing.{AreStarted, AreOk, AllEnded};
 
 use crate::ended::Ended;
 use crate::gate::Gate;

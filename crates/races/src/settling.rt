@@ -1,7 +1,7 @@
 //! What a race leaves: the engine, and one history.
 ghost use Rattle.std.specs.Prelude.{◌≡◌, map, vec_len, IfOk, All};
 ghost use Rattle.shared_db.specs.Seats.{IsOf, seat_count};
-ghost use Rattle.races.specs.Settling.{IsSettled};
+ghost use Rattle.races.specs.Racing.{IsSettled};
 
 use crate::ended::Ended;
 use crate::merging::{MergeError, merge};

@@ -1,3 +1,3 @@
 -- The words that the specifications take from below.
 pub use Rattle.spans.specs.KeyOrder.{below_high}
-pub use Rattle.timestamps.specs.Bytes.{key_cmp}
+pub use Rattle.timestamps.specs.Words.{key_cmp}

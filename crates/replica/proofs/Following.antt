@@ -8,10 +8,9 @@ use Rattle.spans.specs.Consumer as consumer
 use Rattle.replica.specs.declared.replica.Replica.{Replica}
 use Rattle.replica.specs.declared.fault.Fault.{Fault}
 use Rattle.replica.specs.declared.fault.Fault.TheVariants as faults
-use Rattle.replica.specs.Places.{place_of, is_past, is_over, is_place_of}
+use Rattle.replica.specs.Rows.{place_of, is_past, is_over, is_place_of}
 use Rattle.replica.specs.Starts.{Start, resolved_at}
-use Rattle.replica.specs.Replicas.{view_in, Follows, through_in, Takes, IsFaultAt, test_of}
-use Rattle.replica.specs.Tests.{fault_in, ready_in}
+use Rattle.replica.specs.Replicas.{view_in, Follows, through_in, Takes, IsFaultAt, test_of, fault_in, ready_in}
 
 pub view_join : (m : Map) (ms ns : List Message) → view_of m (ms ++ ns) ≡ view_of (view_of m ms) ns
 view_join m [] ns = refl

@@ -1,10 +1,8 @@
 -- The keys of a value, as they are copied.
 use Rattle.replica.proofs.Common.{BTreeSet, IsIn, RisingKeys, append-nil, common_steps}
-use Rattle.std.proofs.Common.{arith}
-use Rattle.std.proofs.Common.{◌≡◌, ℕ, true, List, [], ◌∷◌, ◌++◌, Option, Some, Result, Ok, Err}
+use Rattle.std.proofs.Common.{arith, ◌≡◌, ℕ, true, List, [], ◌∷◌, ◌++◌, Option, Some, Result, Ok, Err}
 use Rattle.std.specs.Prelude.{IfOk, ◌↔◌}
-use Rattle.replica.specs.Indexes.{Keyed, is_among, is_listed, IsIndexOf}
-use Rattle.replica.specs.Rows.{value_at, AreKeysWith}
+use Rattle.replica.specs.Rows.{Keyed, is_among, is_listed, IsIndexOf, value_at, AreKeysWith}
 use Rattle.replica.proofs.Rising.{is_in_set}
 use Rattle.replica.proofs.Tied.{has_some}
 

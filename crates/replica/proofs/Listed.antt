@@ -1,11 +1,9 @@
 -- What is listed after the keys of one value changed.
 use Rattle.replica.proofs.Common.{BTreeSet, by_test, common_steps, is_at, key_cmp, lookup, same_key}
-use Rattle.std.proofs.Common.{arith}
-use Rattle.std.proofs.Common.{rules}
-use Rattle.std.proofs.Common.{◌≡◌, ℕ, false, cond, ◌&&◌, ◌||◌, List, Option}
+use Rattle.std.proofs.Common.{arith, rules, ◌≡◌, ℕ, false, cond, ◌&&◌, ◌||◌, List, Option}
 use Rattle.std.specs.Prelude.{bytes_eq}
 use Rattle.std.proofs.lemmas.Map.Text.{is_eq-slice_cmp}
-use Rattle.replica.specs.Indexes.{Keyed, is_among, is_listed}
+use Rattle.replica.specs.Rows.{Keyed, is_among, is_listed}
 
 pub at_bytes : (v u : List ℕ) → is_at (key_cmp v) u ≡ bytes_eq v u
 at_bytes v u = is_eq-slice_cmp v u

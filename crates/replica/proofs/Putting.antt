@@ -1,9 +1,7 @@
 -- A value that was put at a key of a map.
-use Rattle.std.proofs.Common.{◌≡◌, ℕ, false, cond, List, Option, Some, None}
-use Rattle.std.proofs.Common.{arith}
+use Rattle.std.proofs.Common.{◌≡◌, ℕ, false, cond, List, Option, Some, None, arith}
 use Rattle.replica.proofs.Common.{common_steps, is_at, key_cmp, lookup}
-use Rattle.replica.specs.Rows.{value_at}
-use Rattle.replica.specs.Values.{has_value}
+use Rattle.replica.specs.Rows.{value_at, has_value}
 use Rattle.replica.proofs.Tied.{Lists, AreTied, IsMore, IsLess, IsPut, put_at, tied_new, tied_other}
 
 abbrev pub Entries : Type 0

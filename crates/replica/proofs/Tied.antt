@@ -1,11 +1,9 @@
 -- The tie of an index to its rows, after a change of both.
 use Rattle.replica.proofs.Common.{Map, both_ways, by_test, common_steps, false_from_ne_true, is_at, key_cmp, key_itself, put, same_key}
-use Rattle.std.proofs.Common.{arith}
-use Rattle.std.proofs.Common.{rules}
-use Rattle.std.proofs.Common.{◌≡◌, ℕ, Bool, true, false, cond, ◌&&◌, ◌||◌, List, Option, Some, None, refl, sym, ◌∙◌, ap}
+use Rattle.std.proofs.Common.{arith, rules, ◌≡◌, ℕ, Bool, true, false, cond, ◌&&◌, ◌||◌, List, Option, Some, None, refl, sym, ◌∙◌, ap}
 use Rattle.std.specs.Prelude.{bytes_eq, ◌↔◌}
 use Rattle.std.proofs.Math.Bool.{and-true, and-false, or-false}
-use Rattle.replica.specs.Values.{has_value}
+use Rattle.replica.specs.Rows.{has_value}
 use Rattle.replica.proofs.Listed.{at_bytes}
 
 -- which keys are listed under which values

@@ -1,10 +1,5 @@
 pub mod Prelude
 pub mod Rows
-pub mod Values
-pub mod Indexes
-pub mod Places
 pub mod Starts
 pub mod Replicas
-pub mod Tests
-pub mod Faults
 pub mod Right

@@ -1,14 +1,42 @@
--- What a replica holds, and what it has taken.
-use Rattle.std.specs.Prelude.{ℕ, List, [], ◌∷◌, ◌++◌, ◌≡◌, nat_lt, if◌then◌else◌, Option, Some, None, option_map}
-use Rattle.replica.specs.Prelude.{ApplyFault, Map, Message, Span, apply_fault, last_resolved, last_row, view_of}
+-- What a replica holds, what it has taken, and its tests of a message, with the numbers of the faults.
+use Rattle.std.specs.Prelude.{ℕ, Bool, not, ◌&&◌, ◌-◌, nat_lt, Option, Some, None, is_none, if◌then◌else◌, IsSome, List, [], ◌∷◌, ◌++◌, ◌≡◌, option_map}
 use Rattle.spans.specs.Collection.{floor_after}
+use Rattle.spans.specs.declared.calls.messages.Message.TheVariants as messages
 use Rattle.spans.specs.Consumer as consumer
+use Rattle.replica.specs.Prelude.{Message, Row, in_span, ApplyFault, Map, Span, apply_fault, last_resolved, last_row, view_of}
 use Rattle.replica.specs.declared.fault.Fault.{Fault}
-use Rattle.replica.specs.declared.fault.Fault.TheVariants as faults
 use Rattle.replica.specs.declared.replica.Replica.{Replica}
-use Rattle.replica.specs.Places.{place_of}
-use Rattle.replica.specs.Rows.{value_at}
+use Rattle.replica.specs.Rows.{is_past, is_over, is_place_of, place_of, value_at}
+use Rattle.replica.specs.declared.fault.Fault.TheVariants.{NotAfter, OutsideSpan, ResolvedBack, NoMemory}
 use Rattle.replica.specs.Starts.{Start, resolved_at}
+use Rattle.replica.specs.declared.fault.Fault.TheVariants as faults
+
+-- why the replica refuses the message, if it does
+abbrev pub fault_in : Replica → Message → Option Fault
+fault_in r (messages.Row row) =
+    if not (nat_lt r.resolved row.ts && is_past r.last row) then Some faults.NotAfter
+    else (if not (in_span r.span row.key) then Some faults.OutsideSpan else None)
+fault_in r (messages.Resolved t) = if not (nat_lt r.resolved t && is_over r.last t) then Some faults.ResolvedBack else None
+
+-- the row is the first of its timestamp that the replica takes, and above its cursor
+abbrev pub is_first_in : Replica → Row → Bool
+is_first_in r row = nat_lt r.cursor row.ts && not (is_place_of r.last row.ts)
+
+-- the timestamp at which the rows are the map as they stand, where the message shows it
+abbrev pub ready_in : Replica → Message → Option ℕ
+ready_in r (messages.Row row) = if is_none (fault_in r (messages.Row row)) && is_first_in r row then Some (row.ts - 1) else None
+ready_in r (messages.Resolved t) = None
+
+abbrev pub code_of : Fault → ℕ
+code_of NotAfter = 1
+code_of OutsideSpan = 2
+code_of ResolvedBack = 3
+code_of NoMemory = 4
+
+-- the message puts a value at a key
+abbrev pub AddsValue : Message → Type 0
+AddsValue (messages.Row r) = IsSome r.after
+AddsValue (messages.Resolved t) = ⊥
 
 -- the rows of a replica, as a map
 abbrev pub view_in : Replica → Map

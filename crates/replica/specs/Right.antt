@@ -5,8 +5,7 @@ use Rattle.replica.specs.Prelude.{AllTaken, Effect, Feed, Message, feed_of, map_
 use Rattle.spans.specs.Completeness.{AllAbove, GoesOn}
 use Rattle.replica.specs.declared.replica.Replica.{Replica}
 use Rattle.replica.specs.Starts.{Start, IsStartOf}
-use Rattle.replica.specs.Replicas.{Follows, view_in, span_in, complete_in, through_in}
-use Rattle.replica.specs.Tests.{ready_in}
+use Rattle.replica.specs.Replicas.{Follows, view_in, span_in, complete_in, through_in, ready_in}
 
 -- the replica is complete at t: its rows are the span's part of the map at t
 pub record IsCompleteAt (p : List Effect) (feed : Feed) (r : Replica) (t : ℕ) : Type 0 where

@@ -9,8 +9,7 @@ use Rattle.replica.specs.declared.fault.Fault.TheVariants as faults
 abbrev pub Pairs : Type 0
 Pairs = List (List ℕ × List ℕ)
 
--- of which span a replica is, its cursor, above which timestamp all that it takes lies, at which timestamp it is complete at
--- first, and which rows it has then
+-- a replica's span and cursor, what it takes lies above which timestamp, and where it is complete at first, with which rows
 pub record Start : Type 0 where
   pub span : Span
   pub cursor : ℕ
@@ -41,16 +40,14 @@ pub record MayBegin (s : Span) (pairs : List (List ℕ × List ℕ)) : Type 0 wh
   pub rising : KeysRise pairs
   pub inside : AreInside s pairs
 
--- why a replica doesn't begin with the rows: their keys don't rise, or they do and one lies outside the span, or memory was
--- wanting
+-- why a replica doesn't begin with the rows: their keys don't rise, or one lies outside the span, or memory was wanting
 abbrev pub IsSeedFault : Span → List (List ℕ × List ℕ) → Fault → Type 0
 IsSeedFault s pairs faults.NotAfter = KeysRise pairs → ⊥
 IsSeedFault s pairs faults.OutsideSpan = KeysRise pairs × (AreInside s pairs → ⊥)
 IsSeedFault s pairs faults.ResolvedBack = ⊥
 IsSeedFault s pairs faults.NoMemory = MayBegin s pairs
 
--- a replica of the feed may begin so: with the feed's span, cursor and start, with the rows that its consumer is to begin with, and
--- complete at the cursor unless the feed is to tell what is there
+-- a replica of the feed may begin so: as its consumer is to begin, and complete at the cursor unless the feed tells that
 pub record IsStartOf (p : List Effect) (feed : Feed) (s : Start) : Type 0 where
   pub span : s.span ≡ feed.span
   pub cursor : s.cursor ≡ feed.cursor

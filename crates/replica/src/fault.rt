@@ -18,7 +18,7 @@ pub enum Fault {
 
 impl Fault {
     ghost use Rattle.std.specs.Prelude.{◌≡◌};
-    ghost use Rattle.replica.specs.Faults.{code_of};
+    ghost use Rattle.replica.specs.Replicas.{code_of};
 
     /// Its number, from 1 to 4.
     pub fn code(self) -> u8

@@ -3,8 +3,8 @@ ghost use Rattle.std.specs.Prelude.{◌≡◌, ◌&&◌, ◌||◌, ◌↔◌, �
 ghost use Rattle.std.specs.Cmp.{partial_equiv_from_equiv};
 ghost use Rattle.std.specs.Cmp.Lexicographic.{nat_list_eq_equiv, nat_list_cmp_total, texts_ties, texts_po};
 ghost use Rattle.spans.proofs.Keyed.{IsIn, RisingKeys};
-ghost use Rattle.timestamps.specs.Bytes.{key_cmp};
-ghost use Rattle.replica.specs.Indexes.{is_listed};
+ghost use Rattle.timestamps.specs.Words.{key_cmp};
+ghost use Rattle.replica.specs.Rows.{is_listed};
 
 use std::alloc::{AllocError, Global};
 use std::cmp::Ordering;
@@ -21,7 +21,7 @@ pub(crate) struct Index {
 }
 
 impl Model for Index {
-    ghost use Rattle.replica.specs.Indexes.{Keyed, AreSome};
+    ghost use Rattle.replica.specs.Rows.{Keyed, AreSome};
 
     ghost Value = { Keyed };
 

@@ -1,6 +1,6 @@
 //! Where rows stand among all rows.
 ghost use Rattle.std.specs.Prelude.{◌≡◌};
-ghost use Rattle.replica.specs.Places.{is_past, is_over, is_place_of};
+ghost use Rattle.replica.specs.Rows.{is_past, is_over, is_place_of};
 
 use std::cmp::Ordering;
 use timestamps::key::Key;

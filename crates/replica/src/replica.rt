@@ -20,7 +20,7 @@ use timestamps::value::Value;
 pub type KeysAndValues<'a> = Iter<'a, Key, Value>;
 
 /// The rows of a span, as a feed tells them.
-#[derive(Debug, Drop)]
+#[derive(Debug)]
 pub struct Replica {
     span: Span,
     /// The cursor that its feed was opened at.
@@ -36,13 +36,26 @@ pub struct Replica {
     table: Table,
 }
 
+// for the proof, which has no case for each part of it where a replica is dropped
+impl Drop for Replica {
+    fn drop(self) {
+        let Replica {
+            span: _,
+            cursor: _,
+            resolved: _,
+            last: _,
+            floor: _,
+            complete: _,
+            table: _,
+        } = self;
+    }
+}
+
 impl Replica {
     ghost use Rattle.spans.specs.declared.calls.messages.Message.{Message};
     ghost use Rattle.replica.specs.Rows.{AreRowsOf, AreKeysWith, IsCountOf};
     ghost use Rattle.replica.specs.Starts.{Start, seeded_start, initial_start, resolved_at, MayBegin, IsSeedFault};
-    ghost use Rattle.replica.specs.Replicas.{view_in, span_in, complete_in, through_in, Follows, Takes, IsFaultAt, test_of};
-    ghost use Rattle.replica.specs.Tests.{fault_in, is_first_in, ready_in};
-    ghost use Rattle.replica.specs.Faults.{AddsValue};
+    ghost use Rattle.replica.specs.Replicas.{view_in, span_in, complete_in, through_in, Follows, Takes, IsFaultAt, test_of, fault_in, is_first_in, ready_in, AddsValue};
     ghost use Rattle.replica.specs.declared.fault.Fault.TheVariants.{NoMemory};
     ghost use Rattle.spans.specs.Completeness.{complete_after, ready_after};
 

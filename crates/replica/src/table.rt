@@ -21,7 +21,7 @@ pub(crate) struct Table {
 
 impl Model for Table {
     ghost use Rattle.std.specs.Prelude.{ℕ, List};
-    ghost use Rattle.replica.specs.Indexes.{IsIndexOf};
+    ghost use Rattle.replica.specs.Rows.{IsIndexOf};
 
     ghost Value = { List (List ℕ × List ℕ) };
 

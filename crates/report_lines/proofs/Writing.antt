@@ -3,8 +3,7 @@ use Rattle.std.proofs.Common.{◌≡◌, List, [], ◌∷◌, ℕ, ◌≤◌, �
 use Rattle.std.proofs.lemmas.List.{take_all}
 use Rattle.std.specs.declared.alloc.AllocError.{AllocError}
 use Rattle.report_lines.proofs.Common.{flat_map}
-use Rattle.report_lines.specs.Lines.{begins, ends}
-use Rattle.report_lines.specs.Members.{text_of, up_to_end, line_of}
+use Rattle.report_lines.specs.Lines.{begins, ends, text_of, up_to_end, line_of}
 use Rattle.report_lines.specs.declared.members.Member.{Member}
 
 -- members, and then the end of a line

@@ -1,3 +1,2 @@
 pub mod Prelude
 pub mod Lines
-pub mod Members

@@ -1,3 +1,3 @@
 -- The words that the specifications take from below.
-pub use Rattle.json_lines.specs.Writing.{Keeps}
+pub use Rattle.json_lines.specs.Messages.{Keeps}
 pub use Rattle.spans.specs.Collection.{VersionName}

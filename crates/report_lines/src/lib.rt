@@ -24,7 +24,7 @@ mod lines;
 mod members;
 
 ghost use Rattle.std.specs.Prelude.{◌≡◌, ◌++◌, OnOk, OnErr};
-ghost use Rattle.json_lines.specs.Writing.{Keeps};
+ghost use Rattle.json_lines.specs.Messages.{Keeps};
 ghost use Rattle.report_lines.specs.Lines.{report_text};
 
 use crate::lines::{put_database, put_feeds, put_protections, put_transactions};

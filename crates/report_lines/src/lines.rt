@@ -81,7 +81,7 @@ pub(crate) fn put_database(out: &mut Vec<u8>, report: &Report) -> Written
 }
 
 /// Writes the line of an undecided transaction.
-#[tactic(auto, unfolding(crate::specs::Lines::transaction_line, crate::specs::Lines::number_or_null, crate::specs::Members::line_of, crate::specs::Members::up_to_end, crate::specs::Members::text_of))]
+#[tactic(auto, unfolding(crate::specs::Lines::transaction_line, crate::specs::Lines::number_or_null, crate::specs::Lines::line_of, crate::specs::Lines::up_to_end, crate::specs::Lines::text_of))]
 fn put_transaction(out: &mut Vec<u8>, transaction: &TransactionReport) -> Written
     ensures ok { OnOk result (out.new.items ≡ out.old.items ++ transaction_line transaction.now) }
     ensures err { OnErr result (Keeps out.old.items out.new.items) }
@@ -98,7 +98,7 @@ fn put_transaction(out: &mut Vec<u8>, transaction: &TransactionReport) -> Writte
 }
 
 /// Writes the line of a protection.
-#[tactic(auto, unfolding(crate::specs::Lines::protection_line, crate::specs::Lines::number_or_null, crate::specs::Members::line_of, crate::specs::Members::up_to_end, crate::specs::Members::text_of))]
+#[tactic(auto, unfolding(crate::specs::Lines::protection_line, crate::specs::Lines::number_or_null, crate::specs::Lines::line_of, crate::specs::Lines::up_to_end, crate::specs::Lines::text_of))]
 fn put_protection(out: &mut Vec<u8>, protection: &ProtectionReport) -> Written
     ensures ok { OnOk result (out.new.items ≡ out.old.items ++ protection_line protection.now) }
     ensures err { OnErr result (Keeps out.old.items out.new.items) }

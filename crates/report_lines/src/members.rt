@@ -1,15 +1,14 @@
 //! A line as a table of its members.
 ghost use Rattle.std.specs.Prelude.{◌≡◌, ◌++◌, OnOk, OnErr};
 ghost use Rattle.std.specs.List.{flat_map};
-ghost use Rattle.json_lines.specs.Writing.{Keeps};
-ghost use Rattle.report_lines.specs.Lines.{member, number, bytes};
-ghost use Rattle.report_lines.specs.Members.{text_of, line_of};
+ghost use Rattle.json_lines.specs.Messages.{Keeps};
+ghost use Rattle.report_lines.specs.Lines.{member, number, bytes, text_of, line_of};
 
 use json_lines::base64_text::put_base64;
 use json_lines::numbers::put_number;
 use std::alloc::AllocError;
 
-/// What a writer returns.
+/// A writer's result.
 pub(crate) type Written = Result<(), AllocError>;
 
 /// A member of a line: its name, and its value.
@@ -28,7 +27,7 @@ pub(crate) enum Member<'a> {
 }
 
 /// Writes a line of this kind with these members.
-#[tactic(auto, using(json_lines::proofs::Writing::keeping, json_lines::proofs::Writing::on_error), unfolding(crate::specs::Members::line_of, crate::specs::Lines::begins))]
+#[tactic(auto, using(json_lines::proofs::Writing::keeping, json_lines::proofs::Writing::on_error), unfolding(crate::specs::Lines::line_of, crate::specs::Lines::begins))]
 pub(crate) fn put_line(out: &mut Vec<u8>, kind: &[u8], members: &[Member]) -> Written
     ensures ok { OnOk result (out.new.items ≡ out.old.items ++ line_of kind.now members.now) }
     ensures err { OnErr result (Keeps out.old.items out.new.items) }
@@ -40,7 +39,7 @@ pub(crate) fn put_line(out: &mut Vec<u8>, kind: &[u8], members: &[Member]) -> Wr
     out.extend_from_slice(b"}\n")
 }
 
-#[tactic(auto, unfolding(crate::specs::Members::text_of, crate::specs::Lines::member, crate::specs::Lines::quoted, crate::specs::Lines::truth, crate::specs::Lines::number_or_null, crate::specs::Lines::bytes_or_null, crate::specs::Lines::member_in_whole))]
+#[tactic(auto, unfolding(crate::specs::Lines::text_of, crate::specs::Lines::member, crate::specs::Lines::quoted, crate::specs::Lines::truth, crate::specs::Lines::number_or_null, crate::specs::Lines::bytes_or_null, crate::specs::Lines::member_in_whole))]
 fn put_member(out: &mut Vec<u8>, member: &Member) -> Written
     ensures ok { OnOk result (out.new.items ≡ out.old.items ++ text_of member.now) }
     ensures err { OnErr result (Keeps out.old.items out.new.items) }

@@ -4,8 +4,7 @@ use Rattle.std.proofs.Common.{◌≡◌, ℕ, zero, suc, ◌<◌, Bool, true, fa
 use Rattle.std.proofs.lemmas.List.Elements.{filter-append}
 use Rattle.std.proofs.lemmas.List.{append-nil}
 use Rattle.std.specs.Prelude.{filter, is_some, nat_lt}
-use Rattle.restarts.specs.Dump.{end_steps, left_keys, transaction_steps, versions_through, write_step, write_steps}
-use Rattle.restarts.specs.Rows.{all_keys, commands_by_row, dump_commands, ended, is_left, is_open, left_rows, row_commands, started}
+use Rattle.restarts.specs.Dump.{end_steps, left_keys, transaction_steps, versions_through, write_step, write_steps, all_keys, commands_by_row, dump_commands, ended, is_left, is_open, left_rows, row_commands, started}
 use Rattle.restarts.specs.Running.{Step}
 use Rattle.restarts.proofs.Rebuilding.{none_kept}
 

@@ -8,12 +8,10 @@ pub use Rattle.kept.proofs.Replying.{known_is}
 pub use Rattle.kept.proofs.Standing.{alike_stands}
 pub use Rattle.kept.specs.Answered.{IsChangedBy, IsReplyOf}
 pub use Rattle.kept.specs.Changes.{IsAlike}
-pub use Rattle.kept.specs.Finding.{AreKeysOf, is_dead_in, is_dropped, is_seen_blocked, seen}
-pub use Rattle.kept.specs.Lists.{AreThose, IsNumberOf}
+pub use Rattle.kept.specs.Finding.{AreKeysOf, is_dead_in, is_dropped, is_seen_blocked, seen, AreThose, IsNumberOf, IsOldest, is_open, new_transaction, reach, refusal}
 pub use Rattle.kept.specs.Places.{AreLeft, AreNext, IsLeastFloor, moved, or_min, place_floor}
 pub use Rattle.kept.specs.Replies.{abort_reply, begin_reply, cancel_reply, close_hard_reply, close_reply, collect_reply, commit_reply, feed_refusal, get_reply, kept_opening_tests, messages_left, open_reply, poll_place, poll_reply, protect_reply, read_at_reply, release_reply, scan_at_reply, scan_reply, stats_reply, unless_refused, write_reply}
 pub use Rattle.kept.specs.StandsFor.{StandsFor}
-pub use Rattle.kept.specs.Table.{IsOldest, is_open, new_transaction, reach, refusal}
 pub use Rattle.spans.proofs.Copies.{AllAllowed, Allowed, not_both}
 pub use Rattle.spans.proofs.Horizon.{horizon_low, least_low}
 pub use Rattle.spans.proofs.Keyed.{IsIn, RisingKeys, filter_in, filter_rises}
@@ -29,12 +27,11 @@ pub use Rattle.spans.specs.Feeds.{Feed, feed_of, feeds_opened, start_at, untold_
 pub use Rattle.spans.specs.Kept.{IsCrossed, IsKeptOf, Kept, Place, Transaction, kept_version, place_of}
 pub use Rattle.spans.specs.Keys.{in_span, pairs_of}
 pub use Rattle.spans.specs.Legal.{IsLegal, IsRightEvent, is_accepted, may_lack_memory}
-pub use Rattle.spans.specs.Newest.{Version, newest}
+pub use Rattle.spans.specs.Versions.{Version, newest, committed_version_of, version_of, write_of, write_set, written_keys}
 pub use Rattle.spans.specs.Promises.{left_version_of}
 pub use Rattle.spans.specs.Reads.{too_late}
 pub use Rattle.spans.specs.Streams.{rows_of, stream_of, written_value}
 pub use Rattle.spans.specs.Transactions.{begun_of, closed_of, decided_through, is_aborted, is_committed, least_of, owner_of, undecided_timestamps}
-pub use Rattle.spans.specs.Versions.{committed_version_of, version_of, write_of, write_set, written_keys}
 pub use Rattle.spans.specs.declared.calls.commands.Cmd.{Cmd}
 pub use Rattle.spans.specs.declared.calls.commands.Cmd.TheVariants.{Abort, Begin, Cancel, Close, CloseHard, Collect, Commit, Del, Get, Open, OpenEvery, OpenInitial, OpenInitialEvery, Poll, Protect, Put, ReadAt, Release, Scan, ScanAt, Stats}
 pub use Rattle.spans.specs.declared.calls.events.Event.{Event}

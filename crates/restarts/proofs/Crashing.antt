@@ -3,9 +3,8 @@ use Rattle.restarts.proofs.Common.{After, AllAllowed, Begins, Cancel, Cancelled,
 use Rattle.std.proofs.Common.{◌≡◌, ℕ, ◌<◌, ◌≤◌, ◌==◌, Bool, true, false, not, cond, ◌&&◌, ◌||◌, List, [], ◌∷◌, ◌++◌, length, map, Option, Some, None, refl, sym, ◌∙◌, ap, subst, inl, inr, arith}
 use Rattle.std.specs.Prelude.{filter, is_some, max, nat_le, nat_lt, ◌⊎◌}
 use Rattle.spans.proofs.Closed.{wrote_begun}
-use Rattle.restarts.specs.Crash.{crash}
+use Rattle.restarts.specs.Running.{crash, run}
 use Rattle.restarts.specs.Restart.{CanRestart}
-use Rattle.restarts.specs.Running.{run}
 use Rattle.restarts.proofs.Rebuilding.{left_kept, none_left}
 
 -- commands one after the other

@@ -2,9 +2,9 @@
 use Rattle.std.proofs.Common.{◌≡◌, ℕ, Bool, true, false, cond, Option, List, [], ◌∷◌, ◌++◌, map, None, refl, sym, ◌∙◌, ap, inl, inr, arith}
 use Rattle.std.specs.Prelude.{nat_le, ◌↔◌}
 use Rattle.restarts.proofs.Common.{Event, IsLegal, IsRightEvent, NoMemory, Place, Refused, StandsFor, alike_stands, answer_of, common_steps, effect_of, effects_of, feeds_opened, is_accepted, may_lack_memory, protections_made}
-use Rattle.restarts.specs.Crash.{crash}
+use Rattle.restarts.specs.Running.{crash}
 use Rattle.restarts.specs.Dump.{rebuilt}
-use Rattle.restarts.specs.Renumbering.{renumbered, renumbered_cmd, renumbered_reply}
+use Rattle.restarts.specs.Restart.{renumbered, renumbered_cmd, renumbered_reply}
 use Rattle.restarts.proofs.Crashing.{crashed}
 use Rattle.restarts.proofs.Rebuilding.{left_kept}
 use Rattle.restarts.proofs.Shifting.{reply_back, shifted, still_accepted, still_may_lack}

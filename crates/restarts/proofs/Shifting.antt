@@ -3,7 +3,7 @@ use Rattle.restarts.proofs.Common.{AreDistinct, AreThose, Cmd, Has, IsLeastFloor
 use Rattle.std.proofs.Common.{◌≡◌, ℕ, zero, suc, ◌+◌, ◌-◌, ◌<◌, ◌==◌, Bool, true, false, not, cond, ◌||◌, List, [], ◌∷◌, length, map, Option, Some, None, refl, sym, ◌∙◌, ap, subst, inl, inr, arith}
 use Rattle.std.specs.Prelude.{filter, is_some, nat_le}
 use Rattle.spans.specs.declared.calls.replies.Refusal.{Refusal}
-use Rattle.restarts.specs.Renumbering.{number_from, renumbered_cmd, renumbered_reply}
+use Rattle.restarts.specs.Restart.{number_from, renumbered_cmd, renumbered_reply}
 
 -- ---- numbers
 

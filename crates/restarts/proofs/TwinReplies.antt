@@ -3,8 +3,8 @@ use Rattle.std.proofs.Common.{◌≡◌, ℕ, suc, ◌==◌, true, false, not, c
 use Rattle.restarts.proofs.Common.{Abort, Aborted, AllAllowed, AreKeysOf, AreNext, Begin, BelowClosed, BelowHorizon, Blocked, Cancel, Cancelled, Close, CloseHard, Closed, Cmd, Collect, Collected, Commit, Committed, Del, Effect, Event, Found, Get, IsKeptOf, IsReplyOf, Kept, Kind, MAX, Messages, NoProtection, NotClosed, NotOwner, Open, OpenEvery, OpenInitial, OpenInitialEvery, Opened, Place, Poll, Protect, Protected, Protection, Put, ReadAt, Refused, Release, Released, Reply, Row, Rows, Scan, ScanAt, Span, StandsFor, Started, Stats, TooLate, TsRange, TsUsed, Written, abort_reply, answer_of, begin_reply, cancel_reply, close_hard_reply, common_steps, close_reply, collect_reply, commit_reply, effects_of, feed_refusal, first_refusal_or, get_reply, is_seen_blocked, is_timestamp, kept_opening_tests, kind_of, known_is, legal_allowed, list_any, messages_left, open_reply, pairs_of, placed_by, poll_place, poll_reply, protect_reply, reach, read_at_reply, refusal, release_reply, reply_is_answer, scan_at_reply, scan_reply, seen, stats_reply, too_late, undecided_timestamps, unless_refused, write_reply, write_set}
 use Rattle.std.specs.Prelude.{filter, is_some, max, nat_le, nat_lt}
 use Rattle.spans.specs.declared.calls.replies.Reply.TheVariants as replies
-use Rattle.kept.specs.Collecting.{reached}
-use Rattle.restarts.specs.Renumbering.{number_from, renumbered_cmd, renumbered_reply}
+use Rattle.kept.specs.Places.{reached}
+use Rattle.restarts.specs.Restart.{number_from, renumbered_cmd, renumbered_reply}
 use Rattle.restarts.proofs.Findings.{cut_are, dropped_are, dropped_in, floor_found, keys_are, keys_in, kept_versions, late_found, least_floor, least_in, least_is, living, living_are, next_found, oldest_found, rows_for, undecided_are, versions_in, written_found}
 use Rattle.restarts.proofs.Shifting.{feed_at, floor_same, living_shifted, protected_same, protections_at, refusal_same, renumbered_either, renumbered_first, renumbered_unless, same_count, shifted}
 

@@ -7,7 +7,7 @@ use Rattle.spans.specs.declared.state.State.TheVariants as states
 use Rattle.kept.proofs.AfterReads.{Marked, after_reads, after_scans, other_seen, own_seen}
 use Rattle.kept.proofs.Marking.{added}
 use Rattle.kept.proofs.Staying.{alike_self}
-use Rattle.restarts.specs.Renumbering.{number_from, renumbered_cmd, renumbered_reply}
+use Rattle.restarts.specs.Restart.{number_from, renumbered_cmd, renumbered_reply}
 use Rattle.restarts.proofs.Shifting.{released_same, shifted, shifted_protection}
 
 -- an effect with its numbers shifted

@@ -1,8 +1,9 @@
--- The dump of a database: the commands that rebuild it, each with the answer that is foreseen (this project).
-use Rattle.std.specs.Prelude.{ℕ, zero, suc, List, [], ◌∷◌, ◌++◌, map, filter, length, max, Some, None, is_some}
-use Rattle.restarts.specs.Prelude.{After, Begin, Close, Closed, Collect, Collected, Commit, Committed, Del, Effect, Event, Put, Started, Written, begun_of, closed_of, effects_of, horizon_of, written_value}
+-- The dump of a database: the commands that rebuild it, with the answers that are foreseen (this project).
+use Rattle.std.specs.Prelude.{ℕ, zero, suc, List, [], ◌∷◌, ◌++◌, map, filter, length, max, Some, None, is_some, Bool, false, not, ◌==◌, Option, if◌then◌else◌}
 use Rattle.spans.specs.Versions.{write_of, write_set}
 use Rattle.spans.specs.Promises.{left_version_of}
+use Rattle.timestamps.specs.declared.row.Row.{Row}
+use Rattle.restarts.specs.Prelude.{After, Begin, Close, Closed, Collect, Collected, Commit, Committed, Del, Effect, Event, Put, Started, Written, begun_of, closed_of, effects_of, horizon_of, written_value, Cmd, Span, is_dead, stream_of, version_name}
 use Rattle.restarts.specs.Running.{Step, with_steps}
 
 -- the keys of which the version of t is committed and not dead, rising
@@ -48,3 +49,42 @@ greatest_of n (m ∷ ms) = max m (greatest_of n ms)
 -- where a dump may close that is to close at n or above: at the greatest of n, closed and all that began
 abbrev pub mark_of : List Effect → ℕ → ℕ
 mark_of p n = greatest_of (max n (closed_of p)) (begun_of p)
+
+-- all keys
+abbrev pub all_keys : Span
+all_keys = record { lo = None; hi = None }
+
+-- the row's version isn't dead
+abbrev pub is_left : List Effect → Row → Bool
+is_left p r = not (is_dead p (version_name r.key r.ts))
+
+-- the rows of the versions at or below m that are left, by timestamp and then by key
+abbrev pub left_rows : List Effect → ℕ → List Row
+left_rows p m = filter (is_left p) (stream_of p all_keys 0 m)
+
+-- t is the transaction that is open
+abbrev pub is_open : Option ℕ → ℕ → Bool
+is_open None t = false
+is_open (Some k) t = k == t
+
+-- what ends the transaction that is open, where one is
+abbrev pub ended : Option ℕ → List Cmd
+ended None = []
+ended (Some k) = Commit k ∷ []
+
+-- what comes before a row of t
+abbrev pub started : Option ℕ → ℕ → List Cmd
+started o t = if is_open o t then [] else ended o ++ Begin t ∷ []
+
+-- the commands that write the rows, and end the last transaction
+abbrev pub row_commands : Option ℕ → List Row → List Cmd
+row_commands o [] = ended o
+row_commands o (r ∷ rows) = started o r.ts ++ (write_step r.ts r.key r.after).0 ∷ row_commands (Some r.ts) rows
+
+-- the commands of the dump
+abbrev pub dump_commands : List Effect → ℕ → List Cmd
+dump_commands p m = map (λ (s : Step). s.0) (dump p m)
+
+-- the same by rows
+abbrev pub commands_by_row : List Effect → ℕ → List Cmd
+commands_by_row p m = row_commands None (left_rows p m) ++ Close m ∷ Collect (horizon_of p) ∷ []

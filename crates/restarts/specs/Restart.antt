@@ -1,12 +1,37 @@
--- What the law of restarts is said with.
-use Rattle.std.specs.Prelude.{ℕ, List, [], ◌++◌, map, true, ◌≡◌, ◌≤◌, ◌↔◌, is_some}
+-- Feeds and protections are numbered from 1 on. What the law of restarts is said with.
+use Rattle.std.specs.Prelude.{ℕ, zero, suc, List, ◌+◌, ◌-◌, length, [], ◌++◌, map, true, ◌≡◌, ◌≤◌, ◌↔◌, is_some}
+use Rattle.spans.specs.Feeds.{feeds_opened}
 use Rattle.timestamps.specs.declared.ts.TheConstants.{MAX}
-use Rattle.restarts.specs.Prelude.{Effect, Event, IsLegal, Span, closed_of, effects_of, horizon_of, owner_of, stream_of}
 use Rattle.spans.specs.Serial.{map_at}
-use Rattle.restarts.specs.Running.{Step, run}
-use Rattle.restarts.specs.Dump.{dump, mark_of, rebuilt}
-use Rattle.restarts.specs.Crash.{crash}
-use Rattle.restarts.specs.Renumbering.{renumbered}
+use Rattle.restarts.specs.Prelude.{Cancel, Cmd, Event, Opened, Poll, Protected, Release, Reply, effects_of, event, protections_made, Effect, IsLegal, Span, closed_of, horizon_of, owner_of, stream_of}
+use Rattle.restarts.specs.Dump.{rebuilt, dump, mark_of}
+use Rattle.restarts.specs.Running.{crash, Step, run}
+
+-- a number where there have been n before. 0 is nobody's
+abbrev pub number_from : ℕ → ℕ → ℕ
+number_from n zero = zero
+number_from n (suc f) = suc (n + f)
+
+-- the command with its feed numbered after n feeds, and its protection after m protections
+abbrev pub renumbered_cmd : (n m : ℕ) → Cmd → Cmd
+renumbered_cmd n m (Release id) = Release (number_from m id)
+renumbered_cmd n m (Poll f max) = Poll (number_from n f) max
+renumbered_cmd n m (Cancel f) = Cancel (number_from n f)
+renumbered_cmd n m cmd = cmd
+
+-- the reply likewise
+abbrev pub renumbered_reply : (n m : ℕ) → Reply → Reply
+renumbered_reply n m (Protected id) = Protected (number_from m id)
+renumbered_reply n m (Opened f) = Opened (number_from n f)
+renumbered_reply n m reply = reply
+
+-- an event after the dump's run, as it is after the crash: its position as much later as the history is longer, its feed
+-- after those that the history opened, its protection after those that it made
+abbrev pub renumbered : List Event → ℕ → Event → Event
+renumbered h m e =
+    event ((e.position + length (crash h m)) - length (rebuilt h m)) e.seat
+    (renumbered_cmd (feeds_opened (effects_of h)) (protections_made (effects_of h)) e.cmd)
+    (renumbered_reply (feeds_opened (effects_of h)) (protections_made (effects_of h)) e.reply)
 
 -- h is a legal history, and m is a timestamp at or above closed and each timestamp that began. (Below one that began and is
 -- forgotten, a transaction might begin twice.)

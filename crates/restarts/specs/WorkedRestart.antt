@@ -1,10 +1,9 @@
 -- The example that the crate's page draws, worked.
 use Rattle.std.specs.Prelude.{ℕ, List, [], ◌∷◌, ◌≡◌, map, take, None, refl}
 use Rattle.restarts.specs.Prelude.{Begin, Cancelled, Close, Closed, Collect, Collected, Commit, Committed, Del, Event, Open, Opened, Poll, Put, Span, Started, Written, effects_of, event}
-use Rattle.restarts.specs.Running.{run}
+use Rattle.restarts.specs.Running.{run, crash}
 use Rattle.restarts.specs.Dump.{dump, rebuilt}
-use Rattle.restarts.specs.Crash.{crash}
-use Rattle.restarts.specs.Renumbering.{renumbered}
+use Rattle.restarts.specs.Restart.{renumbered}
 
 abbrev a : List ℕ
 a = 97 ∷ []

@@ -2,7 +2,7 @@
 ghost use Rattle.std.specs.Prelude.{List, [], ℕ, false, ◌≡◌};
 ghost use Rattle.restarts.specs.Prelude.{Event, IsLegal, closed_of, effects_of, horizon_of, is_undecided, live_feeds, protections_of};
 ghost use Rattle.restarts.specs.Dump.{rebuilt};
-ghost use Rattle.restarts.specs.Crash.{crash};
+ghost use Rattle.restarts.specs.Running.{crash};
 ghost use Rattle.restarts.specs.Restart.{AreForeseen, EachRestart, GoesOnAlike, HasMark, MapsAreSame, StreamsAreSame, rebuilt_effects};
 
 /// Of each legal history h, and each m at or above closed and all that began (`marks` has one): the dump that closes at m

@@ -3,10 +3,8 @@ use Rattle.std.proofs.Common.{List, None, Option, Some, Bool, Ok, Err, Result, a
 use Rattle.std.specs.Prelude.{length, nat_le, ◌&&◌}
 use Rattle.embedded.specs.declared.bounded.Bounded.{Bounded}
 use Rattle.embedded.specs.declared.database.Database.{Database}
-use Rattle.ripsawbean.specs.BoundedExports.{BoundedOn, bound_fault, high_of, low_of, span_fault}
-use Rattle.ripsawbean.specs.BoundedParts.{BoundedOf, IsUnmade}
-use Rattle.ripsawbean.specs.TypedExports.{OfHandle, seat_fault, ◌or◌}
-use Rattle.ripsawbean.specs.TypedParts.{IsOf}
+use Rattle.ripsawbean.specs.BoundedExports.{BoundedOn, bound_fault, high_of, low_of, span_fault, BoundedOf, IsUnmade}
+use Rattle.ripsawbean.specs.TypedExports.{OfHandle, seat_fault, ◌or◌, IsOf}
 use Rattle.ripsawbean.specs.declared.typed.Unfit.{Unfit}
 use Rattle.ripsawbean.specs.declared.typed.Unfit.TheVariants.{KeyLength, NoMemory, ValueLength}
 

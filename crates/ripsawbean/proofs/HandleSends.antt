@@ -9,8 +9,7 @@ use denote.RattleType.{RattleType}
 use denote.RawPtr.{Ptr, block_ptr, null_ptr}
 use Rattle.std.proofs.Crossing.{frees}
 use Rattle.std.specs.Box.Ownership.{box_owns}
-use Rattle.ripsawbean.specs.Heap.{token}
-use Rattle.ripsawbean.specs.Handles.{keeps}
+use Rattle.ripsawbean.specs.Handles.{token, keeps}
 
 -- a value behind a pointer, and the right to free it
 behind : (R : RattleType) → IsSend R → (at : Ptr) (x : R.Denot) → Keyless (box_owns token R at x)

@@ -13,8 +13,7 @@ use denote.Struct.Struct.{Struct, Struct-Makes}
 use denote.Struct.Owning.{shape}
 use Rattle.std.specs.Prelude.{Option, Some, None, is_some}
 use Rattle.std.specs.Box.Ownership.{box_owns}
-use Rattle.ripsawbean.specs.Heap.{token}
-use Rattle.ripsawbean.specs.Handles.{keeps}
+use Rattle.ripsawbean.specs.Handles.{token, keeps}
 use Rattle.ripsawbean.specs.contracts.loose.Loose as loose
 use Rattle.ripsawbean.proofs.loose.Loose.TheLaws.{lowers}
 

@@ -1,9 +1,11 @@
 -- What the calls whose answer is to find room tell the program (this project's own).
-use Rattle.std.specs.Prelude.{ℕ, zero, suc, List, [], ◌∷◌, ◌≡◌, ◌⊎◌, nat_le, ◌&&◌, if◌then◌else◌, length, Option, Some, None}
-use Rattle.ripsawbean.specs.Prelude.{Bounded, Database, Event, HasBulk, HasStepped, StandsFor, last_of}
+use Rattle.std.specs.Prelude.{ℕ, zero, suc, List, [], ◌∷◌, ◌≡◌, ◌⊎◌, nat_le, ◌&&◌, if◌then◌else◌, length, Option, Some, None, Result, Ok, Err}
 use Rattle.spans.specs.declared.span.Span.{Span}
-use Rattle.embedded.specs.Bounded.{command_within}
-use Rattle.ripsawbean.specs.TypedExports.{◌or◌, IsSpent, IsUnspent, OfHandle, seat_fault}
+use Rattle.embedded.specs.Typed.{command_within}
+use Rattle.ripsawbean.specs.Prelude.{Bounded, Database, Event, HasBulk, HasStepped, StandsFor, last_of}
+use Rattle.ripsawbean.specs.TypedExports.{◌or◌, IsSpent, IsUnspent, OfHandle, seat_fault, number_of}
+use Rattle.ripsawbean.specs.declared.typed.Unfit.{Unfit}
+use Rattle.ripsawbean.specs.declared.typed.Unfit.TheVariants.{NoMemory}
 
 -- no bytes are no low bound
 abbrev pub low_of : List ℕ → Option (List ℕ)
@@ -46,3 +48,18 @@ MadeScan seat low has_high high cmd old number new = OfHandle (BoundedOn (seat_f
 
 abbrev pub MadePollWithin : (seat : ℕ) (cmd : Bounded) (old : Option Database) (number : ℕ) (new : Option Database) → Type 0
 MadePollWithin seat cmd old number new = OfHandle (BoundedOn (seat_fault seat) seat cmd) old number new
+
+-- what is told of parts that make no command: a position is asked for before memory
+abbrev pub IsUnfit : Unfit → Database → ℕ → Type 0
+IsUnfit NoMemory old number = ((number ≡ 12) × IsUnspent old) ⊎ ((number ≡ 13) × IsSpent old)
+IsUnfit unfit old number = number ≡ number_of unfit
+
+-- no call is made of them; a seat's fault comes first
+abbrev pub IsUnmade : (fault : Option ℕ) → Unfit → Database → ℕ → Database → Type 0
+IsUnmade (Some n) unfit old number new = (number ≡ n) × (new ≡ old)
+IsUnmade None unfit old number new = IsUnfit unfit old number × (new ≡ old)
+
+-- the call of the command that parts made, or why they made none
+abbrev pub BoundedOf : (seat : ℕ) → Result Bounded Unfit → Database → ℕ → Database → Type 0
+BoundedOf seat (Ok cmd) = BoundedOn (seat_fault seat) seat cmd
+BoundedOf seat (Err unfit) = IsUnmade (seat_fault seat) unfit

@@ -3,13 +3,9 @@ use Rattle.std.specs.Prelude.{ℕ, zero, suc, List, [], ◌≡◌, ◌⊎◌, na
 use Rattle.ripsawbean.specs.Prelude.{CallError, Copied, Database, Event, Fault, HasLast, IsUnwritten, NoMemory, Spent, StandsFor, Unwritten, code_of, last_of, text_of}
 use Rattle.embedded.specs.Embedded as db
 
--- the rows that a feed holds: 1 to 65536
-abbrev pub is_ring : ℕ → Bool
-is_ring ring = nat_le 1 ring && nat_le ring 65536
-
--- the number that refuses an opening before memory is asked for
+-- the number that refuses an opening before memory is asked for: a feed holds 1 to 65536 rows
 abbrev pub refusal_of : ℕ → Option Database → Option ℕ
-refusal_of ring old = if is_ring ring then (if is_some old then Some 17 else None) else Some 15
+refusal_of ring old = if nat_le 1 ring && nat_le ring 65536 then (if is_some old then Some 17 else None) else Some 15
 
 -- a handle that was closed is open on a database with no event, or there was no memory and it still is closed
 abbrev pub Opened : ℕ → Option Database → Type 0

@@ -1,13 +1,9 @@
 pub mod Prelude
-pub mod Heap
 pub mod Handles
 pub mod Exports
 pub mod ReplicaExports
-pub mod States
+pub mod Looks
 pub mod SeveralExports
 pub mod TypedExports
-pub mod TypedParts
-pub mod Looks
 pub mod BoundedExports
-pub mod BoundedParts
 pub mod Dumps

@@ -1,13 +1,13 @@
 -- What a program is told of a handle's database without a call (this project's own).
-use Rattle.std.specs.Prelude.{ℕ, zero, suc, List, ◌++◌, ◌≡◌, drop, length, take, Option, Some, None, Result, Ok, Err}
-use Rattle.ripsawbean.specs.Prelude.{Database, Event, StandsFor, effects_of}
+use Rattle.std.specs.Prelude.{ℕ, zero, suc, List, ◌++◌, ◌≡◌, drop, length, take, Option, Some, None, Result, Ok, Err, ◌⊎◌}
 use Rattle.engine.specs.Looking.{ArePlaces, feed_floor}
 use Rattle.engine.specs.declared.looking.Places.{Places}
-use Rattle.embedded.specs.Held.{AreHeldBy}
-use Rattle.embedded.specs.Versions.{AreVersionsAt}
+use Rattle.embedded.specs.Looks.{AreHeldBy, AreVersionsAt, IsStateText}
 use Rattle.embedded.specs.declared.held.HeldRecord.{HeldRecord}
 use Rattle.embedded.specs.declared.versions.VersionFault.{VersionFault}
 use Rattle.embedded.specs.declared.versions.VersionFault.TheVariants.{BelowHorizon, KeyLength, NoMemory}
+use Rattle.embedded.specs.declared.event_record.EventRecord.{EventRecord}
+use Rattle.ripsawbean.specs.Prelude.{Database, Event, StandsFor, effects_of, Copied, last_of, record_of}
 use Rattle.ripsawbean.specs.ReplicaExports.{number_or_none}
 use Rattle.ripsawbean.specs.declared.looks.PlacesRecord.{PlacesRecord}
 
@@ -56,3 +56,19 @@ ToldHeld (Some d) seat zero out out' count =
     (h : List Event) → StandsFor d h → (held : List HeldRecord) × AreHeldBy h seat held × (count ≡ length held) × (out' ≡ take (length out) held ++ drop (length held) out)
 ToldHeld (Some d) seat (suc n) out out' count = (suc n ≡ 12) × (count ≡ 0) × (out' ≡ out)
 ToldHeld None seat number out out' count = (number ≡ 16) × (count ≡ 0) × (out' ≡ out)
+
+-- done, or no memory for the text; of a closed handle that it is closed
+abbrev pub IsStateNumber : Option Database → ℕ → Type 0
+IsStateNumber (Some d) number = (number ≡ 0) ⊎ (number ≡ 14)
+IsStateNumber None number = number ≡ 16
+
+-- at 0 the text of a live report of the database's history is shown, and its whole length told; at any other number nothing is
+abbrev pub ToldState : ℕ → Option Database → (before after : List ℕ) → ℕ → Type 0
+ToldState zero (Some d) before after length = (h : List Event) → StandsFor d h → (text : List ℕ) × IsStateText h text × Copied text before after length
+ToldState zero None before after length = ⊥
+ToldState (suc n) d before after length = (length ≡ 0) × (after ≡ before)
+
+-- the last event of a handle's database in numbers; all 0 where there is none, or the handle is closed
+abbrev pub ToldLast : Option Database → ℕ → EventRecord → Type 0
+ToldLast (Some d) number told = (number ≡ 0) × (told ≡ record_of (last_of d))
+ToldLast None number told = (number ≡ 16) × (told ≡ record_of None)

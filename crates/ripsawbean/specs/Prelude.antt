@@ -6,10 +6,9 @@ pub use Rattle.embedded.specs.declared.database.CallError.{CallError}
 pub use Rattle.embedded.specs.declared.database.CallError.TheVariants.{Fault, NoMemory, Spent, Unwritten}
 pub use Rattle.embedded.specs.declared.database.Database.{Database}
 pub use Rattle.embedded.specs.declared.dumping.DumpPiece.{DumpPiece}
-pub use Rattle.embedded_replica.specs.Consumers.{AreKey, Begins, HasTaken, IsNoKey, IsNoMessage, IsReady, IsRefused, IsUnopened, ShowsRows, replica_of}
-pub use Rattle.embedded_replica.specs.Seeds.{BeginsWith, IsUnseeded}
+pub use Rattle.embedded_replica.specs.Consumers.{AreKey, Begins, HasTaken, IsNoKey, IsNoMessage, IsReady, IsRefused, IsUnopened, ShowsRows, replica_of, BeginsWith, IsUnseeded}
 pub use Rattle.embedded_replica.specs.declared.consumer.Consumer.{Consumer}
-pub use Rattle.json_lines.specs.Writing.{Copied}
+pub use Rattle.json_lines.specs.Messages.{Copied}
 pub use Rattle.spans.specs.Effects.{effects_of}
 pub use Rattle.spans.specs.declared.calls.commands.Cmd.{Cmd}
 pub use Rattle.spans.specs.declared.calls.events.Event.{Event}

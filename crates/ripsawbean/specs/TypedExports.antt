@@ -1,7 +1,9 @@
 -- What each typed call tells the program, and what it does to the handle's database (this project's own).
-use Rattle.std.specs.Prelude.{ℕ, zero, suc, List, ◌≡◌, ◌==◌, ◌<◌, ◌⊎◌, nat_le, nat_lt, Bool, true, false, ◌&&◌, ◌||◌, if◌then◌else◌, length, Option, Some, None}
-use Rattle.ripsawbean.specs.Prelude.{Cmd, Copied, Database, Event, HasBulk, HasStepped, StandsFor, answer_of, bytes_of, last_of, numbers}
+use Rattle.std.specs.Prelude.{ℕ, zero, suc, List, ◌≡◌, ◌==◌, ◌<◌, ◌⊎◌, nat_le, nat_lt, Bool, true, false, ◌&&◌, ◌||◌, if◌then◌else◌, length, Option, Some, None, Result, Ok, Err}
 use Rattle.embedded.specs.declared.typed.Answer.{Answer}
+use Rattle.ripsawbean.specs.Prelude.{Cmd, Copied, Database, Event, HasBulk, HasStepped, StandsFor, answer_of, bytes_of, last_of, numbers}
+use Rattle.ripsawbean.specs.declared.typed.Unfit.{Unfit}
+use Rattle.ripsawbean.specs.declared.typed.Unfit.TheVariants.{KeyLength, ValueLength, NoMemory}
 
 -- why no command can be made of a part: its number
 abbrev pub seat_fault : ℕ → Option ℕ
@@ -93,3 +95,29 @@ ShownBytes (suc n) new before after length = (length ≡ 0) × (after ≡ before
 abbrev pub AskedBytes : Option Database → ℕ → Type 0
 AskedBytes (Some d) number = (number ≡ 0) ⊎ ((number ≡ 14) × HasBulk (last_of d))
 AskedBytes None number = number ≡ 16
+
+abbrev pub number_of : Unfit → ℕ
+number_of KeyLength = 4
+number_of ValueLength = 5
+number_of NoMemory = 12
+
+-- what the parts make, or their fault; without a fault only parts that want memory make nothing
+abbrev pub IsOf : {A : Type 0} → (fault : Option ℕ) (wants : Type 0) (whole : A) → Result A Unfit → Type 0
+IsOf (Some n) wants whole (Ok x) = ⊥
+IsOf (Some n) wants whole (Err unfit) = number_of unfit ≡ n
+IsOf None wants whole (Ok x) = x ≡ whole
+IsOf None wants whole (Err unfit) = (number_of unfit ≡ 12) × wants
+
+-- no call is made of parts that make no command; a seat's fault comes first
+abbrev pub Unmade : (seat : ℕ) → Unfit → Database → ℕ → Database → Type 0
+Unmade seat unfit old number new = (number ≡ (if nat_lt seat 64 then number_of unfit else 6)) × (new ≡ old)
+
+-- the call of the command that parts made, or why they made none
+abbrev pub MadeOf : (seat : ℕ) → Result Cmd Unfit → Database → ℕ → Database → Type 0
+MadeOf seat (Ok cmd) = MadeOn (seat_fault seat) ⊥ seat cmd
+MadeOf seat (Err unfit) = Unmade seat unfit
+
+-- the same where the answer's bytes are asked for
+abbrev pub ShownOf : (seat : ℕ) → Result Cmd Unfit → Database → ℕ → Database → Type 0
+ShownOf seat (Ok cmd) = PolledOn (seat_fault seat) seat cmd
+ShownOf seat (Err unfit) = Unmade seat unfit

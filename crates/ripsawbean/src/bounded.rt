@@ -20,10 +20,8 @@
 
 ghost use Rattle.std.specs.Prelude.{◌≡◌, None, Some, IfOk, IfErr, if◌then◌else◌};
 ghost use Rattle.embedded.specs.declared.bounded.Bounded.TheVariants.{Poll, Scan, ScanAt};
-ghost use Rattle.ripsawbean.specs.BoundedExports.{MadePollWithin, MadeScan, low_of, span_fault, span_of};
-ghost use Rattle.ripsawbean.specs.BoundedParts.{BoundedOf};
-ghost use Rattle.ripsawbean.specs.TypedExports.{Answered, OfHandle, ShownBytes};
-ghost use Rattle.ripsawbean.specs.TypedParts.{IsOf, number_of};
+ghost use Rattle.ripsawbean.specs.BoundedExports.{MadePollWithin, MadeScan, low_of, span_fault, span_of, BoundedOf};
+ghost use Rattle.ripsawbean.specs.TypedExports.{Answered, OfHandle, ShownBytes, IsOf, number_of};
 
 use crate::handle::Handle;
 use crate::typed::{Unfit, bytes, no_answer, number};

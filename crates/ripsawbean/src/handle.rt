@@ -1,3 +1,4 @@
+//! What a program holds of its database.
 ghost use Rattle.std.specs.Prelude.{◌≡◌, Option, Some, None, is_some, option_map};
 ghost use Rattle.std.specs.Coded.{coded_option};
 ghost use Rattle.embedded.specs.declared.database.Database.{Database};

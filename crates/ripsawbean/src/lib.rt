@@ -51,7 +51,7 @@
 
 ghost use Rattle.std.specs.Prelude.{◌≡◌, None, IfSome, IfNone};
 ghost use Rattle.text_format.specs.declared.Format.TheVariants.{Two};
-ghost use Rattle.word_lines.specs.Memory.{WantsMemory, byte_words_at};
+ghost use Rattle.word_lines.specs.Reading.{WantsMemory, byte_words_at};
 ghost use Rattle.word_lines.specs.Table.{table};
 ghost use Rattle.embedded.specs.declared.database.CallError.TheVariants.{NoMemory};
 ghost use Rattle.ripsawbean.specs.Exports.{refusal_of, Opened, Numbered, Called, Asked, Rewritten, Told, ToldOf, number_of};

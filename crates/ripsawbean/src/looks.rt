@@ -2,8 +2,7 @@
 //! holds, and the versions of several keys.
 
 ghost use Rattle.std.specs.Prelude.{◌++◌, ◌≡◌, Some, drop, length, take};
-ghost use Rattle.ripsawbean.specs.Looks.{ToldHeld, ToldPlaces, ToldVersions, places_record, versions_number};
-ghost use Rattle.ripsawbean.specs.States.{IsStateNumber, ToldLast, ToldState};
+ghost use Rattle.ripsawbean.specs.Looks.{ToldHeld, ToldPlaces, ToldVersions, places_record, versions_number, IsStateNumber, ToldLast, ToldState};
 
 use crate::handle::Handle;
 use crate::replicas::number_or_none;

@@ -25,8 +25,7 @@
 ghost use Rattle.std.specs.Prelude.{◌≡◌, ◌⊎◌, Some, false, IfOk};
 ghost use Rattle.spans.specs.declared.calls.commands.Cmd.TheVariants.{Begin, Get, Put, Del, Commit, Abort, Close, ReadAt, Poll};
 ghost use Rattle.ripsawbean.specs.Prelude.{HasBulk, is_read, last_of, numbers};
-ghost use Rattle.ripsawbean.specs.TypedExports.{◌or◌, key_fault, value_fault, IsLong, OfHandle, MadeAlone, MadeAtKey, MadeWithValue, MadePoll, Answered, ShownBytes, AskedBytes, is_made};
-ghost use Rattle.ripsawbean.specs.TypedParts.{IsOf, MadeOf, ShownOf, number_of};
+ghost use Rattle.ripsawbean.specs.TypedExports.{◌or◌, key_fault, value_fault, IsLong, OfHandle, MadeAlone, MadeAtKey, MadeWithValue, MadePoll, Answered, ShownBytes, AskedBytes, is_made, IsOf, MadeOf, ShownOf, number_of};
 
 use crate::handle::Handle;
 use crate::{KEY_LENGTH, NO_MEMORY, SESSION, SPENT, UNWRITTEN, VALUE_LENGTH};

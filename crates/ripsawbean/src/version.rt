@@ -1,3 +1,4 @@
+//! Which version of the product the library is of.
 ghost use Rattle.std.specs.Prelude.{◌≡◌};
 
 /// The product's version, a byte for each of its numbers: 0.1.0. `command_line` has it as text.

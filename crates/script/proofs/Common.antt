@@ -24,13 +24,10 @@ pub use Rattle.word_lines.proofs.ReadParts.{command_words}
 pub use Rattle.word_lines.proofs.ReadWords.{bind_ok, guarded, key_again, key_word, number_again, ok_is, pure, refused, session_again, session_word, some_ok, value_again, value_word, word_found}
 pub use Rattle.word_lines.proofs.Splitting.{place_cases}
 pub use Rattle.word_lines.proofs.WrittenWords.{bytes_few, bytes_word, joined_few, number_length, number_word, room, words_then}
-pub use Rattle.word_lines.specs.Commands.{joined, words_of}
-pub use Rattle.word_lines.specs.Events.{event_text, heading_text}
+pub use Rattle.word_lines.specs.Events.{joined, words_of, event_text, heading_text, refusal_words, row_line}
 unfoldable pub use Rattle.word_lines.specs.Limits.{IsReply}
 pub use Rattle.word_lines.specs.Limits.{IsCommand, IsEvent, IsNumber, IsPair, IsRefusal, KeepsLimit}
 pub use Rattle.word_lines.specs.Reading.{Fails, arguments_at, command_at, key_at, number_at, row_at, session_at, value_at, word_at}
-unfoldable pub use Rattle.word_lines.specs.Replies.{following_lines, reply_words}
-pub use Rattle.word_lines.specs.Replies.{refusal_words, row_line}
-pub use Rattle.word_lines.specs.Spelling.{AreBytes, spelling}
+unfoldable pub use Rattle.word_lines.specs.Events.{following_lines, reply_words}
+pub use Rattle.word_lines.specs.Words.{AreBytes, spelling, is_printable, text_at, words_at}
 pub use Rattle.word_lines.specs.Table.{table}
-pub use Rattle.word_lines.specs.Words.{is_printable, text_at, words_at}

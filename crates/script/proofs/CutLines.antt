@@ -1,10 +1,9 @@
 -- The lines of a text, one by one.
 use Rattle.script.proofs.Common.{AllByRecursion, IsWord, Lacks, common_steps, concat, eqb-true, is_printable, joined, joined_printable, list_all, ne_eqb, nil_from_length, onto_first, place_cases, position_or_len}
-use Rattle.std.proofs.Common.{rules}
-use Rattle.std.proofs.Common.{◌≡◌, ℕ, suc, ◌+◌, ◌<◌, ◌≤◌, Bool, true, false, cond, List, [], ◌∷◌, ◌++◌, length, take, drop, Some, None, refl, sym, ap, ◌∙◌, arith}
+use Rattle.std.proofs.Common.{rules, ◌≡◌, ℕ, suc, ◌+◌, ◌<◌, ◌≤◌, Bool, true, false, cond, List, [], ◌∷◌, ◌++◌, length, take, drop, Some, None, refl, sym, ap, ◌∙◌, arith}
 use Rattle.std.specs.Prelude.{◌==◌, position}
 use Rattle.std.proofs.lemmas.List.Recursion.{is_position_or_len}
-use Rattle.script.specs.Lines.{is_newline, lines_of}
+use Rattle.script.specs.EventLines.{is_newline, lines_of}
 
 -- how many bytes stand before the first newline
 abbrev before_newline : List ℕ → ℕ

@@ -8,9 +8,8 @@ use Rattle.spans.specs.declared.calls.replies.Reply.TheVariants as reply
 use Rattle.spans.specs.declared.calls.replies.Refusal.TheVariants as refusal
 use Rattle.script.specs.declared.reply_reading.Shape.{Shape}
 use Rattle.script.specs.declared.reply_reading.Shape.TheVariants as shape
-use Rattle.script.specs.Lines.{Place, lines_of}
+use Rattle.script.specs.EventLines.{Place, lines_of, behind_arrow, heading_of, heading_at, pair_at, pair_of, row_line_at, message_line_at}
 use Rattle.script.specs.ReplyReading.{refusal_at, stats_at, shape_at, named_at, reply_at}
-use Rattle.script.specs.EventLines.{behind_arrow, heading_of, heading_at, pair_at, pair_of, row_line_at, message_line_at}
 use Rattle.script.specs.Transcripts.{Fault, many_at, following_at, event_at, events_at, body_at, transcript_at, events_text, transcript_text}
 use Rattle.script.proofs.WrittenReplies.{reply_are_words}
 use Rattle.script.proofs.MessageLines.{message_only, base64_all}

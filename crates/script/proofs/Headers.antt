@@ -4,7 +4,7 @@ use Rattle.std.proofs.Common.{◌≡◌, ℕ, ◌+◌, ◌≤◌, ◌<◌, Bool,
 use Rattle.std.specs.Prelude.{bytes_eq, not, ◌==◌, ◌^◌}
 use Rattle.std.proofs.lemmas.Fmt.{decimal_nonempty}
 use Rattle.text_format.specs.declared.Format.TheVariants.{One, Two}
-use Rattle.script.specs.Lines.{Place, lines_of}
+use Rattle.script.specs.EventLines.{Place, lines_of}
 use Rattle.script.specs.Transcripts.{HasHeader, body_at, left_at, left_of, transcript_at, transcript_text}
 
 -- a text that begins with its header

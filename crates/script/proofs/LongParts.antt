@@ -1,11 +1,9 @@
 -- A long value behind the command of an event's first line.
 use Rattle.script.proofs.Common.{common_steps, list_any, list_any-append, number_at, row_at, session_at, table}
-use Rattle.std.proofs.Common.{arith}
-use Rattle.std.proofs.Common.{◌≡◌, ℕ, true, false, Bool, ◌||◌, List, Ok, refl}
-use Rattle.spelled_words.specs.Memory.{is_long}
+use Rattle.std.proofs.Common.{arith, ◌≡◌, ℕ, true, false, Bool, ◌||◌, List, Ok, refl}
+use Rattle.spelled_words.specs.Reading.{is_long}
 use Rattle.word_lines.specs.declared.table.Form.{Form}
-use Rattle.script.specs.EventLines.{behind_arrow}
-use Rattle.script.specs.Memory.{event_words_of, ok_has, value_words}
+use Rattle.script.specs.EventLines.{behind_arrow, event_words_of, ok_has, value_words}
 
 or_true : (b : Bool) → (b || true) ≡ true
 or_true true = refl

@@ -8,10 +8,9 @@ use Rattle.base64.specs.Engines.{standard}
 use Rattle.base64.specs.GeneralPurpose.{decoded_of}
 use Rattle.base64.proofs.EngineFacts.{decode_of-encode_of}
 use Rattle.spans.specs.declared.calls.messages.Message.TheVariants as message
-use Rattle.script.specs.MessageReading.{between, is_lawful, message_of}
+use Rattle.script.specs.EventLines.{between, is_lawful, message_of, message_line_at, read_error_of}
 use Rattle.json_lines.specs.declared.fault.MessageFault.{MessageFault}
 use Rattle.json_lines.specs.declared.fault.MessageFault.TheVariants.{NotJson, Shape, Number, Base64, Length, NoMemory}
-use Rattle.script.specs.EventLines.{message_line_at, read_error_of}
 use Rattle.json_lines.proofs.NumberWords.{number_only}
 use Rattle.word_lines.proofs.SpelledWords.{some_of, chosen}
 use Rattle.word_lines.proofs.Spellings.{both}

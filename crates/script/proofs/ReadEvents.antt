@@ -2,16 +2,13 @@
 use Rattle.script.proofs.Common.{All, All-from_recursion, AllByRecursion, Begins, Cmd, Event, Follow, Format, IsCommand, IsEvent, IsMessage, IsNumber, IsPair, IsReply, LineFault, Message, Reply, WordCount, arguments_at, arguments_found, arity_of, bind_ok, bytes_eq-Decides, cases_lt, common_steps, concat, drop_at, drop_more, eqb-true, event_text, flat_map, following_lines, get_or_past, guarded, header, header_lines, joined, key_at, key_word, message_line, name_of, nil_from_length, number_at, ok_is, refused, reply_words, row_at, row_line, row_word, session_at, session_word, some_ok, spelling, table, text_at, text_found, value_at, value_word, word_at, word_found, words_at, words_found, words_of}
 use Rattle.std.proofs.Common.{Vec, Global, ◌≡◌, ℕ, zero, suc, ◌+◌, ◌<◌, ◌≤◌, Bool, true, false, cond, List, [], ◌∷◌, ◌++◌, length, get_or, take, drop, Result, Ok, Err, refl, sym, ap, subst, ◌∙◌, inl, inr, append_assoc, add-one, arith}
 use Rattle.std.specs.Prelude.{codes, decimal, bytes_eq, ok_or, nat_lt, ◌==◌, IfOk}
-use Rattle.std.proofs.Common.{Vec, Global, ◌≡◌, ℕ, zero, suc, ◌+◌, ◌<◌, ◌≤◌, Bool, true, false, cond, List, [], ◌∷◌, ◌++◌, length, get_or, take, drop, Result, Ok, Err, refl, sym, ap, subst, ◌∙◌, inl, inr, append_assoc, add-one, arith}
 use Rattle.spans.specs.declared.calls.replies.Reply.TheVariants as reply
 use Rattle.script.specs.declared.headings.Heading.{Heading}
 use Rattle.script.specs.declared.reply_reading.Shape.{Shape}
 use Rattle.script.specs.declared.reply_reading.Shape.TheVariants as shape
-use Rattle.script.specs.Lines.{Place, lines_of}
-use Rattle.script.specs.MessageReading.{message_of}
+use Rattle.script.specs.EventLines.{Place, lines_of, message_of, behind_arrow, heading_of, heading_at, pair_at, pair_of, row_line_at, message_line_at}
 use Rattle.word_lines.specs.Reading.{◌>>=◌}
 use Rattle.script.specs.ReplyReading.{told_as, to_the_end, reply_at}
-use Rattle.script.specs.EventLines.{behind_arrow, heading_of, heading_at, pair_at, pair_of, row_line_at, message_line_at}
 use Rattle.script.specs.Transcripts.{next_at, many_at, following_at, event_at, events_at, body_at, transcript_at, events_text, transcript_text, Tells}
 use Rattle.script.specs.declared.fault.TranscriptError.{TranscriptError}
 use Rattle.word_lines.proofs.ReadWords.{number_word}

@@ -1,7 +1,6 @@
 -- What is read of a reply's words is written so.
 use Rattle.script.proofs.Common.{AllByRecursion, Format, IsNumber, IsRefusal, IsReply, LineFault, Refusal, Reply, append-nil, bind_ok, bytes_eq-Decides, common_steps, following_lines, number_at, ok_is, pure, refusal_words, reply_words, some_ok, value_at, value_word, word_at, word_found}
-use Rattle.std.proofs.Common.{arith}
-use Rattle.std.proofs.Common.{◌≡◌, ℕ, Bool, true, false, cond, List, [], ◌∷◌, ◌++◌, Some, None, Result, Ok, Err, refl, sym, ap, subst, ◌∙◌}
+use Rattle.std.proofs.Common.{arith, ◌≡◌, ℕ, Bool, true, false, cond, List, [], ◌∷◌, ◌++◌, Some, None, Result, Ok, Err, refl, sym, ap, subst, ◌∙◌}
 use Rattle.std.specs.Prelude.{codes, decimal, bytes_eq, ok_or}
 use Rattle.spans.specs.declared.calls.replies.Reply.TheVariants as reply
 use Rattle.spans.specs.declared.calls.replies.Refusal.TheVariants as refusal
@@ -13,8 +12,7 @@ use Rattle.script.specs.declared.reply_table.Reason.TheVariants as reason
 use Rattle.script.specs.declared.reply_reading.Shape.{Shape}
 use Rattle.script.specs.declared.reply_reading.Shape.TheVariants as shape
 use Rattle.word_lines.specs.Reading.{◌>>=◌}
-use Rattle.script.specs.ReplyTable.{replies, kind_of}
-use Rattle.script.specs.ReplyReading.{told_as, to_the_end, of_number, of_two, refusal_at, stats_at, shape_at, named_at, reply_at}
+use Rattle.script.specs.ReplyReading.{replies, kind_of, told_as, to_the_end, of_number, of_two, refusal_at, stats_at, shape_at, named_at, reply_at}
 use Rattle.word_lines.proofs.ReadWords.{number_word}
 
 -- the words of a reply of which the lines that follow aren't read yet

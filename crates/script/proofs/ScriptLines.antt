@@ -4,8 +4,8 @@ use Rattle.std.specs.Prelude.{◌≢◌, decimal, IfOk, IfErr}
 use Rattle.script.proofs.Common.{All, All-from_recursion, AllByRecursion, Cmd, Format, IsNumber, IsWord, LineFault, append-nil, command_again, command_at, command_found, command_words, concat, joined, number_word, recursion_from_All, table, words_of}
 use Rattle.script.specs.declared.fault.TranscriptError.{TranscriptError}
 use Rattle.script.specs.declared.fault.TranscriptError.TheVariants as errors
-use Rattle.script.specs.Lines.{Place, lines_of}
-use Rattle.word_lines.specs.Memory.{WantsMemory, byte_words_at}
+use Rattle.script.specs.EventLines.{Place, lines_of}
+use Rattle.word_lines.specs.Reading.{WantsMemory, byte_words_at}
 use Rattle.script.specs.Transcripts.{Fails, at_line}
 use Rattle.script.specs.Scripts.{Script, onto_script, script_of_lines, script_at, above, IsCall, call_line, script_text, TellsScript, ScriptWants}
 use Rattle.script.proofs.CutLines.{lines_whole, words_line_again}

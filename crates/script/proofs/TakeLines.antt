@@ -6,11 +6,9 @@ use Rattle.spans.specs.declared.calls.replies.Reply.TheVariants as reply
 use Rattle.script.specs.declared.headings.Heading.{Heading}
 use Rattle.script.specs.declared.reply_reading.Shape.{Shape}
 use Rattle.script.specs.declared.reply_reading.Shape.TheVariants as shape
-use Rattle.script.specs.EventLines.{heading_at, row_line_at, message_line_at}
-use Rattle.script.specs.Memory.{words_want, ok_has, has_lines, counts_lines, lines_want, wants_at}
+use Rattle.script.specs.EventLines.{heading_at, row_line_at, message_line_at, words_want, ok_has, has_lines, counts_lines, lines_want, wants_at, Place, is_newline, lines_of}
 use Rattle.script.specs.declared.fault.TranscriptError.{TranscriptError}
 use Rattle.script.specs.declared.fault.TranscriptError.TheVariants as errors
-use Rattle.script.specs.Lines.{Place, is_newline, lines_of}
 use Rattle.word_lines.specs.Reading.{◌>>=◌}
 use Rattle.script.specs.Transcripts.{Fault, Fails, TakesLines, first_of, next_at, many_at, following_at, event_at, events_at, body_at, Transcript, nothing_left, onto_left, left_within, left_at, outcome_of, outcome, HasHeader, left_of, TranscriptWants, WantsNext, TakesEvent}
 

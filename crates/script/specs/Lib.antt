@@ -1,9 +1,5 @@
 pub mod Prelude
-pub mod ReplyTable
 pub mod ReplyReading
-pub mod Lines
-pub mod MessageReading
 pub mod EventLines
-pub mod Memory
 pub mod Transcripts
 pub mod Scripts

@@ -1,18 +1,39 @@
--- Reading the words of a reply.
-use Rattle.std.specs.Prelude.{ℕ, ◌==◌, if◌then◌else◌, List, length, Some, None, Result, Ok, Err, ok_or}
-use Rattle.script.specs.Prelude.{Format, LineFault, Reply, number_at, value_at, word_at}
-use Rattle.spans.specs.declared.calls.replies.Reply.TheVariants as reply
+-- The table of replies, and reading the words of one.
+use Rattle.std.specs.Prelude.{ℕ, List, [], ◌∷◌, codes, if◌then◌else◌, bytes_eq, Option, Some, None, ◌==◌, length, Result, Ok, Err, ok_or}
+use Rattle.std.specs.Borrow.{Bor}
 use Rattle.spans.specs.declared.calls.replies.Refusal.{Refusal}
+use Rattle.word_lines.specs.Reading.{◌>>=◌}
+use Rattle.spans.specs.declared.calls.replies.Reply.TheVariants as reply
 use Rattle.spans.specs.declared.calls.replies.Refusal.TheVariants as refusal
 use Rattle.spelled_words.specs.declared.fault.LineFault.TheVariants as fault
 use Rattle.script.specs.declared.reply_table.Kind.{Kind}
-use Rattle.script.specs.declared.reply_table.Kind.TheVariants as kind
+use Rattle.script.specs.Prelude.{Format, LineFault, Reply, number_at, value_at, word_at}
 use Rattle.script.specs.declared.reply_table.Reason.{Reason}
-use Rattle.script.specs.declared.reply_table.Reason.TheVariants as reason
 use Rattle.script.specs.declared.reply_reading.Shape.{Shape}
+use Rattle.script.specs.declared.reply_table.Kind.TheVariants as kind
+use Rattle.script.specs.declared.reply_table.Reason.TheVariants as reason
 use Rattle.script.specs.declared.reply_reading.Shape.TheVariants as shape
-use Rattle.word_lines.specs.Reading.{◌>>=◌}
-use Rattle.script.specs.ReplyTable.{replies, kind_of}
+
+abbrev pub replies : List (List ℕ × Kind)
+replies =
+    (codes "started", kind.Started) ∷ (codes "none", kind.Absent) ∷ (codes "value", kind.Value) ∷ (codes "rows", kind.Rows)
+    ∷ (codes "written", kind.Written) ∷ (codes "committed", kind.Committed) ∷ (codes "aborted", kind.Aborted) ∷ (codes "closed", kind.Closed)
+    ∷ (codes "messages", kind.Messages) ∷ (codes "protected", kind.Protected) ∷ (codes "released", kind.Released) ∷ (codes "collected", kind.Collected)
+    ∷ (codes "opened", kind.Opened) ∷ (codes "cancelled", kind.Cancelled) ∷ (codes "stats", kind.Stats)
+    ∷ (codes "belowclosed", kind.Refused reason.BelowClosed) ∷ (codes "tsused", kind.Refused reason.TsUsed) ∷ (codes "tsrange", kind.Refused reason.TsRange)
+    ∷ (codes "blocked", kind.Refused reason.Blocked) ∷ (codes "notxn", kind.Refused reason.NoTxn) ∷ (codes "notowner", kind.Refused reason.NotOwner)
+    ∷ (codes "ended", kind.Refused reason.Ended) ∷ (codes "toolate", kind.Refused reason.TooLate) ∷ (codes "notclosed", kind.Refused reason.NotClosed)
+    ∷ (codes "belowhorizon", kind.Refused reason.BelowHorizon) ∷ (codes "noprotection", kind.Refused reason.NoProtection) ∷ (codes "nofeed", kind.Refused reason.NoFeed)
+    ∷ (codes "feedcancelled", kind.Refused reason.FeedCancelled) ∷ (codes "nomemory", kind.Refused reason.NoMemory) ∷ (codes "gaprange", kind.Refused reason.GapRange) ∷ []
+
+-- which reply has a name
+abbrev pub kind_of : List (List ℕ × Kind) → List ℕ → Option Kind
+kind_of [] name = None
+kind_of (r ∷ rows) name = if bytes_eq r.0 name then Some r.1 else kind_of rows name
+
+-- a row of the program's own table
+abbrev pub reply_row : Bor (List ℕ) × Kind → List ℕ × Kind
+reply_row r = (r.0.now, r.1)
 
 -- any fault told as this one
 abbrev pub told_as : {A : Type 0} → LineFault → Result A LineFault → Result A LineFault

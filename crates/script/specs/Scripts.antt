@@ -4,8 +4,8 @@ use Rattle.script.specs.Prelude.{Format, IsCommand, LineFault, WantsMemory, byte
 use Rattle.spans.specs.declared.calls.commands.Cmd.{Cmd}
 use Rattle.script.specs.declared.fault.TranscriptError.{TranscriptError}
 use Rattle.script.specs.declared.fault.TranscriptError.TheVariants as errors
-use Rattle.word_lines.specs.Commands.{command_line}
-use Rattle.script.specs.Lines.{lines_of}
+use Rattle.word_lines.specs.Events.{command_line}
+use Rattle.script.specs.EventLines.{lines_of}
 use Rattle.script.specs.Transcripts.{Fault}
 
 -- sessions, each with a command
@@ -34,10 +34,6 @@ script_at format seats text = script_of_lines format seats 1 (lines_of text)
 -- a script of these calls without a fault
 abbrev pub faultless : List (ℕ × Cmd) → Script
 faultless calls = record { calls = calls; fault = None }
-
--- the script of a text that stands below so many calls
-abbrev pub script_below : Format → ℕ → List (ℕ × Cmd) → List ℕ → Script
-script_below format seats calls text = script_of_lines format seats (1 + length calls) (lines_of text)
 
 -- calls, and below them those of a script, with its fault
 abbrev pub above : List (ℕ × Cmd) → Script → Script
@@ -68,4 +64,4 @@ ScriptWants format seats text =
 
 -- the lines of calls are read as these calls, and what stands below them as its own lines say
 abbrev pub ReadsOn : Format → ℕ → Calls → List ℕ → Type 0
-ReadsOn format seats calls rest = script_at format seats (script_text calls ++ rest) ≡ above calls (script_below format seats calls rest)
+ReadsOn format seats calls rest = script_at format seats (script_text calls ++ rest) ≡ above calls (script_of_lines format seats (1 + length calls) (lines_of rest))

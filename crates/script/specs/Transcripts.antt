@@ -9,9 +9,7 @@ use Rattle.script.specs.declared.fault.TranscriptError.TheVariants as errors
 use Rattle.script.specs.declared.reply_reading.Shape.{Shape}
 use Rattle.script.specs.declared.reply_reading.Shape.TheVariants as shape
 use Rattle.word_lines.specs.Events.{event_text}
-use Rattle.script.specs.Lines.{Place, lines_of}
-use Rattle.script.specs.EventLines.{heading_at, row_line_at, message_line_at}
-use Rattle.script.specs.Memory.{wants_at}
+use Rattle.script.specs.EventLines.{Place, lines_of, heading_at, row_line_at, message_line_at, wants_at}
 
 -- the texts of events, one after the other
 abbrev pub events_text : List Event → List ℕ

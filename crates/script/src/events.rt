@@ -7,12 +7,11 @@
 //! 4  2 0 commit                  Some(Err(Fault { line: 4, .. }))
 //! ```
 ghost use Rattle.std.specs.Prelude.{◌≡◌, ◌≢◌, ◌≤◌, true, length, IfOk, IfErr, MatchResult};
-ghost use Rattle.script.specs.EventLines.{heading_at};
-ghost use Rattle.script.specs.Memory.{wants_at};
+ghost use Rattle.script.specs.EventLines.{heading_at, wants_at};
 ghost use Rattle.script.specs.Transcripts.{Fails, HasHeader, TakesLines, TakesEvent, next_at, event_at, left_of, outcome, transcript_at};
 ghost use Rattle.script.specs.declared.fault.TranscriptError.TheVariants.{NoMemory};
 
-use crate::fault::{Told, TranscriptError};
+use crate::fault::{Traced, TranscriptError};
 use crate::following::take_following;
 use crate::headings::{Heading, read_heading};
 use crate::lines::Lines;
@@ -40,7 +39,7 @@ impl<'a> Model for Events<'a> {
 impl<'a> Events<'a> {
     /// The events of a transcript of a format. A text that doesn't begin with the format's header is faulty in its
     /// first line, by `WordCount`.
-    pub fn new(text: &'a [u8], format: Format) -> Told<Events<'a>>
+    pub fn new(text: &'a [u8], format: Format) -> Traced<Events<'a>>
         // An event has a byte at least.
         ensures few { IfOk result (λ left. length left.events ≤ length text.now) }
         ensures exact { MatchResult result (λ left. transcript_at format text.now ≡ outcome left) (λ e. Fails e (transcript_at format text.now)) }
@@ -62,7 +61,7 @@ impl<'a> Events<'a> {
     /// Takes the next event, if there is one. What is left after an error isn't said. Memory is wanted only where the
     /// event's first line, read up to `=>`, has a key, a value or a bound of more than 24 bytes, or such an answer,
     /// or where a line follows that it counts. That holds of each event alike, the first or a later one.
-    pub fn next(&mut self, alloc: Global) -> Option<Told<Event>>
+    pub fn next(&mut self, alloc: Global) -> Option<Traced<Event>>
         ensures { TakesEvent result self.old self.new }
     {
         if self.lines.is_empty() {
@@ -74,7 +73,7 @@ impl<'a> Events<'a> {
 
 /// Takes the lines of one event.
 #[tactic(auto, unfolding(crate::specs::Transcripts::event_at))]
-fn take_event(alloc: Global, lines: &mut Lines, format: Format) -> Told<Event>
+fn take_event(alloc: Global, lines: &mut Lines, format: Format) -> Traced<Event>
     ensures exact { TakesLines (λ x. x) result lines.new (event_at format lines.old) }
     ensures memory { IfErr result (λ e. e ≡ NoMemory → wants_at format lines.old ≡ true) }
 {
@@ -88,7 +87,7 @@ fn take_event(alloc: Global, lines: &mut Lines, format: Format) -> Told<Event>
     })
 }
 
-fn take_heading(alloc: Global, lines: &mut Lines, format: Format) -> Told<Heading>
+fn take_heading(alloc: Global, lines: &mut Lines, format: Format) -> Traced<Heading>
     ensures exact { TakesLines (λ x. x) result lines.new (next_at (heading_at format) lines.old) }
     ensures memory { IfErr result (λ e. e ≡ NoMemory → wants_at format lines.old ≡ true) }
 {

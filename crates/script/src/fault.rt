@@ -17,8 +17,8 @@ pub enum TranscriptError {
     NoMemory,
 }
 
-/// What was read of such a text, or why it was not.
-pub type Told<T> = Result<T, TranscriptError>;
+/// A part of such a text that was read, or why it wasn't.
+pub type Traced<T> = Result<T, TranscriptError>;
 
 impl TranscriptError {
     ghost use Rattle.script.specs.Transcripts.{error_at_line};

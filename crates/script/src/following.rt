@@ -1,12 +1,11 @@
 //! The lines that follow an event's first line: the rows or the messages of its reply.
 ghost use Rattle.std.specs.Prelude.{◌≡◌, ◌<◌, true, length, IfErr};
 ghost use Rattle.word_lines.specs.Reading.{Gives};
-ghost use Rattle.script.specs.EventLines.{pair_at, pair_of, row_line_at, message_line_at, read_error_of};
-ghost use Rattle.script.specs.Memory.{has_lines};
+ghost use Rattle.script.specs.EventLines.{pair_at, pair_of, row_line_at, message_line_at, read_error_of, has_lines};
 ghost use Rattle.script.specs.Transcripts.{TakesLines, next_at, many_at, following_at};
 ghost use Rattle.script.specs.declared.fault.TranscriptError.TheVariants.{NoMemory};
 
-use crate::fault::{Told, TranscriptError};
+use crate::fault::{Traced, TranscriptError};
 use crate::lines::Lines;
 use crate::reply_reading::Shape;
 use json_lines::{MessageFault, read_message};
@@ -16,7 +15,7 @@ use text_format::Format;
 use timestamps::key::Key;
 use timestamps::value::Value;
 use word_lines::arguments::{take_key, take_value};
-use word_lines::fault::{LineFault, Read, ReadError};
+use word_lines::fault::{LineFault, Parsed, ReadError};
 use word_lines::words::{Words, text_of, words_of};
 
 /// The reply of a shape, with the lines that follow taken.
@@ -26,7 +25,7 @@ pub(crate) fn take_following(
     shape: Shape,
     lines: &mut Lines,
     format: Format,
-) -> Told<Reply>
+) -> Traced<Reply>
     ensures exact { TakesLines (λ x. x) result lines.new (following_at format shape lines.old) }
     // Memory is wanted only where lines are counted, and one is there.
     ensures memory { IfErr result (λ e. e ≡ NoMemory → (has_lines shape ≡ true) × (0 < length lines.old.lines)) }
@@ -39,7 +38,7 @@ pub(crate) fn take_following(
 }
 
 /// Takes so many rows. Room is made for those alone that came, and a first line is looked for before any is made.
-fn take_rows(alloc: Global, count: u64, lines: &mut Lines, format: Format) -> Told<Rows>
+fn take_rows(alloc: Global, count: u64, lines: &mut Lines, format: Format) -> Traced<Rows>
     ensures exact { TakesLines (λ rows. rows) result lines.new (many_at (row_line_at format) count lines.old) }
     ensures memory { IfErr result (λ e. e ≡ NoMemory → (0 < count) × (0 < length lines.old.lines)) }
 {
@@ -52,7 +51,7 @@ fn take_rows(alloc: Global, count: u64, lines: &mut Lines, format: Format) -> To
 }
 
 /// Takes so many messages. Room is made for those alone that came, and a first line is looked for before any is made.
-fn take_messages(alloc: Global, count: u64, lines: &mut Lines, format: Format) -> Told<Messages>
+fn take_messages(alloc: Global, count: u64, lines: &mut Lines, format: Format) -> Traced<Messages>
     ensures exact { TakesLines (λ messages. messages) result lines.new (many_at (message_line_at format) count lines.old) }
     ensures memory { IfErr result (λ e. e ≡ NoMemory → (0 < count) × (0 < length lines.old.lines)) }
 {
@@ -64,7 +63,7 @@ fn take_messages(alloc: Global, count: u64, lines: &mut Lines, format: Format) -
     Ok(Messages::from_vec(messages))
 }
 
-fn take_row(alloc: Global, lines: &mut Lines, format: Format) -> Told<(Key, Value)>
+fn take_row(alloc: Global, lines: &mut Lines, format: Format) -> Traced<(Key, Value)>
     ensures exact { TakesLines (λ x. x) result lines.new (next_at (row_line_at format) lines.old) }
     ensures memory { IfErr result (λ e. e ≡ NoMemory → 0 < length lines.old.lines) }
 {
@@ -75,7 +74,7 @@ fn take_row(alloc: Global, lines: &mut Lines, format: Format) -> Told<(Key, Valu
     read_row(alloc, line, format).map_err(|e| TranscriptError::at_line(number, e))
 }
 
-fn take_message(alloc: Global, lines: &mut Lines, format: Format) -> Told<Message>
+fn take_message(alloc: Global, lines: &mut Lines, format: Format) -> Traced<Message>
     ensures exact { TakesLines (λ x. x) result lines.new (next_at (message_line_at format) lines.old) }
     ensures memory { IfErr result (λ e. e ≡ NoMemory → 0 < length lines.old.lines) }
 {
@@ -88,7 +87,7 @@ fn take_message(alloc: Global, lines: &mut Lines, format: Format) -> Told<Messag
 
 /// Reads the line of a row, with its newline.
 #[tactic(auto, unfolding(crate::specs::EventLines::row_line_at))]
-pub fn read_row(alloc: Global, line: &[u8], format: Format) -> Read<(Key, Value)>
+pub fn read_row(alloc: Global, line: &[u8], format: Format) -> Parsed<(Key, Value)>
     ensures { Gives (λ x. x) result (row_line_at format line.now) }
 {
     let text = text_of(line, format)?;
@@ -99,7 +98,7 @@ pub fn read_row(alloc: Global, line: &[u8], format: Format) -> Read<(Key, Value)
 }
 
 #[tactic(auto, unfolding(crate::specs::EventLines::pair_of))]
-fn pair_of(alloc: Global, text: &[u8], format: Format) -> Read<(Key, Value)>
+fn pair_of(alloc: Global, text: &[u8], format: Format) -> Parsed<(Key, Value)>
     ensures { Gives (λ x. x) result (pair_of format text.now) }
 {
     let mut words = words_of(text)?;
@@ -112,7 +111,7 @@ fn pair_of(alloc: Global, text: &[u8], format: Format) -> Read<(Key, Value)>
 
 /// `row KEY VALUE`.
 #[tactic(auto, unfolding(crate::specs::EventLines::pair_at))]
-fn take_pair(alloc: Global, words: &mut Words, format: Format) -> Read<(Key, Value)>
+fn take_pair(alloc: Global, words: &mut Words, format: Format) -> Parsed<(Key, Value)>
     ensures { Gives (λ x. (x, words.new)) result (pair_at format words.old) }
 {
     let name = words.take_word().ok_or(LineFault::WordCount)?;
@@ -126,7 +125,7 @@ fn take_pair(alloc: Global, words: &mut Words, format: Format) -> Read<(Key, Val
 
 /// Reads the line of a message, with its newline.
 #[tactic(auto, unfolding(crate::specs::EventLines::message_line_at))]
-fn read_message_line(alloc: Global, line: &[u8], format: Format) -> Read<Message>
+fn read_message_line(alloc: Global, line: &[u8], format: Format) -> Parsed<Message>
     ensures { Gives (λ x. x) result (message_line_at format line.now) }
 {
     text_of(line, format)?;

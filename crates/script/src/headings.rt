@@ -1,9 +1,8 @@
 //! The first line of an event: its position, its session, its command and what its reply's words say.
 ghost use Rattle.std.specs.Prelude.{◌≡◌, drop, true, IfErr};
 ghost use Rattle.script.specs.Prelude.{Gives, NoMemory, is_long};
-ghost use Rattle.script.specs.EventLines.{behind_arrow, heading_of, heading_at};
+ghost use Rattle.script.specs.EventLines.{behind_arrow, heading_of, heading_at, event_words_at, event_words_of, ok_has};
 ghost use Rattle.std.specs.List.{list_any};
-ghost use Rattle.script.specs.Memory.{event_words_at, event_words_of, ok_has};
 
 use crate::reply_reading::{Shape, read_reply};
 use spans::calls::Cmd;
@@ -12,7 +11,7 @@ use std::alloc::Global;
 use text_format::Format;
 use word_lines::arguments::take_number;
 use word_lines::commands::{take_arguments, take_form, take_seat};
-use word_lines::fault::{LineFault, Read, ReadError};
+use word_lines::fault::{LineFault, Parsed, ReadError};
 use word_lines::words::{Words, text_of, words_of};
 
 /// The words of an event's first line, read.
@@ -25,8 +24,8 @@ pub(crate) struct Heading {
 }
 
 /// Reads the first line of an event, with its newline. All commands are known here.
-#[tactic(auto, unfolding(crate::specs::EventLines::heading_at, crate::specs::Memory::event_words_at))]
-pub(crate) fn read_heading(alloc: Global, line: &[u8], format: Format) -> Read<Heading>
+#[tactic(auto, unfolding(crate::specs::EventLines::heading_at, crate::specs::EventLines::event_words_at))]
+pub(crate) fn read_heading(alloc: Global, line: &[u8], format: Format) -> Parsed<Heading>
     ensures exact { Gives (λ x. x) result (heading_at format line.now) }
     ensures memory { IfErr result (λ e. e ≡ NoMemory → ok_has (list_any is_long) (event_words_at format line.now) ≡ true) }
 {
@@ -39,8 +38,8 @@ pub(crate) fn read_heading(alloc: Global, line: &[u8], format: Format) -> Read<H
 }
 
 /// Reads the words of an event's first line.
-#[tactic(auto, unfolding(crate::specs::EventLines::heading_of, crate::specs::Memory::event_words_of))]
-fn take_heading(alloc: Global, words: &mut Words, format: Format) -> Read<Heading>
+#[tactic(auto, unfolding(crate::specs::EventLines::heading_of, crate::specs::EventLines::event_words_of))]
+fn take_heading(alloc: Global, words: &mut Words, format: Format) -> Parsed<Heading>
     ensures exact { Gives (λ x. x) result (heading_of format words.old) }
     ensures memory { IfErr result (λ e. e ≡ NoMemory → ok_has (list_any is_long) (event_words_of words.old) ≡ true) }
 {

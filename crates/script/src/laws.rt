@@ -2,7 +2,7 @@
 ghost use Rattle.std.specs.Prelude.{◌≡◌, ℕ, ◌<◌, ◌^◌, List, Some, Ok};
 ghost use Rattle.std.specs.List.{All};
 ghost use Rattle.script.specs.Prelude.{Event, Format, IsEvent, IsMessage, KeepsLimit, Message, format_of, message_line};
-ghost use Rattle.script.specs.MessageReading.{message_of};
+ghost use Rattle.script.specs.EventLines.{message_of};
 ghost use Rattle.script.specs.Scripts.{Calls, IsCall, ReadsOn, faultless, script_at, script_text};
 ghost use Rattle.script.specs.Transcripts.{transcript_at, transcript_text};
 

@@ -1,6 +1,6 @@
 //! A text taken line by line, with the lines counted.
 ghost use Rattle.std.specs.Prelude.{◌≡◌, ◌≤◌, ◌+◌, ◌==◌, ◌<◌, ◌∷◌, [], length, position, IfSome, MatchOption};
-ghost use Rattle.script.specs.Lines.{is_newline, lines_of, IsAtEnd, IsPast};
+ghost use Rattle.script.specs.EventLines.{is_newline, lines_of, IsPast};
 
 use std::marker::Model;
 
@@ -13,7 +13,7 @@ pub(crate) struct Lines<'a> {
 
 impl<'a> Model for Lines<'a> {
     ghost use Rattle.std.specs.Prelude.{◌+◌, ◌<◌, ◌^◌, length};
-    ghost use Rattle.script.specs.Lines.{Place, lines_of};
+    ghost use Rattle.script.specs.EventLines.{Place, lines_of};
 
     ghost Value = { Place };
 
@@ -51,7 +51,7 @@ impl<'a> Lines<'a> {
 
     /// Takes the next line, with its newline, if there is one.
     pub(crate) fn take_line(&mut self) -> Option<&'a [u8]>
-        ensures { MatchOption result (IsAtEnd self.old self.new) (λ line. IsPast line.now self.old self.new) }
+        ensures { MatchOption result ((self.old.lines ≡ []) × (self.new ≡ self.old)) (λ line. IsPast line.now self.old self.new) }
     {
         if self.rest.is_empty() {
             return None;

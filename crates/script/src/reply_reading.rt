@@ -2,7 +2,7 @@
 ghost use Rattle.std.specs.Prelude.{◌≡◌, ◌≢◌, true, IfErr};
 ghost use Rattle.script.specs.Prelude.{Gives, NoMemory, Takes, has_long, is_long};
 ghost use Rattle.std.specs.List.{list_any};
-ghost use Rattle.script.specs.Memory.{value_words};
+ghost use Rattle.script.specs.EventLines.{value_words};
 ghost use Rattle.script.specs.ReplyReading.{stats_at, refusal_at, shape_at, named_at, reply_at};
 ghost use Rattle.script.specs.declared.reply_table.Kind.TheVariants.{Value};
 
@@ -11,7 +11,7 @@ use spans::calls::{Refusal, Reply};
 use std::alloc::Global;
 use text_format::Format;
 use word_lines::arguments::{take_number, take_value};
-use word_lines::fault::{LineFault, Read, ReadError};
+use word_lines::fault::{LineFault, Parsed, ReadError};
 use word_lines::words::Words;
 
 /// Reads the words of a reply.
@@ -26,7 +26,7 @@ pub(crate) enum Shape {
 }
 
 /// The reply that all of the words are. Where they are none, the fault is `Reply`.
-pub(crate) fn read_reply(alloc: Global, words: &mut Words, format: Format) -> Read<Shape>
+pub(crate) fn read_reply(alloc: Global, words: &mut Words, format: Format) -> Parsed<Shape>
     ensures exact { Gives (λ x. x) result (reply_at format words.old) }
     ensures memory { IfErr result (λ e. e ≡ NoMemory → list_any is_long (value_words words.old) ≡ true) }
 {
@@ -37,7 +37,7 @@ pub(crate) fn read_reply(alloc: Global, words: &mut Words, format: Format) -> Re
 }
 
 #[tactic(auto, unfolding(crate::specs::ReplyReading::named_at))]
-fn read_named(alloc: Global, words: &mut Words, format: Format) -> Read<Shape>
+fn read_named(alloc: Global, words: &mut Words, format: Format) -> Parsed<Shape>
     ensures exact { Gives (λ x. x) result (named_at format words.old) }
     ensures memory { IfErr result (λ e. e ≡ NoMemory → list_any is_long (value_words words.old) ≡ true) }
 {
@@ -52,7 +52,7 @@ fn read_named(alloc: Global, words: &mut Words, format: Format) -> Read<Shape>
 
 /// Reads a reply of this kind, from the words behind its name.
 #[tactic(auto, unfolding(crate::specs::ReplyReading::shape_at))]
-fn take_shape(alloc: Global, kind: Kind, words: &mut Words, format: Format) -> Read<Shape>
+fn take_shape(alloc: Global, kind: Kind, words: &mut Words, format: Format) -> Parsed<Shape>
     ensures exact { Takes result words.new (shape_at format kind words.old) }
     ensures memory { IfErr result (λ e. e ≡ NoMemory → (kind ≡ Value) × (has_long 1 words.old ≡ true)) }
 {
@@ -90,7 +90,7 @@ fn take_shape(alloc: Global, kind: Kind, words: &mut Words, format: Format) -> R
 }
 
 #[tactic(auto, unfolding(crate::specs::ReplyReading::stats_at))]
-fn take_stats(words: &mut Words) -> Read<Reply>
+fn take_stats(words: &mut Words) -> Parsed<Reply>
     ensures exact { Takes result words.new (stats_at words.old) }
     ensures memory { IfErr result (λ e. e ≢ NoMemory) }
 {
@@ -104,7 +104,7 @@ fn take_stats(words: &mut Words) -> Read<Reply>
 }
 
 #[tactic(auto, unfolding(crate::specs::ReplyReading::refusal_at))]
-fn take_refusal(reason: Reason, words: &mut Words) -> Read<Refusal>
+fn take_refusal(reason: Reason, words: &mut Words) -> Parsed<Refusal>
     ensures exact { Takes result words.new (refusal_at reason words.old) }
     ensures memory { IfErr result (λ e. e ≢ NoMemory) }
 {

@@ -1,6 +1,6 @@
 //! The table of replies: the name of each.
 ghost use Rattle.std.specs.Prelude.{◌≡◌, map};
-ghost use Rattle.script.specs.ReplyTable.{reply_row, kind_of};
+ghost use Rattle.script.specs.ReplyReading.{reply_row, kind_of};
 
 /// A reply's kind.
 #[derive(Clone, Copy, PartialEq, Eq)]

@@ -14,7 +14,7 @@ ghost use Rattle.script.specs.Scripts.{IsCall, ScriptWants, TellsScript, script_
 ghost use Rattle.script.specs.Transcripts.{Tells, at_line};
 ghost use Rattle.script.specs.declared.fault.TranscriptError.TheVariants.{NoMemory};
 
-use crate::fault::{Told, TranscriptError};
+use crate::fault::{Traced, TranscriptError};
 use crate::lines::Lines;
 use spans::calls::Cmd;
 use std::alloc::Global;
@@ -23,7 +23,7 @@ use word_lines::commands::read_command;
 
 /// Reads a script of a format, which has no header: the session, below `seats`, and the command of each line, or the
 /// first line that is faulty. Lines are counted from 1, and the last one has to end in a newline too.
-pub fn read_script(alloc: Global, text: &[u8], seats: u8, format: Format) -> Told<Vec<(u8, Cmd)>>
+pub fn read_script(alloc: Global, text: &[u8], seats: u8, format: Format) -> Traced<Vec<(u8, Cmd)>>
     // What is read is the text of these commands, byte for byte.
     ensures found { IfOk result (λ calls. (text.now ≡ script_text calls.items) × All (IsCall format seats) calls.items) }
     // Which fault it is, and in which line: the first from the top and from the left.
@@ -44,7 +44,7 @@ pub fn read_script(alloc: Global, text: &[u8], seats: u8, format: Format) -> Tol
 }
 
 /// Reads the line of this number.
-fn read_call(alloc: Global, number: u64, line: &[u8], seats: u8, format: Format) -> Told<(u8, Cmd)>
+fn read_call(alloc: Global, number: u64, line: &[u8], seats: u8, format: Format) -> Traced<(u8, Cmd)>
     ensures exact { Tells (λ x. x) result (at_line number (command_at format table seats line.now)) }
     ensures memory { IfErr result (λ e. e ≡ NoMemory → WantsMemory (byte_words_at format table seats line.now)) }
 {

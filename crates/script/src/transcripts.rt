@@ -15,14 +15,14 @@ ghost use Rattle.script.specs.Transcripts.{Tells, TranscriptWants, WantsNext, ou
 ghost use Rattle.script.specs.declared.fault.TranscriptError.TheVariants.{NoMemory};
 
 use crate::events::Events;
-use crate::fault::Told;
+use crate::fault::Traced;
 use spans::calls::Event;
 use std::alloc::Global;
 use text_format::Format;
 
 /// Reads a transcript of a format: its events, or the first line that is faulty. A text that doesn't begin with the
 /// format's header is faulty in its first line, by `WordCount`.
-pub fn read_transcript(alloc: Global, text: &[u8], format: Format) -> Told<Vec<Event>>
+pub fn read_transcript(alloc: Global, text: &[u8], format: Format) -> Traced<Vec<Event>>
     // What is read is the text of these events, byte for byte.
     ensures found { IfOk result (λ events. (text.now ≡ transcript_text format events.items) × All (IsEvent format) events.items) }
     // Which fault it is, and in which line: the first from the top and from the left.
@@ -35,7 +35,7 @@ pub fn read_transcript(alloc: Global, text: &[u8], format: Format) -> Told<Vec<E
 }
 
 /// Reads all that is left.
-fn all_of(alloc: Global, mut left: Events) -> Told<Vec<Event>>
+fn all_of(alloc: Global, mut left: Events) -> Traced<Vec<Event>>
     ensures exact { Tells (λ events. events.items) result (outcome left.entry) }
     ensures memory { IfErr result (λ e. e ≡ NoMemory → (left.entry.events ≢ []) ⊎ WantsNext left.entry) }
 {

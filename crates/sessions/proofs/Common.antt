@@ -1,12 +1,11 @@
 -- The words that the proofs take from below.
 pub use Rattle.script.proofs.ScriptLines.{script_again, script_behind}
-pub use Rattle.script.specs.Lines.{is_newline, lines_of}
+pub use Rattle.script.specs.EventLines.{is_newline, lines_of}
 unfoldable pub use Rattle.script.specs.Scripts.{script_of_lines}
 pub use Rattle.script.specs.Scripts.{IsCall, Script, above, call_line, script_at, script_text}
 pub use Rattle.script.specs.Transcripts.{events_text, transcript_text}
 pub use Rattle.shared_db.specs.Calls.{IsAnswered}
-pub use Rattle.shared_db.specs.Opening.{RingInRange, SeatsInRange}
-pub use Rattle.shared_db.specs.Seats.{AllNew, IsOf, first_of}
+pub use Rattle.shared_db.specs.Seats.{RingInRange, SeatsInRange, AllNew, IsOf, first_of}
 pub use Rattle.shared_db.specs.declared.config.Config.{Config}
 pub use Rattle.shared_db.specs.declared.db.Db.{Db}
 pub use Rattle.shared_db.specs.declared.served.Served.{Served}
@@ -23,13 +22,11 @@ pub use Rattle.text_format.specs.Limits.{header, line_limit}
 pub use Rattle.text_format.specs.declared.Format.{Format}
 pub use Rattle.ticket_lock.proofs.ListFacts.{each_read, each_set, same_sum, set_there, starts_length, sum_set}
 pub use Rattle.ticket_lock.specs.Lists.{StartsWith, longer, most}
-pub use Rattle.ticket_lock.specs.Seats.{IsSame, mine, seen}
-pub use Rattle.ticket_lock.specs.Turns.{IsSpent}
+pub use Rattle.ticket_lock.specs.Seats.{IsSame, mine, seen, IsSpent}
 pub use Rattle.ticket_lock.specs.declared.chronicle.Chronicle.{Ghosts}
 pub use Rattle.ticket_lock.specs.declared.lock.Seat.{Seat}
-pub use Rattle.word_lines.specs.Commands.{command_line}
-pub use Rattle.word_lines.specs.Events.{event_text, fault_line, spent_line}
-pub use Rattle.word_lines.specs.Memory.{WantsMemory, byte_words_at}
+pub use Rattle.word_lines.specs.Events.{command_line, event_text, fault_line, spent_line}
+pub use Rattle.word_lines.specs.Reading.{WantsMemory, byte_words_at}
 unfoldable pub use Rattle.word_lines.specs.Reading.{command_at}
 pub use Rattle.word_lines.specs.Table.{table}
 unfoldable pub use Rattle.word_lines.specs.Words.{text_at}

@@ -3,11 +3,9 @@ use Rattle.std.proofs.Common.{◌≡◌, ◌≢◌, ℕ, ◌+◌, List, [], ◌+
 use Rattle.sessions.proofs.Common.{Config, Event, Format, RingInRange, SeatsInRange, first_of, most, script_at, script_text}
 use Rattle.sessions.specs.declared.ending.ServeEnd.{ServeEnd}
 use Rattle.sessions.specs.declared.ending.ServeEnd.TheVariants as end
-use Rattle.sessions.specs.Devices.{Reads, Writes}
+use Rattle.sessions.specs.Devices.{Reads, Writes, HasTaken, HasBegun}
 use Rattle.sessions.specs.declared.serving.Run.{Run}
-use Rattle.sessions.specs.Writing.{HasTaken, HasBegun}
-use Rattle.sessions.specs.Made.{HasMade, HasSpent, IsHistory}
-use Rattle.sessions.specs.Runs.{calls_of, EndsBy, FailsBy, IsOpenAt, IsServed, last_line}
+use Rattle.sessions.specs.Runs.{HasMade, HasSpent, IsHistory, calls_of, EndsBy, FailsBy, IsOpenAt, IsServed, last_line}
 use Rattle.sessions.specs.Going.{IsStopped, IsRefused, kept_at}
 use Rattle.sessions.proofs.Goings.{cut_off}
 use Rattle.sessions.proofs.Scripts.{begin_with}

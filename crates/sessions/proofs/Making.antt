@@ -4,9 +4,9 @@ use Rattle.sessions.proofs.Common.{AllNew, Cmd, Db, Event, Ghosts, IsAnswered, I
 use mathlib.Core.Option.{some, some-injective}
 use lib.ListN.{get_elem?}
 use Rattle.engine.specs.declared.Engine.{Engine}
-use Rattle.shared_db.specs.Whole.{IsWhole}
+use Rattle.shared_db.specs.Seats.{IsWhole}
 use Rattle.sessions.specs.Seating.{HaveMet}
-use Rattle.sessions.specs.Made.{woven, told, HasMade, HasSpent, IsHistory}
+use Rattle.sessions.specs.Runs.{woven, told, HasMade, HasSpent, IsHistory}
 
 -- ---- lists
 

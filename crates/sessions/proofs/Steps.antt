@@ -9,14 +9,11 @@ use Rattle.sessions.specs.declared.lines.Lines.{Lines}
 use Rattle.sessions.specs.declared.output.Output.{Output}
 use Rattle.sessions.specs.declared.ending.ServeEnd.{ServeEnd}
 use Rattle.sessions.specs.declared.ending.ServeEnd.TheVariants as end
-use Rattle.sessions.specs.Devices.{Reads, Writes}
+use Rattle.sessions.specs.Devices.{Reads, Writes, pending_of, HasTaken, HasWritten}
 use Rattle.sessions.specs.declared.serving.Run.{Run}
 use Rattle.sessions.specs.declared.serving.Terms.{Terms}
-use Rattle.sessions.specs.Waiting.{waiting, IsLine}
-use Rattle.sessions.specs.Writing.{pending_of, HasTaken, HasWritten}
-use Rattle.sessions.specs.NextLines.{HasReadOn, IsSought}
-use Rattle.sessions.specs.Made.{HasMade, HasSpent}
-use Rattle.sessions.specs.Runs.{calls_of, EndsBy, FailsBy}
+use Rattle.sessions.specs.Waiting.{waiting, IsLine, HasReadOn, IsSought}
+use Rattle.sessions.specs.Runs.{HasMade, HasSpent, calls_of, EndsBy, FailsBy}
 use Rattle.sessions.specs.Going.{HasCalled, IsGoing, IsStopped, kept_at}
 use Rattle.sessions.proofs.Goings.{behind, calls_more, text_more as events_more, part_of_text}
 use Rattle.sessions.proofs.Scripts as scripts

@@ -1,7 +1,7 @@
 -- A transcript written event by event.
 use Rattle.std.proofs.Common.{◌≡◌, ◌<◌, ◌+◌, ℕ, suc, List, [], ◌∷◌, ◌++◌, drop, length, get_or, refl, sym, ap, ◌∙◌, append-nil, append_assoc, arith}
 use Rattle.sessions.proofs.Common.{Event, drop-cons, event_text, events_text}
-use Rattle.sessions.specs.Writing.{HasTaken, HasBegun}
+use Rattle.sessions.specs.Devices.{HasTaken, HasBegun}
 
 -- nothing was written
 pub nothing_taken : (taken bytes : List ℕ) → HasTaken taken taken bytes bytes

@@ -6,11 +6,9 @@ use Rattle.sessions.specs.declared.ending.ServeEnd.TheVariants as end
 use Rattle.sessions.specs.declared.callers.Callers.{Callers}
 use Rattle.sessions.specs.declared.serving.Run.{Run}
 use Rattle.sessions.specs.declared.serving.Terms.{Terms}
-use Rattle.sessions.specs.Devices.{Reads, Writes}
+use Rattle.sessions.specs.Devices.{Reads, Writes, HasTaken}
 use Rattle.sessions.specs.Waiting.{waiting}
-use Rattle.sessions.specs.Writing.{HasTaken}
-use Rattle.sessions.specs.Made.{HasMade, HasSpent}
-use Rattle.sessions.specs.Runs.{calls_of, EndsBy, FailsBy, IsServed, last_line}
+use Rattle.sessions.specs.Runs.{HasMade, HasSpent, calls_of, EndsBy, FailsBy, IsServed, last_line}
 
 -- The calls of these events were made, and what was read is their lines, with this rest behind them.
 pub record HasCalled (r r' : Reads) (terms : Terms) (callers : Callers) (events : List Event) (rest : List ℕ) : Type 0 where

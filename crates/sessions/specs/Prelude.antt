@@ -1,9 +1,8 @@
 -- The words that the specifications take from below.
-pub use Rattle.script.specs.Lines.{is_newline}
+pub use Rattle.script.specs.EventLines.{is_newline}
 pub use Rattle.script.specs.Scripts.{IsCall, script_at, script_text}
 pub use Rattle.script.specs.Transcripts.{transcript_text}
-pub use Rattle.shared_db.specs.Opening.{IsReason, RingInRange, SeatsInRange}
-pub use Rattle.shared_db.specs.Seats.{IsOf, first_of, seat_count}
+pub use Rattle.shared_db.specs.Seats.{IsReason, RingInRange, SeatsInRange, IsOf, first_of, seat_count}
 pub use Rattle.shared_db.specs.declared.config.Config.{Config}
 pub use Rattle.shared_db.specs.declared.served.Served.{Served}
 pub use Rattle.spans.specs.declared.calls.events.Event.{Event}
@@ -14,5 +13,4 @@ pub use Rattle.ticket_lock.specs.Lists.{StartsWith, longer, most}
 pub use Rattle.ticket_lock.specs.Seats.{met_spent, mine, number, seen}
 pub use Rattle.ticket_lock.specs.declared.chronicle.Chronicle.{Ghosts}
 pub use Rattle.ticket_lock.specs.declared.lock.Seat.{Seat}
-pub use Rattle.word_lines.specs.Commands.{command_line}
-pub use Rattle.word_lines.specs.Events.{event_text, fault_line, spent_line}
+pub use Rattle.word_lines.specs.Events.{command_line, event_text, fault_line, spent_line}

@@ -2,7 +2,7 @@
 ghost use Rattle.std.specs.Prelude.{◌≡◌, ◌≤◌, ◌<◌, ◌+◌, [], List, length, vec_len, IfOk, IfErr, OnErr, OnOk};
 ghost use Rattle.sessions.specs.Prelude.{Event, IsReason, RingInRange, SeatsInRange, first_of, most, seat_count};
 ghost use Rattle.sessions.specs.Seating.{AreSeated, HaveMet};
-ghost use Rattle.sessions.specs.Made.{HasMade, HasMadeMore, HasMadeNone, HasSpent, IsHistory};
+ghost use Rattle.sessions.specs.Runs.{HasMade, HasMadeMore, HasMadeNone, HasSpent, IsHistory};
 
 use engine::Engine;
 use shared_db::{Config, Db, OpenError, Seat};

@@ -40,8 +40,7 @@ pub struct Lines {
 }
 
 impl Lines {
-    ghost use Rattle.sessions.specs.Waiting.{waiting, has_ended, format_of, WantsMore, HasEnough, IsRead, IsUnread, IsMoved};
-    ghost use Rattle.sessions.specs.NextLines.{IsNextLine, HasReadOn, IsSought, IsNeeded};
+    ghost use Rattle.sessions.specs.Waiting.{waiting, has_ended, format_of, WantsMore, HasEnough, IsRead, IsUnread, IsMoved, IsNextLine, HasReadOn, IsSought, IsNeeded};
 
     /// No bytes yet. Its block has room for one line of the format, and for the bytes that are asked for at once behind
     /// it.

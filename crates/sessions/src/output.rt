@@ -10,7 +10,7 @@
 //! ```
 ghost use Rattle.std.specs.Prelude.{◌≡◌, ◌<◌, ◌++◌, [], length, IfOk, OnOk, OnErr};
 ghost use Rattle.sessions.specs.Prelude.{command_line, event_text};
-ghost use Rattle.sessions.specs.Writing.{pending_of, HasWritten};
+ghost use Rattle.sessions.specs.Devices.{pending_of, HasWritten};
 
 use crate::devices::{Sink, WriteFailed};
 use crate::whole::write_whole;

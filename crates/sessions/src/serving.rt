@@ -1,10 +1,9 @@
 //! Serving a script: its calls are made in their order, and what happened is written.
 ghost use Rattle.std.specs.Prelude.{◌≡◌, ◌<◌, ◌≤◌, Some, vec_len, length, take, IfOk, IfErr, OnOk};
-ghost use Rattle.word_lines.specs.Commands.{command_line};
+ghost use Rattle.word_lines.specs.Events.{command_line};
 ghost use Rattle.word_lines.specs.Limits.{IsCommand};
 ghost use Rattle.sessions.specs.Runs.{IsServed};
-ghost use Rattle.sessions.specs.NextLines.{IsNextLine};
-ghost use Rattle.sessions.specs.Waiting.{waiting};
+ghost use Rattle.sessions.specs.Waiting.{IsNextLine, waiting};
 ghost use Rattle.sessions.specs.Going.{IsStopped, IsFresh, IsRefused, MakesCall, StopsBefore, CallsLine, StopsAtLine, ServesAs, end_of};
 
 use crate::callers::Callers;

@@ -1,7 +1,7 @@
 //! Whole inputs and whole outputs, for a program that answers once it has read everything.
 ghost use Rattle.std.specs.Prelude.{[]};
 ghost use Rattle.script.specs.Transcripts.{transcript_text};
-ghost use Rattle.sessions.specs.Writing.{HasWritten, IsReadWhole, IsWrittenWhole};
+ghost use Rattle.sessions.specs.Devices.{HasWritten, IsReadWhole, IsWrittenWhole};
 
 use crate::devices::{Sink, Source, WriteFailed};
 use crate::ending::ServeEnd;

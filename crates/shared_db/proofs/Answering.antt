@@ -3,7 +3,7 @@ use Rattle.std.proofs.Common.{◌≡◌, ℕ, ◌+◌, ◌≤◌, List, [], ◌�
 use Rattle.spans.specs.declared.calls.commands.Cmd.{Cmd}
 use Rattle.shared_db.proofs.Common.{Engine, Event, Ghosts, IsSame, KeepsTurn, Seat, closed_timestamp, found, known, met_spent, mine, number, of_seat, seen}
 use Rattle.spans.specs.Legal.{IsLegal, IsGapless}
-use Rattle.ticket_lock.specs.Turns.{HasTurn}
+use Rattle.ticket_lock.specs.Seats.{HasTurn}
 use Rattle.shared_db.specs.declared.served.Served.{Served}
 use Rattle.shared_db.specs.History.{StandsFor, closed_after}
 use Rattle.shared_db.specs.Calls.{IsAnswered, IsMade}

@@ -1,13 +1,12 @@
 -- What the lock gave back is the whole history.
 use Rattle.std.proofs.Common.{ℕ, List, reverse, ◌∙◌}
 use Rattle.shared_db.proofs.Common.{Event, Ghosts, Seat, closed_timestamp, length-reverse}
-use Rattle.ticket_lock.specs.Finish.{IsMerge}
+use Rattle.ticket_lock.specs.Seats.{IsMerge}
 use Rattle.shared_db.specs.declared.served.Served.{Served}
 use Rattle.shared_db.specs.declared.db.Db.{Db}
 use Rattle.shared_db.specs.History.{StandsFor}
-use Rattle.shared_db.specs.Seats.{first_of, seat_count}
+use Rattle.shared_db.specs.Seats.{first_of, seat_count, IsWhole}
 use Rattle.shared_db.specs.Standing.{legal_of, steps_are}
-use Rattle.shared_db.specs.Whole.{IsWhole}
 
 module _ {C : Ghosts Served Event} where
   pub whole : (db : Db) (seats : List (Seat Served Event C)) (served : Served) → IsMerge (λ (s : Served) (n : ℕ) (h : List Event). StandsFor s.engine.value n h) (λ (e : Event). e.seat) (λ (s : Served). closed_timestamp s.engine.value) (first_of db) (seat_count db) seats served

@@ -1,8 +1,5 @@
 pub mod Prelude
 pub mod History
 pub mod Standing
-pub mod Closing
 pub mod Seats
-pub mod Opening
 pub mod Calls
-pub mod Whole

@@ -8,7 +8,6 @@ pub use Rattle.spans.specs.declared.calls.commands.Cmd.{Cmd}
 pub use Rattle.spans.specs.declared.calls.events.Event.{Event}
 pub use Rattle.std.specs.List.{All}
 pub use Rattle.ticket_lock.specs.Lists.{of_seat}
-pub use Rattle.ticket_lock.specs.Seats.{found, known, met_spent, mine, number, raised, seen, ticket}
-pub use Rattle.ticket_lock.specs.Turns.{IsBusy, IsSpent}
+pub use Rattle.ticket_lock.specs.Seats.{found, known, met_spent, mine, number, raised, seen, ticket, IsBusy, IsSpent}
 pub use Rattle.ticket_lock.specs.declared.chronicle.Chronicle.{Ghosts}
 pub use Rattle.ticket_lock.specs.declared.lock.Seat.{Seat}

@@ -1,7 +1,6 @@
 //! Calls: a command of a seat becomes an event of the one history.
 ghost use Rattle.std.specs.Prelude.{◌≡◌, IfOk, IfErr, OnErr, OnOk};
-ghost use Rattle.ticket_lock.specs.Seats.{IsSame, IsOf as IsOwn};
-ghost use Rattle.ticket_lock.specs.Turns.{IsSpent};
+ghost use Rattle.ticket_lock.specs.Seats.{IsSame, IsOf as IsOwn, IsSpent};
 ghost use Rattle.shared_db.specs.Seats.{IsOf, first_of};
 ghost use Rattle.shared_db.specs.Calls.{IsAnswered, IsDenied, IsReady, IsMade};
 

@@ -1,8 +1,6 @@
 //! How a shared database begins and ends.
 ghost use Rattle.std.specs.Prelude.{◌≡◌, ◌≢◌, length, IfOk, IfErr};
-ghost use Rattle.shared_db.specs.Opening.{IsOpened, IsReason};
-ghost use Rattle.shared_db.specs.Seats.{AllOf, seat_count};
-ghost use Rattle.shared_db.specs.Whole.{IsWhole};
+ghost use Rattle.shared_db.specs.Seats.{IsOpened, IsReason, AllOf, seat_count, IsWhole};
 
 use crate::config::{Config, OpenError};
 use crate::served::Served;
@@ -13,10 +11,16 @@ use ticket_lock::TicketLock;
 use timestamps::oracle::{Oracle, OraclePass};
 
 /// A database that threads share by reference.
-#[derive(Drop)]
 pub struct Db {
     pub(crate) lock: TicketLock<Served>,
     pub(crate) oracle: Oracle,
+}
+
+// for the proof, which has no case for each part of it where a database is dropped
+impl Drop for Db {
+    fn drop(self) {
+        let Db { lock: _, oracle: _ } = self;
+    }
 }
 
 /// One caller of a database. At run time it is its number alone.

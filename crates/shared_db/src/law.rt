@@ -6,7 +6,7 @@ ghost use Rattle.shared_db.specs.contracts.served.ServedChronicle.TheImpl.{ghost
 ghost use Rattle.shared_db.specs.declared.served.Served.{Served};
 ghost use Rattle.shared_db.specs.declared.db.Db.{Db};
 ghost use Rattle.shared_db.specs.Calls.{IsAnswered};
-ghost use Rattle.shared_db.specs.Whole.{IsWhole};
+ghost use Rattle.shared_db.specs.Seats.{IsWhole};
 
 /// A seat's view after a call is lawful, and so is the whole history once all seats are back: each clause of
 /// `spans::law::law_of_histories` holds of both. The function does nothing: its contract is the theorem.

@@ -14,7 +14,7 @@ pub struct Served {
 impl Chronicle for Served {
     ghost use Rattle.engine.specs.Engine.{closed_timestamp};
     ghost use Rattle.shared_db.specs.History.{StandsFor};
-    ghost use Rattle.shared_db.specs.Closing.{closed_rises};
+    ghost use Rattle.shared_db.specs.Standing.{closed_rises};
 
     type Entry = Event;
 

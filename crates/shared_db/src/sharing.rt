@@ -4,9 +4,8 @@ ghost use Rattle.std.specs.List.Sorted.{IsStrictlyIncreasing};
 ghost use Rattle.ticket_lock.specs.Lists.{of_seat, longer, StartsWith};
 ghost use Rattle.ticket_lock.specs.Seats.{number, seen, mine, known, met_spent, IsSame, looks as seat_looks};
 ghost use Rattle.ticket_lock.specs.declared.rule.Look.TheVariants.{Serving, Floor, Ignored};
-ghost use Rattle.timestamps.specs.Numbers.{timestamps_of, AreApart};
-ghost use Rattle.timestamps.specs.Passes.{drawn, leased, loaded, earlier, looks, IsOf as IsPassOf, IsSame as IsSamePass};
-ghost use Rattle.timestamps.specs.Reasons.{IsReason, steps_of};
+ghost use Rattle.timestamps.specs.Blocks.{timestamps_of, AreApart};
+ghost use Rattle.timestamps.specs.Passes.{drawn, leased, loaded, earlier, looks, IsOf as IsPassOf, IsSame as IsSamePass, IsReason, steps_of};
 ghost use Rattle.timestamps.specs.declared.lease.TheConstants.{BLOCKS};
 ghost use Rattle.shared_db.specs.Seats.{IsOf};
 

@@ -1,13 +1,10 @@
 -- The parts of a span between rising keys.
 use Rattle.spans.proofs.Common.{Equal, Greater, Less, Ordering, and_parts, at_drop_all, common_steps, is_eq, is_eq-slice_cmp, is_lt, key_cmp, or_left, or_right, ordering_reverse}
-use Rattle.std.proofs.Common.{rules}
-use Rattle.std.proofs.Common.{Bool, List, Option, Some, ap, arith, cond, drop, false, get_or, length, refl, suc, sym, true, zero, ℕ, ◌&&◌, ◌<◌, ◌≤◌, ◌||◌, ◌≡◌, ◌++◌, ◌∷◌, ◌∙◌, []}
+use Rattle.std.proofs.Common.{rules, Bool, List, Option, Some, ap, arith, cond, drop, false, get_or, length, refl, suc, sym, true, zero, ℕ, ◌&&◌, ◌<◌, ◌≤◌, ◌||◌, ◌≡◌, ◌++◌, ◌∷◌, ◌∙◌, []}
 use Rattle.std.specs.Prelude.{bytes_eq, not}
 use Rattle.std.proofs.lemmas.List.Kept.{AllPairs-cons}
-use Rattle.spans.specs.Keys.{in_span}
-use Rattle.spans.specs.Pieces.{AreApart, NoneOverlap, is_held}
-use Rattle.spans.specs.KeyOrder.{below_high, from_low}
-use Rattle.spans.specs.Successors.{successor}
+use Rattle.spans.specs.Keys.{in_span, AreApart, NoneOverlap, is_held}
+use Rattle.spans.specs.KeyOrder.{below_high, from_low, successor}
 use Rattle.spans.specs.declared.span.Span.{Span}
 use Rattle.spans.proofs.Keyed.{IsIn, RisingKeys}
 use Rattle.spans.proofs.Steps.{by_test, same_key}

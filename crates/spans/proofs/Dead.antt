@@ -3,8 +3,7 @@ use Rattle.spans.proofs.Common.{and_from, common_steps, eqb-true, le-leb, lt-ltb
 use Rattle.std.proofs.Common.{◌≡◌, ℕ, ◌<◌, ◌≤◌, ◌⊎◌, true, List, Some, None, arith}
 use Rattle.spans.specs.Effects.{After, Effect}
 use Rattle.spans.specs.Transactions.{is_committed}
-use Rattle.spans.specs.Newest.{newest, IsNewest}
-use Rattle.spans.specs.Versions.{write_of, committed_version_of}
+use Rattle.spans.specs.Versions.{newest, IsNewest, write_of, committed_version_of}
 use Rattle.spans.specs.Collection.{version_name, horizon_of, is_delete, is_dead}
 use Rattle.spans.specs.Promises.{left_version_of}
 use Rattle.spans.proofs.Steps.{newest_is, newest_at, newest_reaches}

@@ -20,7 +20,7 @@ use Rattle.spans.proofs.StreamOrder.{RisingRows, IsRowIn, in_append, rises_parts
 use Rattle.spans.proofs.Taking.{reaches_all}
 use Rattle.spans.proofs.Complete.{in_above}
 use Rattle.spans.proofs.Horizon.{horizon_low}
-use Rattle.spans.specs.Members.{Has}
+use Rattle.spans.specs.Keys.{Has}
 use Rattle.spans.specs.declared.calls.messages.Message.TheVariants as messages
 
 -- what wasn't told is above the resolved messages

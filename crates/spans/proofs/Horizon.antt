@@ -6,7 +6,7 @@ use Rattle.spans.specs.Effects.{Effect, Collects}
 use Rattle.spans.specs.Transactions.{closed_of, least_of}
 use Rattle.spans.specs.Collection.{Protection, horizon_of, protections_of, live_feeds, floor_of}
 use Rattle.spans.proofs.Copies.{Allowed, AllAllowed, closed_grows}
-use Rattle.spans.specs.Members.{Has}
+use Rattle.spans.specs.Keys.{Has}
 use Rattle.spans.proofs.Members.{has_filter}
 
 -- the least is at most the bound

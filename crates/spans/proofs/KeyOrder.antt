@@ -2,8 +2,7 @@
 use Rattle.spans.proofs.Common.{Equal, Greater, Less, MAX_KEY_BYTES, Ordering, common_steps, is_from_start, is_le, is_lt, key_cmp, leb-false, nat_list_cmp_total, not-true, ordering_reverse, tied_itself}
 use Rattle.std.proofs.Common.{◌≡◌, ℕ, zero, suc, ◌<◌, ◌≤◌, true, false, List, [], ◌∷◌, length, take, Option, Some, None, refl, sym, ◌∙◌, ap, arith}
 use Rattle.std.specs.Prelude.{not, nat_le}
-use Rattle.spans.specs.KeyOrder.{key_lt, from_low, below_high}
-use Rattle.spans.specs.Starting.{start_of}
+use Rattle.spans.specs.KeyOrder.{key_lt, from_low, below_high, start_of}
 use Rattle.spans.proofs.Steps.{by_test}
 
 pub less_is : (o : Ordering) → is_lt o ≡ true → o ≡ Less

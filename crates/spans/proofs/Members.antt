@@ -2,7 +2,7 @@
 use Rattle.spans.proofs.Common.{All-cons, All-nil, common_steps}
 use Rattle.std.proofs.Common.{Bool, List, refl, arith, inr, false, suc, ap, true, inl, sym, length, ◌≡◌, ◌≤◌, ◌⊎◌, ◌∷◌, ◌++◌, ◌∙◌, ℕ, []}
 use Rattle.std.specs.Prelude.{All, filter, is_some, not, ◌+◌, ◌↔◌}
-pub use Rattle.spans.specs.Members.{Has, AreDistinct}
+pub use Rattle.spans.specs.Keys.{Has, AreDistinct}
 use Rattle.spans.specs.Effects.{Begins, Effect}
 use Rattle.spans.specs.Transactions.{is_undecided, owner_of, begun_of, undecided_timestamps}
 use Rattle.spans.proofs.Copies.{AllAllowed}

@@ -5,8 +5,7 @@ use Rattle.std.specs.Prelude.{filter, nat_le, ◌↔◌, bytes_eq}
 use Rattle.std.specs.BTreeMap.{is_at}
 use Rattle.std.specs.BTreeSet as sets
 use Rattle.std.specs.declared.ops.Bound.TheVariants.{Included, Unbounded}
-use Rattle.spans.specs.Members.{AreDistinct, Has}
-use Rattle.spans.specs.Keys.{insert_key}
+use Rattle.spans.specs.Keys.{AreDistinct, Has, insert_key}
 use Rattle.spans.proofs.Steps.{by_test}
 
 -- the range of all is the whole set

@@ -5,8 +5,7 @@ use Rattle.std.specs.Prelude.{bytes_eq, is_some}
 use Rattle.std.proofs.lemmas.Slice.Eq.{bytes_eq-Decides}
 use Rattle.spans.specs.Effects.{After, Effect}
 use Rattle.spans.specs.Transactions.{is_committed, is_aborted}
-use Rattle.spans.specs.Versions.{write_of, version_of, committed_value}
-use Rattle.spans.specs.Newest.{Version, version_at, newest, IsNewest}
+use Rattle.spans.specs.Versions.{write_of, version_of, committed_value, Version, version_at, newest, IsNewest}
 use Rattle.spans.specs.Serial.{Map, serial_run, map_at}
 
 pub same_key : (x y : List ℕ) → bytes_eq x y ≡ true → x ≡ y

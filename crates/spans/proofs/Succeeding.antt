@@ -2,8 +2,7 @@
 use Rattle.std.proofs.Common.{List, arith, refl, ℕ, ◌∷◌, ◌≡◌, []}
 use Rattle.std.specs.Prelude.{not}
 use Rattle.spans.proofs.Common.{common_steps, nat_tests}
-use Rattle.spans.specs.KeyOrder.{key_lt}
-use Rattle.spans.specs.Successors.{successor}
+use Rattle.spans.specs.KeyOrder.{key_lt, successor}
 
 pub above_successor : (k x : List ℕ) → not (key_lt x (successor k)) ≡ key_lt k x
 above_successor [] [] = refl

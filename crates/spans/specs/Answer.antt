@@ -31,8 +31,7 @@ abbrev pub is_owner : Option ℕ → ℕ → Bool
 is_owner None seat = false
 is_owner (Some s) seat = s == seat
 
--- the tests of every command of a transaction. Ended comes first: what is at or below closed need not be remembered, not
--- even whether it ever began
+-- the tests of a transaction's commands. Ended comes first: of what is at or below closed nothing need be remembered
 abbrev pub transaction_tests : List Effect → ℕ → ℕ → List (Bool × Refusal)
 transaction_tests p seat t =
     (nat_le t (closed_of p), Ended)
@@ -63,8 +62,7 @@ abbrev pub is_gap : Option ℕ → Bool
 is_gap None = true
 is_gap (Some gap) = is_timestamp gap
 
--- the tests of an opening, by the feed's kind. What an initial feed tells first is read at its cursor, so that has to be
--- closed
+-- the tests of an opening, by the feed's kind. An initial feed begins by a read at its cursor, so that has to be closed
 abbrev pub opening_tests : Kind → List Effect → ℕ → List (Bool × Refusal)
 opening_tests kind p cursor =
     (nat_lt MAX cursor, TsRange)

@@ -5,8 +5,7 @@ use Rattle.spans.specs.declared.calls.messages.Message.{Message}
 use Rattle.spans.specs.declared.calls.messages.Message.TheVariants as messages
 use Rattle.spans.specs.Effects.{After, Effect, Opens, Cancels, Protects, Releases, Collects}
 use Rattle.spans.specs.Transactions.{closed_of, is_committed, is_aborted, begun_of, least_of}
-use Rattle.spans.specs.Newest.{newest}
-use Rattle.spans.specs.Versions.{write_of, write_set, committed_version_of}
+use Rattle.spans.specs.Versions.{newest, write_of, write_set, committed_version_of}
 use Rattle.spans.specs.Feeds.{told_to}
 
 -- the horizon: what the last collection answered, and 0 at first. Reads below it are refused
@@ -51,8 +50,7 @@ live_feeds (Opens f seat kind span cursor ∷ p) = live_feed f cursor ∷ live_f
 live_feeds (Cancels f ∷ p) = filter (λ (n : LiveFeed). not (n.number == f)) (live_feeds p)
 live_feeds (_ ∷ p) = live_feeds p
 
--- the floor by the last message: n where there is none, t after a resolved t, and t - 1 after a row of t, since more rows
--- of t may follow
+-- the floor by the last message: n where there is none, t after a resolved t, t - 1 after a row of t: more may follow
 abbrev pub floor_after : ℕ → List Message → ℕ
 floor_after n [] = n
 floor_after n (messages.Row r ∷ ms) = floor_after (r.ts - 1) ms

@@ -11,8 +11,7 @@ use Rattle.spans.specs.Feeds.{Feed, feed_of, told_to, rows_in, list_of, start_of
 use Rattle.spans.specs.Collection.{floor_after}
 use Rattle.spans.specs.Consumer.{view_of, seed_of, last_row, apply_fault}
 
--- through where all was told to a consumer that took the messages; none while that is below the cursor, as it is among the
--- first rows of an initial feed
+-- through where all was told to a consumer of the messages; none below the cursor, as among an initial feed's first rows
 abbrev pub complete_after : (start cursor : ℕ) → List Message → Option ℕ
 complete_after start cursor ms = let n = floor_after start ms in if nat_lt n cursor then None else Some n
 
@@ -25,8 +24,7 @@ is_row_of (Some r) t = r.ts == t
 abbrev pub is_new : ℕ → List Message → ℕ → Bool
 is_new cursor taken t = nat_lt cursor t && not (is_row_of (last_row None taken) t)
 
--- the timestamp at which the rows are the map as they stand, where a message shows it that is taken next: just below the
--- first row of a timestamp above the cursor
+-- where the rows are the map as they stand, by the next message: just below the first row of a timestamp above the cursor
 abbrev pub ready_after : Span → (start cursor : ℕ) → List Message → Message → Option ℕ
 ready_after span start cursor taken (messages.Row r) =
     if is_none (apply_fault span start taken (messages.Row r)) && is_new cursor taken r.ts then Some (r.ts - 1) else None

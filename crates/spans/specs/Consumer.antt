@@ -75,8 +75,7 @@ abbrev pub AllTaken : Span → ℕ → List Message → List Message → Type 0
 AllTaken span start taken [] = Unit {0}
 AllTaken span start taken (m ∷ ms) = (apply_fault span start taken m ≡ None) × AllTaken span start (taken ++ m ∷ []) ms
 
--- a consumer that began with its seed takes every message, and has after each resolved one the span's part of the map at its
--- timestamp
+-- a consumer that began with its seed takes every message, and has the map in its span at each resolved timestamp
 pub record ConsumerIsRight (p : List Effect) (f : ℕ) (feed : Feed) : Type 0 where
   pub takes : AllTaken feed.span (start_of feed) [] (told_to p f)
   pub views : (before rest : List Message) (t : ℕ) → told_to p f ≡ before ++ messages.Resolved t ∷ rest

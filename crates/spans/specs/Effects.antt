@@ -51,8 +51,7 @@ pub data Effect : Type 0 where
 abbrev pub kind_of : Bool → Option ℕ → Kind
 kind_of initial gap = record { initial = initial; gap = gap }
 
--- what a seat's command did, by its reply: a refusal does nothing, except that a write which is too late aborts its
--- transaction
+-- what a seat's command did, by its reply: a refusal does nothing, but a write that is too late aborts its transaction
 abbrev pub effect : ℕ → Cmd → Reply → Effect
 effect seat (Begin t) Started = Begins t seat
 effect seat (Get t x) (Found v) = Reads t x v

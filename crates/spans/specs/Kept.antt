@@ -51,11 +51,8 @@ abbrev pub kept_version : List Effect → List ℕ → ℕ → Option After
 kept_version p x t = if is_dead p (version_name x t) then None else version_of p x t
 
 -- how t stands. (In a legal history none has committed and was aborted too.)
-abbrev pub state_of : List Effect → ℕ → State
-state_of p t = if is_committed p t then states.Committed else (if is_aborted p t then states.Aborted else states.Undecided)
-
 abbrev pub transaction_with : List Effect → ℕ → ℕ → Transaction
-transaction_with p t seat = record { seat = seat; state = state_of p t }
+transaction_with p t seat = record { seat = seat; state = if is_committed p t then states.Committed else (if is_aborted p t then states.Aborted else states.Undecided) }
 
 -- a transaction above closed
 abbrev pub transaction_of : List Effect → ℕ → Option Transaction

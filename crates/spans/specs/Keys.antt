@@ -1,8 +1,9 @@
--- Sets of keys: spans, rising lists of keys, and the part of a map that lies in a span.
-use Rattle.std.specs.Prelude.{ℕ, List, [], ◌∷◌, Bool, true, ◌&&◌, ◌≡◌, ◌⊎◌, ◌↔◌, Option, Some, None, bytes_eq, if◌then◌else◌}
+-- Sets of keys: spans, rising lists of keys, and the part of a map that lies in a span. Lists that stand for sets.
+use Rattle.std.specs.Prelude.{ℕ, List, [], ◌∷◌, Bool, true, ◌&&◌, ◌≡◌, ◌⊎◌, ◌↔◌, Option, Some, None, bytes_eq, if◌then◌else◌, false}
 use Rattle.std.specs.declared.cmp.Ordering.{Ordering}
 use Rattle.std.specs.declared.cmp.Ordering.TheVariants.{Less, Equal, Greater}
-use Rattle.timestamps.specs.Bytes.{key_cmp}
+use Rattle.std.specs.List.{AllPairs, list_any}
+use Rattle.timestamps.specs.Words.{key_cmp}
 use Rattle.spans.specs.declared.span.Span.{Span}
 use Rattle.spans.specs.KeyOrder.{from_low, below_high}
 
@@ -48,3 +49,29 @@ pub record AreRows (span : Span) (m : List ℕ → Option (List ℕ)) (rows : Li
 abbrev pub value_among : List (List ℕ × List ℕ) → List ℕ → Option (List ℕ)
 value_among [] x = None
 value_among (r ∷ rows) x = if bytes_eq r.0 x then Some r.1 else value_among rows x
+
+-- x is one of the list
+abbrev pub Has : {A : Type 0} → A → List A → Type 0
+Has x [] = ⊥
+Has x (y ∷ ys) = (y ≡ x) ⊎ Has x ys
+
+-- nothing is in the list twice
+abbrev pub AreDistinct : {A : Type 0} → List A → Type 0
+AreDistinct [] = Unit {0}
+AreDistinct (x ∷ xs) = (Has x xs → ⊥) × AreDistinct xs
+
+-- x is one of the keys
+abbrev pub is_among : List ℕ → List (List ℕ) → Bool
+is_among x keys = list_any (λ y. bytes_eq y x) keys
+
+-- some span of the list holds x
+abbrev pub is_held : List Span → List ℕ → Bool
+is_held spans x = list_any (λ s. in_span s x) spans
+
+-- no key lies in both
+abbrev pub AreApart : Span → Span → Type 0
+AreApart s t = (x : List ℕ) → in_span s x ≡ true → in_span t x ≡ false
+
+-- no key lies in two spans of the list
+abbrev pub NoneOverlap : List Span → Type 0
+NoneOverlap spans = AllPairs AreApart spans

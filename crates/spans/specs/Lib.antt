@@ -1,10 +1,8 @@
 pub mod Prelude
-pub mod Members
+pub mod Keys
 pub mod Effects
 pub mod KeyOrder
-pub mod Keys
 pub mod Transactions
-pub mod Newest
 pub mod Versions
 pub mod Reads
 pub mod Serial
@@ -21,10 +19,6 @@ pub mod Law
 pub mod Kept
 pub mod Report
 pub mod WorkedHistories
-pub mod WorkedCompleteness
-pub mod WorkedReports
 pub mod WorkedPromises
+pub mod WorkedReports
 pub mod Parts
-pub mod Pieces
-pub mod Successors
-pub mod Starting

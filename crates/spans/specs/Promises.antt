@@ -3,12 +3,10 @@
 use Rattle.std.specs.Prelude.{ℕ, List, [], ◌∷◌, ◌++◌, All, filter, length, true, false, not, ◌-◌, ◌≡◌, ◌≤◌, Option, Some, None, if◌then◌else◌}
 use Rattle.spans.specs.declared.calls.commands.Cmd.TheVariants.{Stats}
 use Rattle.spans.specs.declared.calls.replies.Reply.TheVariants as replies
-use Rattle.spans.specs.Members.{AreDistinct}
+use Rattle.spans.specs.Keys.{AreDistinct, in_span, value_among}
 use Rattle.spans.specs.Effects.{After, Effect, Reads, Scans, Protects, Releases}
-use Rattle.spans.specs.Keys.{in_span, value_among}
 use Rattle.spans.specs.Transactions.{closed_of, undecided_timestamps}
-use Rattle.spans.specs.Newest.{newest}
-use Rattle.spans.specs.Versions.{write_of, committed_version_of}
+use Rattle.spans.specs.Versions.{newest, write_of, committed_version_of}
 use Rattle.spans.specs.Feeds.{Feed, feed_of, is_cancelled}
 use Rattle.spans.specs.Serial.{map_at}
 use Rattle.spans.specs.Collection.{Protection, LiveFeed, live_feed, horizon_of, protections_of, live_feeds, floor_of, VersionName, version_name, versions_of, is_dead, dead_of}
@@ -64,8 +62,7 @@ pub record IsHorizonHeld (p : List Effect) : Type 0 where
 abbrev pub left_version_of : List Effect → List ℕ → ℕ → Option After
 left_version_of p x t = if is_dead p (version_name x t) then None else committed_version_of p x t
 
--- what is dropped changes no snapshot at or above the horizon. (The value found, and not its timestamp: a delete may be
--- dropped as the newest.)
+-- what is dropped changes no snapshot from the horizon on (by values: a delete may be dropped as the newest version)
 abbrev pub SnapshotsStand : List Effect → Type 0
 SnapshotsStand p =
     (x : List ℕ) (t : ℕ) → horizon_of p ≤ t → (newest (left_version_of p x) t).after ≡ (newest (committed_version_of p x) t).after

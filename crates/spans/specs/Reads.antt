@@ -3,8 +3,7 @@
 use Rattle.std.specs.Prelude.{ℕ, suc, List, [], ◌∷◌, Bool, true, false, ◌&&◌, ◌||◌, ◌≡◌, ◌<◌, ◌≤◌, ◌⊎◌, nat_lt, bytes_eq}
 use Rattle.spans.specs.Keys.{in_span, value_among}
 use Rattle.spans.specs.Effects.{After, Effect, Reads, Scans}
-use Rattle.spans.specs.Newest.{IsNewest}
-use Rattle.spans.specs.Versions.{visible, committed_version_of}
+use Rattle.spans.specs.Versions.{IsNewest, visible, committed_version_of}
 
 -- j read x from the version of k, and was given v. A scan reads every key of its span, the absent ones too. Reads of
 -- transactions that are aborted later count; a blocked read is none; snapshot reads need not be counted, since nothing at
@@ -31,7 +30,6 @@ too_late (Reads j y v ∷ p) x i = (bytes_eq y x && (nat_lt (visible p y j).ts i
 too_late (Scans j span rows ∷ p) x i = (in_span span x && (nat_lt (visible p x j).ts i && nat_lt i j)) || too_late p x i
 too_late (_ ∷ p) x i = too_late p x i
 
--- each read that wasn't given its own transaction's version was given what is for good the newest committed version below
--- its reader
+-- each read that wasn't given its own transaction's version was given for good the newest committed one below its reader
 abbrev pub ReadNewest : List Effect → Type 0
 ReadNewest p = (t : ℕ) (x : List ℕ) (k : ℕ) (v : After) → IsRead p (suc t) x k v → k ≤ t → IsNewest (committed_version_of p x) t k v

@@ -24,8 +24,7 @@ written_value (Some a) = a
 abbrev pub rows_of : List Effect → Span → ℕ → List Row
 rows_of p span t = map (λ x. record { ts = t; key = x; after = written_value (write_of p t x) }) (filter (in_span span) (write_set p t))
 
--- the rows of the span that transactions above the cursor and at or below t committed, in the order of row_lt: by
--- timestamp, since t counts up, and then by key, since a write set rises
+-- the rows of the span committed above the cursor and at or below t, by timestamp and then by key, as a write set rises
 abbrev pub stream_of : List Effect → Span → ℕ → ℕ → List Row
 stream_of p span cursor zero = []
 stream_of p span cursor (suc t) = stream_of p span cursor t ++ (if nat_lt cursor (suc t) && is_committed p (suc t) then rows_of p span (suc t) else [])

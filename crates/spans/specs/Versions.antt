@@ -1,10 +1,33 @@
 -- Writes, the versions that they make, and the read rule of multiversion timestamp ordering
 -- (Bernstein, Hadzilacos and Goodman, section 5.3).
-use Rattle.std.specs.Prelude.{ℕ, suc, List, [], ◌∷◌, Bool, not, ◌&&◌, ◌==◌, if◌then◌else◌, Option, Some, None, is_some, bytes_eq}
-use Rattle.spans.specs.Keys.{insert_key}
+use Rattle.std.specs.Prelude.{ℕ, zero, suc, ◌≡◌, ◌<◌, ◌≤◌, ◌⊎◌, Option, Some, None, List, [], ◌∷◌, Bool, not, ◌&&◌, ◌==◌, if◌then◌else◌, is_some, bytes_eq}
 use Rattle.spans.specs.Effects.{After, Effect, Writes}
+use Rattle.spans.specs.Keys.{insert_key}
 use Rattle.spans.specs.Transactions.{is_committed, is_aborted}
-use Rattle.spans.specs.Newest.{Version, newest}
+
+-- a version of a key: its writer's timestamp, and what the write left. Version 0 is before all writes, and has no value
+pub record Version : Type 0 where
+  pub ts : ℕ
+  pub after : After
+
+abbrev pub version_at : ℕ → After → Version
+version_at t a = record { ts = t; after = a }
+
+-- the version that is there at t, or else an older one
+abbrev pub newer_or : Option After → ℕ → Version → Version
+newer_or None t older = older
+newer_or (Some a) t older = version_at t a
+
+-- of the versions, the one with the greatest timestamp at most t
+abbrev pub newest : (ℕ → Option After) → ℕ → Version
+newest versions zero = version_at 0 None
+newest versions (suc t) = newer_or (versions (suc t)) (suc t) (newest versions t)
+
+-- the same as a relation, for contracts and for the law: k is the greatest timestamp at most t at which there is a version, and a is what it left
+pub record IsNewest (versions : ℕ → Option After) (t k : ℕ) (a : After) : Type 0 where
+  pub at_most : k ≤ t
+  pub gap : (i : ℕ) → k < i → i ≤ t → versions i ≡ None
+  pub has : ((k ≡ 0) × (a ≡ None)) ⊎ ((0 < k) × (versions k ≡ Some a))
 
 -- what t last wrote at x
 abbrev pub write_of : List Effect → ℕ → List ℕ → Option After
@@ -46,7 +69,6 @@ visible p x t = newest (version_of p x) t
 abbrev pub committed_value : List Effect → List ℕ → ℕ → After
 committed_value p x t = (newest (committed_version_of p x) t).after
 
--- the version that a read of x at t would be given is another transaction's, which is undecided (this project:
--- such a read is answered at once, and leaves no trace)
+-- a read of x at t would meet another transaction's undecided version (this project: it is answered at once, and unmarked)
 abbrev pub is_blocked : List Effect → List ℕ → ℕ → Bool
 is_blocked p x t = let k = (visible p x t).ts in not (k == 0) && (not (k == t) && not (is_committed p k))

@@ -1,3 +1,4 @@
+//! The kinds of feeds.
 ghost use Rattle.std.specs.Prelude.{true, ◌≡◌, ◌<◌};
 
 /// A feed's kind: what it tells first, and how far apart its resolved messages lie.

@@ -1,3 +1,4 @@
+//! The law of histories: what holds of every legal history, as the contract of one function.
 ghost use Rattle.std.specs.Prelude.{List, ◌∷◌, ◌++◌, ℕ, ◌≡◌, ◌↔◌, true, Some};
 ghost use Rattle.spans.specs.declared.calls.events.Event.{Event};
 ghost use Rattle.spans.specs.Effects.{effects_of};

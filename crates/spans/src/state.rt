@@ -1,3 +1,4 @@
+//! How a transaction stands.
 /// How a transaction stands.
 #[derive(Clone, Copy, Debug, PartialEq, Eq)]
 pub enum State {

@@ -3,12 +3,11 @@ use Rattle.std.proofs.Common.{◌≡◌, ℕ, Bool, true, false, cond, ◌||◌,
 use Rattle.std.specs.Prelude.{codes, drop, bytes_eq, ok_or, ◌&&◌, nat_le}
 use Rattle.text_format.specs.Limits.{key_limit, bound_limit}
 use Rattle.text_format.specs.declared.Format.{Format}
-use Rattle.json_lines.specs.Numbers.{number_of}
+use Rattle.json_lines.specs.Meaning.{number_of}
 use Rattle.spelled_words.specs.declared.fault.LineFault.{LineFault}
 use Rattle.spelled_words.specs.declared.fault.LineFault.TheVariants.{Number, KeyLength, BadByte}
-use Rattle.spelled_words.specs.Memory.{is_long, has_long}
-use Rattle.spelled_words.specs.Reading.{◌>>=◌, bytes_at, number_at, key_at, bound_at}
-use Rattle.spelled_words.specs.Spelling.{bytes_of}
+use Rattle.spelled_words.specs.Reading.{is_long, has_long, ◌>>=◌, bytes_at, number_at, key_at, bound_at}
+use Rattle.spelled_words.specs.Words.{bytes_of}
 
 -- a word stands before those that are left
 abbrev pub Behind : {A : Type 0} → List (List ℕ) → A × List (List ℕ) → Type 0

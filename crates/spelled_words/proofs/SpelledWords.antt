@@ -3,7 +3,7 @@ use Rattle.spelled_words.proofs.Common.{append-nil, cases_Bool, common_steps, eq
 use Rattle.std.proofs.Common.{◌≡◌, ℕ, ◌+◌, ◌*◌, ◌<◌, Bool, true, false, cond, List, [], ◌∷◌, length, Option, Some, None, refl, sym, ap, subst, ◌∙◌, inl, inr, arith}
 use Rattle.std.specs.Prelude.{codes, bytes_eq, ◌==◌, option_and_then}
 use Rattle.std.proofs.lemmas.Slice.Eq.{bytes_eq-Decides}
-use Rattle.spelled_words.specs.Spelling.{is_plain, hex_value, escape, escaped, spelled, spelling, with_front, unspelled, bytes_of, AreBytes}
+use Rattle.spelled_words.specs.Words.{is_plain, hex_value, escape, escaped, spelled, spelling, with_front, unspelled, bytes_of, AreBytes}
 
 abbrev pub some_of : {A : Type 0} → A → Option A
 some_of x = Some x

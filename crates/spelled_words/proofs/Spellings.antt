@@ -2,7 +2,7 @@
 use Rattle.spelled_words.proofs.Common.{common_steps, flat_map, le-leb, list_all}
 use Rattle.std.proofs.Common.{◌≡◌, ℕ, Bool, true, false, cond, List, [], ◌∷◌, ◌<◌, length, Option, Some, None, refl, ap, arith}
 use Rattle.std.specs.Prelude.{◌&&◌, ◌==◌, nat_le, option_and_then}
-use Rattle.spelled_words.specs.Spelling.{is_plain, spelled, escaped, first_at, with_front, unspelled}
+use Rattle.spelled_words.specs.Words.{is_plain, spelled, escaped, first_at, with_front, unspelled}
 
 pub both : (a b : Bool) → (a && b) ≡ true → (a ≡ true) × (b ≡ true)
 both true b e = (refl, e)

@@ -1,8 +1,7 @@
 -- Reading a word byte by byte, as a loop does.
 use Rattle.spelled_words.proofs.Common.{append-nil, common_steps, nil_from_length}
-use Rattle.std.proofs.Common.{arith}
-use Rattle.std.proofs.Common.{◌≡◌, ℕ, ◌<◌, List, [], ◌∷◌, ◌++◌, length, Option, Some, None, refl, ap, sym, ◌∙◌, append_assoc}
-use Rattle.spelled_words.specs.Spelling.{first_at, with_front, unspelled}
+use Rattle.std.proofs.Common.{arith, ◌≡◌, ℕ, ◌<◌, List, [], ◌∷◌, ◌++◌, length, Option, Some, None, refl, ap, sym, ◌∙◌, append_assoc}
+use Rattle.spelled_words.specs.Words.{first_at, with_front, unspelled}
 use Rattle.spelled_words.proofs.Spellings.{by_first, unspelled_first}
 
 -- what was read before, and what is still read

@@ -1,12 +1,13 @@
 -- Reading from left to right: the value, or the first fault that is met.
-use Rattle.std.specs.Prelude.{◌≡◌, ℕ, nat_le, ◌&&◌, if◌then◌else◌, List, [], ◌∷◌, length, codes, Option, Some, None, Result, Ok, Err, ok_or, bytes_eq}
-use Rattle.spelled_words.specs.Prelude.{Format, bound_limit, key_limit, number_of, value_limit}
+use Rattle.std.specs.Prelude.{◌≡◌, ℕ, nat_le, ◌&&◌, if◌then◌else◌, List, [], ◌∷◌, length, codes, Option, Some, None, Result, Ok, Err, ok_or, bytes_eq, nat_lt, Bool, take}
+use Rattle.std.specs.List.{list_any}
 use Rattle.spans.specs.declared.span.Span.{Span}
+use Rattle.spelled_words.specs.Prelude.{Format, bound_limit, key_limit, number_of, value_limit}
 use Rattle.spelled_words.specs.declared.fault.LineFault.{LineFault}
 use Rattle.spelled_words.specs.declared.fault.LineFault.TheVariants.{WordCount, Number, KeyLength, ValueLength, BadByte}
 use Rattle.spelled_words.specs.declared.fault.ReadError.{ReadError}
+use Rattle.spelled_words.specs.Words.{bytes_of}
 use Rattle.spelled_words.specs.declared.fault.ReadError.TheVariants as errors
-use Rattle.spelled_words.specs.Spelling.{bytes_of}
 
 infixl 10 ◌>>=◌
 abbrev pub ◌>>=◌ : {A B E : Type 0} → Result A E → (A → Result B E) → Result B E
@@ -90,3 +91,11 @@ opening_every_at format words = do
   opening ← opening_at format words
   gap ← number_at opening.1
   Ok ((opening.0.0, opening.0.1, gap.0), gap.1)
+
+-- more bytes than lie in place
+abbrev pub is_long : List ℕ → Bool
+is_long word = nat_lt 24 (length word)
+
+-- one of the first words is long
+abbrev pub has_long : ℕ → List (List ℕ) → Bool
+has_long count words = list_any is_long (take count words)

@@ -1,10 +1,9 @@
 //! The words of a command read as what it takes, from left to right.
 ghost use Rattle.std.specs.Prelude.{◌≡◌, ◌≢◌, true, drop, IfErr};
 ghost use Rattle.spelled_words.specs.declared.fault.ReadError.TheVariants.{NoMemory};
-ghost use Rattle.spelled_words.specs.Memory.{has_long};
-ghost use Rattle.spelled_words.specs.Reading.{Takes, number_at, key_at, value_at, bound_at, span_at, number_and_key_at, number_and_span_at, opening_at, opening_every_at};
+ghost use Rattle.spelled_words.specs.Reading.{has_long, Takes, number_at, key_at, value_at, bound_at, span_at, number_and_key_at, number_and_span_at, opening_at, opening_every_at};
 
-use crate::fault::{LineFault, Read, ReadError};
+use crate::fault::{LineFault, Parsed, ReadError};
 use crate::spelling::bytes_of;
 use crate::words::Words;
 use json_lines::numbers::number_of;
@@ -18,7 +17,7 @@ use timestamps::value::{Value, ValueError};
 /// A number.
 #[inline(always)]
 #[tactic(auto, unfolding(crate::specs::Reading::number_at))]
-pub fn take_number(words: &mut Words) -> Read<u64>
+pub fn take_number(words: &mut Words) -> Parsed<u64>
     ensures exact { Takes result words.new (number_at words.old) }
     ensures memory { IfErr result (λ e. e ≢ NoMemory) }
 {
@@ -29,7 +28,7 @@ pub fn take_number(words: &mut Words) -> Read<u64>
 /// A key of the format. Its bytes are copied once where each stands for itself, and else at most twice.
 #[inline(always)]
 #[tactic(auto, unfolding(crate::specs::Reading::key_at))]
-pub fn take_key(alloc: Global, words: &mut Words, format: Format) -> Read<Key>
+pub fn take_key(alloc: Global, words: &mut Words, format: Format) -> Parsed<Key>
     ensures exact { Takes result words.new (key_at format words.old) }
     ensures memory { IfErr result (λ e. e ≡ NoMemory → has_long 1 words.old ≡ true) }
 {
@@ -48,7 +47,7 @@ pub fn take_key(alloc: Global, words: &mut Words, format: Format) -> Read<Key>
 
 /// A value of the format. Its bytes are copied as a key's are.
 #[tactic(auto, unfolding(crate::specs::Reading::value_at))]
-pub fn take_value(alloc: Global, words: &mut Words, format: Format) -> Read<Value>
+pub fn take_value(alloc: Global, words: &mut Words, format: Format) -> Parsed<Value>
     ensures exact { Takes result words.new (value_at format words.old) }
     ensures memory { IfErr result (λ e. e ≡ NoMemory → has_long 1 words.old ≡ true) }
 {
@@ -67,7 +66,7 @@ pub fn take_value(alloc: Global, words: &mut Words, format: Format) -> Read<Valu
 
 /// A bound of the format, or `-` for none.
 #[tactic(auto, unfolding(crate::specs::Reading::bound_at))]
-fn take_bound(alloc: Global, words: &mut Words, format: Format) -> Read<Option<Bound>>
+fn take_bound(alloc: Global, words: &mut Words, format: Format) -> Parsed<Option<Bound>>
     ensures exact { Takes result words.new (bound_at format words.old) }
     ensures memory { IfErr result (λ e. e ≡ NoMemory → has_long 1 words.old ≡ true) }
 {
@@ -89,7 +88,7 @@ fn take_bound(alloc: Global, words: &mut Words, format: Format) -> Read<Option<B
 
 /// A span: its lower and its upper bound.
 #[tactic(auto, using(crate::proofs::LongWords::behind_bound, crate::proofs::LongWords::long_behind), unfolding(crate::specs::Reading::span_at))]
-pub fn take_span(alloc: Global, words: &mut Words, format: Format) -> Read<Span>
+pub fn take_span(alloc: Global, words: &mut Words, format: Format) -> Parsed<Span>
     ensures exact { Takes result words.new (span_at format words.old) }
     ensures memory { IfErr result (λ e. e ≡ NoMemory → has_long 2 words.old ≡ true) }
 {
@@ -101,7 +100,7 @@ pub fn take_span(alloc: Global, words: &mut Words, format: Format) -> Read<Span>
 /// A number, and behind it a key.
 #[inline(always)]
 #[tactic(auto, using(crate::proofs::LongWords::left_long, crate::proofs::LongWords::behind_number), unfolding(crate::specs::Reading::number_and_key_at))]
-pub fn take_number_and_key(alloc: Global, words: &mut Words, format: Format) -> Read<(u64, Key)>
+pub fn take_number_and_key(alloc: Global, words: &mut Words, format: Format) -> Parsed<(u64, Key)>
     ensures exact { Takes result words.new (number_and_key_at format words.old) }
     ensures memory { IfErr result (λ e. e ≡ NoMemory → has_long 1 (drop 1 words.old) ≡ true) }
 {
@@ -112,7 +111,7 @@ pub fn take_number_and_key(alloc: Global, words: &mut Words, format: Format) -> 
 
 /// A number, and behind it a span.
 #[tactic(auto, using(crate::proofs::LongWords::left_long, crate::proofs::LongWords::behind_number), unfolding(crate::specs::Reading::number_and_span_at))]
-pub fn take_number_and_span(alloc: Global, words: &mut Words, format: Format) -> Read<(u64, Span)>
+pub fn take_number_and_span(alloc: Global, words: &mut Words, format: Format) -> Parsed<(u64, Span)>
     ensures exact { Takes result words.new (number_and_span_at format words.old) }
     ensures memory { IfErr result (λ e. e ≡ NoMemory → has_long 2 (drop 1 words.old) ≡ true) }
 {
@@ -123,7 +122,7 @@ pub fn take_number_and_span(alloc: Global, words: &mut Words, format: Format) ->
 
 /// A span, and behind it a cursor.
 #[tactic(auto, unfolding(crate::specs::Reading::opening_at))]
-pub fn take_opening(alloc: Global, words: &mut Words, format: Format) -> Read<(Span, u64)>
+pub fn take_opening(alloc: Global, words: &mut Words, format: Format) -> Parsed<(Span, u64)>
     ensures exact { Takes result words.new (opening_at format words.old) }
     ensures memory { IfErr result (λ e. e ≡ NoMemory → has_long 2 words.old ≡ true) }
 {
@@ -138,7 +137,7 @@ pub fn take_opening_every(
     alloc: Global,
     words: &mut Words,
     format: Format,
-) -> Read<(Span, u64, u64)>
+) -> Parsed<(Span, u64, u64)>
     ensures exact { Takes result words.new (opening_every_at format words.old) }
     ensures memory { IfErr result (λ e. e ≡ NoMemory → has_long 2 words.old ≡ true) }
 {

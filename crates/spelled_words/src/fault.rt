@@ -84,8 +84,8 @@ pub enum ReadError {
     NoMemory,
 }
 
-/// What was read of a text, or why it was not.
-pub type Read<T> = Result<T, ReadError>;
+/// A part of a text that was read, or why it wasn't.
+pub type Parsed<T> = Result<T, ReadError>;
 
 impl From<LineFault> for ReadError {
     ghost from_gives = { λ fault e. e ≡ Fault fault };

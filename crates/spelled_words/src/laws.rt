@@ -1,7 +1,7 @@
 //! What holds of all words, as the contracts of functions that do nothing.
 ghost use Rattle.std.specs.Prelude.{◌≡◌, ℕ, ◌<◌, ◌^◌, List, Some, decimal};
-ghost use Rattle.json_lines.specs.Numbers.{number_of};
-ghost use Rattle.spelled_words.specs.Spelling.{spelling, bytes_of, AreBytes};
+ghost use Rattle.json_lines.specs.Meaning.{number_of};
+ghost use Rattle.spelled_words.specs.Words.{spelling, bytes_of, AreBytes};
 
 /// Each number has one word, and each number word is that of one number.
 pub fn number_words()

@@ -1,15 +1,13 @@
 //! Bytes spelled as a word: `-` for none, a printable byte as itself, any other as `%` and two
 //! hexadecimal digits. Each list of bytes has one spelling.
 ghost use Rattle.std.specs.Prelude.{◌≡◌, ◌++◌, ◌<◌, ◌≤◌, true, length, ok_or, IfSome, MatchOption, IfOk, IfErr, OnOk, OnErr};
-ghost use Rattle.json_lines.specs.Writing.{Keeps};
-ghost use Rattle.spelled_words.specs.SpelledBytes.{spelled_bytes};
-ghost use Rattle.spelled_words.specs.Memory.{is_long};
+ghost use Rattle.json_lines.specs.Messages.{Keeps};
+ghost use Rattle.spelled_words.specs.Words.{spelled_bytes, is_plain, hex_digit, hex_value, escaped, first_at, unspelled, bytes_of, spelled, spelling};
+ghost use Rattle.spelled_words.specs.Reading.{is_long, Gives};
 ghost use Rattle.spelled_words.specs.declared.fault.ReadError.TheVariants.{NoMemory};
-ghost use Rattle.spelled_words.specs.Reading.{Gives};
 ghost use Rattle.std.specs.List.{flat_map, list_all};
-ghost use Rattle.spelled_words.specs.Spelling.{is_plain, hex_digit, hex_value, escaped, first_at, unspelled, bytes_of, spelled, spelling};
 
-use crate::fault::{LineFault, Read, ReadError};
+use crate::fault::{LineFault, Parsed, ReadError};
 use smallvec::SmallVec;
 use std::alloc::{AllocError, Global};
 
@@ -29,7 +27,7 @@ fn are_plain(bytes: &[u8]) -> bool
 
 /// Writes the spelling of bytes at the end.
 /// After an error it still begins with what was there.
-#[tactic(auto, using(json_lines::proofs::Writing::keeping), unfolding(crate::specs::Spelling::spelling))]
+#[tactic(auto, using(json_lines::proofs::Writing::keeping), unfolding(crate::specs::Words::spelling))]
 pub fn put_spelling(out: &mut Vec<u8>, bytes: &[u8]) -> Result<(), AllocError>
     ensures ok { OnOk result (out.new.items ≡ out.old.items ++ spelling bytes.now) }
     ensures err { OnErr result (Keeps out.old.items out.new.items) }
@@ -76,7 +74,7 @@ pub enum Spelled<'a> {
 }
 
 impl Spelled<'_> {
-    ghost use Rattle.spelled_words.specs.SpelledBytes.{spelled_bytes};
+    ghost use Rattle.spelled_words.specs.Words.{spelled_bytes};
 
     /// The bytes, lent.
     pub fn bytes(&self) -> &[u8]
@@ -92,8 +90,8 @@ impl Spelled<'_> {
 /// The bytes that a word spells, or the fault `BadByte` where it isn't the spelling of any. It
 /// allocates only for a long word with an escaped byte.
 #[inline(always)]
-#[tactic(auto, using(crate::proofs::Spellings::plain_word), unfolding(crate::specs::Spelling::bytes_of))]
-pub fn bytes_of<'a>(alloc: Global, word: &'a [u8]) -> Read<Spelled<'a>>
+#[tactic(auto, using(crate::proofs::Spellings::plain_word), unfolding(crate::specs::Words::bytes_of))]
+pub fn bytes_of<'a>(alloc: Global, word: &'a [u8]) -> Parsed<Spelled<'a>>
     ensures exact { Gives spelled_bytes result (ok_or (bytes_of word.now) LineFault.BadByte) }
     ensures shorter { IfOk result (λ bytes. length (spelled_bytes bytes) ≤ length word.now) }
     ensures memory { IfErr result (λ e. e ≡ NoMemory → is_long word.now ≡ true) }
@@ -116,7 +114,7 @@ pub fn bytes_of<'a>(alloc: Global, word: &'a [u8]) -> Read<Spelled<'a>>
 /// The bytes of a word, of which some are escaped.
 #[cold]
 #[inline(never)]
-fn unescaped(alloc: Global, word: &[u8]) -> Read<SmallVec<u8, 24>>
+fn unescaped(alloc: Global, word: &[u8]) -> Parsed<SmallVec<u8, 24>>
     ensures exact { Gives (λ bytes. bytes.items) result (ok_or (unspelled word.now) LineFault.BadByte) }
     ensures shorter { IfOk result (λ bytes. length bytes.items ≤ length word.now) }
     ensures memory { IfErr result (λ e. e ≡ NoMemory → is_long word.now ≡ true) }

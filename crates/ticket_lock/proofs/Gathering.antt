@@ -7,10 +7,9 @@ use Rattle.ticket_lock.specs.declared.rule.SeatRecord.{SeatRecord}
 use Rattle.ticket_lock.specs.declared.rule.View.{View}
 use Rattle.ticket_lock.specs.declared.rule.Setup.{Setup}
 use Rattle.ticket_lock.specs.Lists.{span}
-use Rattle.ticket_lock.specs.Views.{setup, numbers, nobody, gathering, gatherer}
+use Rattle.ticket_lock.specs.Views.{setup, numbers, nobody, gathering, gatherer, IsProper, has, in_hand}
 use Rattle.ticket_lock.specs.Rule.{Fits, Ordered}
 use Rattle.ticket_lock.specs.Steps.{entered}
-use Rattle.ticket_lock.specs.Proper.{IsProper, has, in_hand}
 use Rattle.ticket_lock.proofs.ListFacts.{each_first, only_one, none_sum, ones_span, ones_length, either_way, two_in}
 use Rattle.ticket_lock.proofs.Keeping.{Of, Mine, none_out, knows_nobody, came_new, joined}
 use Rattle.ticket_lock.proofs.Merging.{Whole}

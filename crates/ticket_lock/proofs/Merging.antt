@@ -9,8 +9,7 @@ use Rattle.ticket_lock.specs.declared.rule.SeatRecord.{SeatRecord}
 use Rattle.ticket_lock.specs.declared.chronicle.Chronicle.{Ghosts}
 use Rattle.ticket_lock.specs.declared.lock.Seat.{Seat}
 use Rattle.ticket_lock.specs.Lists.{most, StartsWith, of_seat, span}
-use Rattle.ticket_lock.specs.Seats.{number, mine, record_of}
-use Rattle.ticket_lock.specs.Finish.{IsPartOf, IsMerge}
+use Rattle.ticket_lock.specs.Seats.{number, mine, record_of, IsPartOf, IsMerge}
 use Rattle.ticket_lock.proofs.ListFacts.{times, span_has}
 
 module _ {A : Type 0} where

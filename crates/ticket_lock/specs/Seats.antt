@@ -1,5 +1,5 @@
--- What a contract says of a seat, and of the same seat after a call.
-use Rattle.std.specs.Prelude.{◌≡◌, ℕ, List, length, Option, None, Bool}
+-- What a contract says of a seat, how a call for a turn ends, and what is known once all seats are back.
+use Rattle.std.specs.Prelude.{◌≡◌, ℕ, List, length, Option, None, Bool, ◌+◌, ◌<◌, ◌≤◌, ◌==◌, sum_by, count_by, true, ◌⊎◌, ◌∷◌, Some, false}
 use mathlib.Core.Option.{some}
 use lib.ListN.{get_elem?}
 use Rattle.ticket_lock.specs.declared.rule.SeatRecord.{SeatRecord}
@@ -8,6 +8,10 @@ use Rattle.ticket_lock.specs.declared.chronicle.Chronicle.{Ghosts}
 use Rattle.ticket_lock.specs.declared.lock.Seat.{Seat}
 use Rattle.ticket_lock.specs.declared.lock.TicketLock.{TicketLock}
 use Rattle.ticket_lock.specs.Views.{seat}
+use Rattle.ticket_lock.specs.Lists.{most, StartsWith, of_seat, span}
+use Rattle.ticket_lock.specs.declared.rule.Look.TheVariants.{Serving, Next}
+use Rattle.ticket_lock.specs.declared.lock.Denied.{Denied}
+use Rattle.ticket_lock.specs.declared.lock.Denied.TheVariants.{Busy, Spent}
 
 module _ {T E : Type 0} {C : Ghosts T E} where
   -- its number among the seats of its lock
@@ -96,3 +100,67 @@ module _ {T E : Type 0} {C : Ghosts T E} where
     pub met_spent : met_spent new ≡ met_spent old
     pub ticket : ticket new ≡ ticket old
     pub found : found new ≡ found old
+
+module _ {T E : Type 0} {C : Ghosts T E} where
+  -- what one seat saw and made is part of the whole history, and no floor that it knows is above the value's
+  pub record IsPartOf (seat_of : E → ℕ) (first floor : ℕ) (history : List E) (s : Seat T E C) : Type 0 where
+    pub sees : StartsWith history (seen s)
+    pub owns : mine s ≡ of_seat seat_of (number s) history
+    pub spent : met_spent s ≡ true → first + length history ≡ most
+    pub known : known s ≤ floor
+
+  -- The value stands for one history, and that is the merge of what the seats made: each entry names one of them, and each has all entries that name it, in their order.
+  pub record IsMerge (stands : T → ℕ → List E → Type 0) (seat_of : E → ℕ) (floor_of : T → ℕ) (first count : ℕ) (seats : List (Seat T E C)) (value : T) : Type 0 where
+    pub all : length seats ≡ count
+    pub history : List E
+    pub stood : stands value first history
+    pub named : (k : ℕ) (e : E) → get_elem? history k ≡ some e → seat_of e < count
+    pub each : (k : ℕ) (s : Seat T E C) → get_elem? seats k ≡ some s → IsPartOf seat_of first (floor_of value) history s
+    -- each number below the count is the number of one seat
+    pub once : (n : ℕ) → n < count → count_by (λ s. number s == n) seats ≡ 1
+    -- the same, for any weight that goes by the number
+    pub weighed : (f : ℕ → ℕ) → sum_by (λ s. f (number s)) seats ≡ sum_by f (span 0 count)
+    pub total : sum_by (λ s. length (mine s)) seats ≡ length history
+
+-- The serving word had `served`, and the ticket word had `next` after it, perhaps at a second look, where the first found `served` still. It noted no other looks.
+abbrev pub HasLooked : List Look → ℕ → ℕ → List Look → Type 0
+HasLooked before served next after = (after ≡ Next next ∷ Serving served ∷ before) ⊎ (after ≡ Next next ∷ Next served ∷ Serving served ∷ before)
+
+-- Where no ticket is left: the serving word had some number, and the ticket word the greatest after it. It noted no other looks.
+abbrev pub HasMetSpent : List Look → Denied → List Look → Type 0
+HasMetSpent before (Busy served next) after = Unit {0}
+HasMetSpent before Spent after = (served : ℕ) × (after ≡ Next 18446744073709551615 ∷ Serving served ∷ before)
+
+module _ {T E : Type 0} {C : Ghosts T E} where
+  -- The seat has the turn t of a lock that began at `first`. The value stands for what it found: all turns so far, which begin with what it had seen.
+  pub record HasTurn (stands : T → ℕ → List E → Type 0) (floor_of : T → ℕ) (first : ℕ) (old : Seat T E C) (value : T) (t : ℕ) (new : Seat T E C) : Type 0 where
+    pub keeps : Keeps old new
+    pub unspent : met_spent old ≡ false
+    pub still : met_spent new ≡ false
+    pub ticket : ticket new ≡ Some t
+    pub stood : stands value first (found new)
+    pub begins : StartsWith (found new) (seen new)
+    pub place : first + length (found new) ≡ t
+    pub high : known old ≤ floor_of value
+    pub unraised : raised new ≡ 0
+
+  -- no ticket is left, and the seat knows it
+  pub record IsSpent (old new : Seat T E C) : Type 0 where
+    pub keeps : Keeps old new
+    pub free : ticket new ≡ None
+    pub met : met_spent new ≡ true
+
+  -- In this call the serving word had `served`, no older than what the seat had seen, and the ticket word then had `next`, which is later: the seat never met `Spent`.
+  pub record IsBusy (first : ℕ) (old : Seat T E C) (served next : ℕ) (new : Seat T E C) : Type 0 where
+    pub keeps : Keeps old new
+    pub free : ticket new ≡ None
+    pub unspent : met_spent old ≡ false
+    pub met : met_spent new ≡ met_spent old
+    pub looked : HasLooked (looks old) served next (looks new)
+    pub ahead : served < next
+    pub reached : first + length (seen old) ≤ served
+
+  -- what a refusal tells, by its kind
+  abbrev pub IsDenied : ℕ → Seat T E C → Denied → Seat T E C → Type 0
+  IsDenied first old (Busy served next) new = IsBusy first old served next new
+  IsDenied first old Spent new = IsSpent old new

@@ -3,7 +3,7 @@ use Rattle.std.specs.Prelude.{◌≡◌, ◌≢◌, ℕ, ◌+◌, ◌-◌, ◌^�
 use Rattle.atomic_table.specs.Table.{Step, rest}
 use Rattle.ticket_lock.specs.Lists.{most, StartsWith, of_seat, longer}
 use Rattle.ticket_lock.specs.Views.{SeatState, nobody, caught_up, met_spent, drawn, looked, looking, noted_serving, noted_next, holding, ended, raises, knows_floor, marked}
-use Rattle.ticket_lock.specs.Turns.{HasLooked}
+use Rattle.ticket_lock.specs.Seats.{HasLooked}
 use Rattle.ticket_lock.specs.declared.rule.Look.TheVariants.{Ignored}
 use Rattle.ticket_lock.specs.declared.rule.View.{View}
 use Rattle.ticket_lock.specs.declared.lock.Denied.{Denied}

@@ -1,8 +1,7 @@
 //! The end of a lock, once all its seats are back.
 ghost use Rattle.std.specs.Prelude.{◌≡◌, ◌≢◌, [], map, length, IfOk, IfErr};
 ghost use Rattle.ticket_lock.specs.Views.{gatherer};
-ghost use Rattle.ticket_lock.specs.Seats.{AllFree, record_of};
-ghost use Rattle.ticket_lock.specs.Finish.{IsMerge};
+ghost use Rattle.ticket_lock.specs.Seats.{AllFree, record_of, IsMerge};
 
 use crate::chronicle::Chronicle;
 use crate::lock::{Seat, SeatsMissing, TicketLock};

@@ -1,8 +1,7 @@
 //! How a lock begins, with all its seats.
 ghost use Rattle.std.specs.Prelude.{◌≡◌, ◌≤◌, ◌<◌, ◌+◌, ◌-◌, [], length, IfOk};
 ghost use Rattle.ticket_lock.specs.Lists.{span};
-ghost use Rattle.ticket_lock.specs.Views.{issuer};
-ghost use Rattle.ticket_lock.specs.Proper.{IsSamePass};
+ghost use Rattle.ticket_lock.specs.Views.{issuer, IsSamePass};
 ghost use Rattle.ticket_lock.specs.Seats.{number, IsNew, AllNew, IsBegun};
 
 use crate::chronicle::Chronicle;

@@ -1,7 +1,6 @@
 //! The types: the lock, a seat, the value that a seat holds for one turn, and how calls end.
 ghost use Rattle.std.specs.Prelude.{◌≡◌, ◌≤◌, ◌<◌, ◌^◌, ◌+◌, ◌-◌};
-ghost use Rattle.ticket_lock.specs.Views.{setup};
-ghost use Rattle.ticket_lock.specs.Proper.{IsProper};
+ghost use Rattle.ticket_lock.specs.Views.{setup, IsProper};
 
 use crate::chronicle::Chronicle;
 use crate::rule::{Setup, TurnOrder, View};

@@ -2,9 +2,8 @@
 ghost use Rattle.std.specs.Prelude.{◌≡◌, ◌∷◌, ℕ, max, true};
 ghost use Rattle.ticket_lock.specs.Lists.{of_seat, longer, StartsWith};
 ghost use Rattle.ticket_lock.specs.Seats.{number, seen, mine, known, raised, looks, IsOf, KeepsTurn};
-ghost use Rattle.ticket_lock.specs.Views.{telling};
+ghost use Rattle.ticket_lock.specs.Views.{telling, IsSamePass};
 ghost use Rattle.ticket_lock.specs.declared.rule.Look.TheVariants.{Serving, Ignored};
-ghost use Rattle.ticket_lock.specs.Proper.{IsSamePass};
 ghost use Rattle.ticket_lock.specs.Steps.{HearsOf};
 
 use crate::chronicle::Chronicle;

@@ -2,11 +2,10 @@
 //! that comes next is woken.
 ghost use Rattle.std.specs.Prelude.{◌≡◌, ◌≤◌, ◌<◌, ◌+◌, ◌-◌, ◌^◌, ◌++◌, [], ◌∷◌, true, false, Some, None, IfSome, IfNone, IfOk, IfErr};
 ghost use Rattle.ticket_lock.specs.Lists.{of_seat};
-ghost use Rattle.ticket_lock.specs.Views.{met_spent, looked, looking, ended};
+ghost use Rattle.ticket_lock.specs.Views.{met_spent, looked, looking, ended, IsSamePass};
 ghost use Rattle.ticket_lock.specs.declared.rule.Look.TheVariants.{Serving, Next};
-ghost use Rattle.ticket_lock.specs.Turns.{HasMetSpent};
+ghost use Rattle.ticket_lock.specs.Seats.{HasMetSpent};
 ghost use Rattle.ticket_lock.specs.Steps.{DeniedAt, Draws, DrawsServed, PutOffAt, HasDrawn, Took};
-ghost use Rattle.ticket_lock.specs.Proper.{IsSamePass};
 
 use crate::chronicle::Chronicle;
 use crate::lock::{Denied, TicketLock};

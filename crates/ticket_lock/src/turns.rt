@@ -1,9 +1,8 @@
 //! The public calls of a turn: a seat asks for the value, with or without waiting, and gives it back.
 ghost use Rattle.std.specs.Prelude.{◌≡◌, ◌≤◌, ◌++◌, [], ◌∷◌, None, Some, IfOk, IfErr};
 ghost use Rattle.ticket_lock.specs.Lists.{of_seat};
-ghost use Rattle.ticket_lock.specs.Seats.{number, seen, mine, met_spent, known, ticket, found, raised, looks, IsOf, IsSame};
+ghost use Rattle.ticket_lock.specs.Seats.{number, seen, mine, met_spent, known, ticket, found, raised, looks, IsOf, IsSame, HasMetSpent, HasTurn, IsSpent, IsDenied};
 ghost use Rattle.ticket_lock.specs.declared.rule.Look.TheVariants.{Serving, Next};
-ghost use Rattle.ticket_lock.specs.Turns.{HasMetSpent, HasTurn, IsSpent, IsDenied};
 
 use crate::chronicle::Chronicle;
 use crate::lock::{Denied, Held, Seat, Spent, TicketLock};

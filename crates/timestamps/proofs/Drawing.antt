@@ -8,8 +8,7 @@ use lib.ListN.{get_elem?}
 use prog.Atomic.{either}
 use Rattle.atomic_table.specs.Table.{State, Act, keeps, step, stepped, carried_after, Valid, Allows, Splits, Joins}
 use Rattle.timestamps.specs.declared.blocks.Draws.{Draws}
-use Rattle.timestamps.specs.Blocks.{NoSlot, Sat, blocks_with, times_drawn, IsDrawnOnce, nobody, newcomer, itself, without_drawn, only_drawn, borrowing, without_lent, only_lent, taking_back, loads, draws, Looks, DrawsNext, Compares}
-use Rattle.timestamps.specs.Numbers.{AreApart}
+use Rattle.timestamps.specs.Blocks.{NoSlot, Sat, blocks_with, times_drawn, IsDrawnOnce, nobody, newcomer, itself, without_drawn, only_drawn, borrowing, without_lent, only_lent, taking_back, loads, draws, Looks, DrawsNext, Compares, AreApart}
 use Rattle.timestamps.proofs.Numbers.{counted_once}
 use Rattle.timestamps.proofs.Views.{sum_set, one_of_sum, each_set, each_more}
 

@@ -5,7 +5,7 @@ use Rattle.std.proofs.Common.{◌≡◌, ℕ, zero, suc, ◌+◌, ◌*◌, ◌<�
 use Rattle.timestamps.proofs.Common.{All, All-contains, Contains, Contains-append_cases, IsStrictlyIncreasing, count_by, flat_map, get_or-le-sum_by, slice_index}
 use Rattle.std.specs.Prelude.{◌==◌, cond}
 use Rattle.std.proofs.lemmas.List.Concat.{flat_map-cons}
-use Rattle.timestamps.specs.Numbers.{numbers_from, timestamps_of, AreApart}
+use Rattle.timestamps.specs.Blocks.{numbers_from, timestamps_of, AreApart}
 
 -- a number of a run is not before its first, and before its end
 pub in_run : (a n x : ℕ) → Contains (numbers_from a n) x → (a ≤ x) × (x < a + n)

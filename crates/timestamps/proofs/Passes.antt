@@ -2,8 +2,7 @@
 use Rattle.std.proofs.lemmas.Grind.{common_steps}
 use Rattle.std.proofs.Common.{arith, ◌≡◌, ℕ, ◌<◌, ◌≢◌, List, [], sym, ap, ◌∙◌, subst}
 use Rattle.timestamps.proofs.Common.{All, IsStrictlyIncreasing, flat_map}
-use Rattle.timestamps.specs.Blocks.{Sat, loads, draws, only_drawn, borrowing, without_lent, only_lent, taking_back}
-use Rattle.timestamps.specs.Numbers.{timestamps_of, AreApart}
+use Rattle.timestamps.specs.Blocks.{Sat, loads, draws, only_drawn, borrowing, without_lent, only_lent, taking_back, timestamps_of, AreApart}
 use Rattle.timestamps.proofs.Numbers.{apart_above, rises_on}
 
 -- after the compare-exchange, whatever it found

@@ -1,11 +1,23 @@
--- The rule of an oracle's word, and what each step tells its pass.
-use Rattle.std.specs.Prelude.{◌≡◌, ◌≢◌, ℕ, ◌<◌, ◌≤◌, ◌==◌, ◌+◌, List, [], ◌∷◌, ◌++◌}
-use Rattle.std.specs.List.{sum_by, count_by, All}
+-- Blocks of 32 timestamps, the rule of an oracle's word, and what each step tells its pass.
+use Rattle.std.specs.Prelude.{ℕ, zero, suc, ◌+◌, ◌*◌, List, [], ◌∷◌, ◌≡◌, ◌≢◌, ◌<◌, ◌≤◌, ◌==◌, ◌++◌}
+use Rattle.std.specs.List.{Contains, sum_by, count_by, All}
 use mathlib.Core.Option.{some}
 use lib.ListN.{get_elem?}
 use Rattle.atomic_table.specs.Table.{State, Me, Step}
 use Rattle.timestamps.specs.declared.blocks.Draws.{Draws}
-use Rattle.timestamps.specs.Numbers.{AreApart}
+
+-- n numbers from a on
+abbrev pub numbers_from : ℕ → ℕ → List ℕ
+numbers_from a zero = []
+numbers_from a (suc n) = a ∷ numbers_from (suc a) n
+
+-- the timestamps of a block, rising
+abbrev pub timestamps_of : ℕ → List ℕ
+timestamps_of block = numbers_from (32 * block + 1) 32
+
+-- no number is in both lists
+abbrev pub AreApart : List ℕ → List ℕ → Type 0
+AreApart xs ys = (x : ℕ) → Contains xs x → Contains ys x → ⊥
 
 -- what a slot would hold: the table has none
 abbrev pub NoSlot : Type 0
@@ -22,8 +34,7 @@ blocks_with v = v.drawn ++ v.lent
 abbrev pub times_drawn : ℕ → List Draws → ℕ
 times_drawn block views = sum_by (λ v. count_by (λ b. b == block) (blocks_with v)) views
 
--- Each block from the first to the word stands with one view, once, and no other block with any. The
--- word is at least each number that was loaded.
+-- Each block up to the word stands with one view, once, and no other with any. The word is at least each number loaded.
 pub record IsDrawnOnce (first : ℕ) (s : State NoSlot Draws) : Type 0 where
   pub next : ℕ
   pub words : s.words ≡ next ∷ []

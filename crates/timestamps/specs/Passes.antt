@@ -1,9 +1,12 @@
--- What a contract says of a pass.
-use Rattle.std.specs.Prelude.{◌≡◌, ℕ, List, []}
+-- What a contract says of a pass, and why there was no lease.
+use Rattle.std.specs.Prelude.{◌≡◌, ℕ, List, [], ◌<◌, ◌≤◌, Result, Err}
 use Rattle.std.specs.List.{flat_map}
 use Rattle.timestamps.specs.declared.oracle.Oracle.{Oracle}
 use Rattle.timestamps.specs.declared.oracle.OraclePass.{OraclePass}
-use Rattle.timestamps.specs.Numbers.{timestamps_of}
+use Rattle.timestamps.specs.Blocks.{timestamps_of}
+use Rattle.timestamps.specs.declared.lease.TheConstants.{BLOCKS}
+use Rattle.timestamps.specs.declared.oracle.DrawError.{DrawError}
+use Rattle.timestamps.specs.declared.oracle.DrawError.TheVariants.{Contended, Spent}
 
 -- the blocks that the pass drew, the oldest first
 abbrev pub drawn : OraclePass → List ℕ
@@ -36,3 +39,13 @@ IsSame p q = q.seat.table_id ≡ p.seat.table_id
 -- a pass of this oracle that has drawn nothing, and knows the first block
 abbrev pub IsNew : Oracle → ℕ → OraclePass → Type 0
 IsNew oracle first p = IsOf oracle p × (drawn p ≡ []) × (loaded p ≡ first)
+
+-- by the two numbers that were loaded last: they differ, or the last leaves no block
+abbrev pub IsReason : ℕ → ℕ → DrawError → Type 0
+IsReason earlier loaded (Contended seen found) = (seen ≡ earlier) × (found ≡ loaded) × (seen < found) × (seen < BLOCKS)
+IsReason earlier loaded Spent = BLOCKS ≤ loaded
+
+-- the steps of a draw: a load, and then a compare-exchange unless no block is left
+abbrev pub steps_of : Result (List ℕ) DrawError → ℕ
+steps_of (Err Spent) = 1
+steps_of _ = 2

@@ -1,5 +1,12 @@
--- Bytes as numbers of eight bytes each, the first byte the greatest digit.
-use Rattle.std.specs.Prelude.{ℕ, zero, suc, List, [], ◌∷◌, ◌+◌, ◌*◌, ◌≡◌, ◌<◌, ◌≤◌, get_or}
+-- Byte strings: their order, byte by byte, and as numbers of eight bytes, the first the greatest digit.
+use Rattle.std.specs.Prelude.{ℕ, List, zero, suc, [], ◌∷◌, ◌+◌, ◌*◌, ◌≡◌, ◌<◌, ◌≤◌, get_or}
+use Rattle.std.specs.Ordering.{nat_cmp}
+use Rattle.std.specs.declared.cmp.Ordering.{Ordering}
+use Rattle.std.specs.Cmp.Lexicographic.{slice_cmp}
+
+-- how two keys, or two bounds, compare
+abbrev pub key_cmp : List ℕ → List ℕ → Ordering
+key_cmp = slice_cmp nat_cmp
 
 -- numbers of one byte
 abbrev pub AreBytes : List ℕ → Type 0

@@ -1,3 +1,4 @@
+//! A search by halves for the place where timestamps above one begin.
 ghost use Rattle.std.specs.Prelude.{◌≡◌, ◌+◌, ◌/◌, ◌≤◌, nat_le, if◌then◌else◌};
 ghost use Rattle.timestamps.specs.BinarySearch.{StillLeft};
 

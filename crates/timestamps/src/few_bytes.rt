@@ -1,7 +1,6 @@
 //! A few bytes, which lie in place.
 ghost use Rattle.std.specs.Prelude.{◌≡◌, ◌<◌, ◌≤◌, ◌*◌, ◌++◌, ◌∷◌, ◌↔◌, [], length, drop, IsTrue};
-ghost use Rattle.timestamps.specs.Bytes.{key_cmp};
-ghost use Rattle.timestamps.specs.Words.{AreBytes, front_of};
+ghost use Rattle.timestamps.specs.Words.{key_cmp, AreBytes, front_of};
 
 use std::cmp::Ordering;
 use std::marker::Model;

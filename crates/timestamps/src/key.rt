@@ -1,17 +1,22 @@
-ghost use Rattle.std.specs.Prelude.{◌≡◌, [], ◌∷◌, ◌++◌, ◌<◌, ◌≤◌, ◌⊎◌, length, IfOk, IfErr, OnErr, OnOk};
+//! Keys: 1 to 256 bytes, in byte order.
+ghost use Rattle.std.specs.Prelude.{◌≡◌, ℕ, List, [], ◌∷◌, ◌++◌, ◌<◌, ◌≤◌, ◌⊎◌, Some, refl, length, bytes_eq, IfOk, IfErr, OnErr, OnOk};
+ghost use Rattle.std.specs.Cmp.{on_equiv, on_total, on_po, on_per, partial_equiv_from_equiv};
+ghost use Rattle.std.specs.Cmp.Lexicographic.{nat_list_eq_equiv, nat_list_cmp_total, texts_ties, texts_po};
+ghost use Rattle.timestamps.specs.Words.{key_cmp};
 ghost use Rattle.timestamps.specs.declared.key.TheConstants.{MAX_KEY_BYTES};
 ghost use Rattle.timestamps.specs.declared.key.KeyError.TheVariants.{KeyLength, NoMemory};
 
 use crate::small_bytes::SmallBytes;
 use std::alloc::{AllocError, Global};
+use std::cmp::Ordering;
 use std::marker::Model;
 
 /// The most bytes that a key has.
 pub const MAX_KEY_BYTES: usize = 256;
 
-/// A key, under which a value is stored: 1 to [`MAX_KEY_BYTES`] bytes, ordered byte by byte, a beginning before what it
-/// begins. Up to 24 take no memory of their own.
-#[derive(Debug, Drop, PartialEq, Eq, PartialOrd, Ord)]
+/// A key, under which a value is stored: 1 to [`MAX_KEY_BYTES`] bytes, ordered byte by byte, a beginning
+/// before what it begins. The bytes of a key of up to 24 lie in the key, and take no memory of their own.
+#[derive(Debug, Drop)]
 pub struct Key {
     bytes: SmallBytes,
 }
@@ -25,8 +30,6 @@ impl Model for Key {
     ghost view = { λ k. k.bytes };
 
     ghost invariant = { λ k. (1 ≤ length k.bytes) × (length k.bytes ≤ MAX_KEY_BYTES) };
-
-    ghost inverse = { λ bytes. record { bytes = bytes } };
 }
 
 /// Why bytes are no key.
@@ -90,5 +93,44 @@ impl Key {
     {
         let bytes = self.bytes.with_zero(alloc)?;
         Ok(Key { bytes })
+    }
+}
+
+impl PartialEq for Key {
+    ghost eq = { bytes_eq };
+
+    ghost laws = { partial_equiv_from_equiv nat_list_eq_equiv };
+
+    fn eq(&self, other: &Key) -> bool {
+        self.bytes == other.bytes
+    }
+}
+
+impl Eq for Key {
+    ghost laws = { nat_list_eq_equiv };
+}
+
+impl PartialOrd for Key {
+    ghost partial_cmp = { λ a b. Some (key_cmp a b) };
+
+    ghost laws = { texts_po };
+
+    // by `cmp`, which compares numbers, where a derived one would walk the bytes
+    fn partial_cmp(&self, other: &Key) -> Option<Ordering> {
+        Some(self.cmp(other))
+    }
+}
+
+impl Ord for Key {
+    ghost cmp = { key_cmp };
+
+    ghost total = { nat_list_cmp_total };
+
+    ghost matches_partial_cmp = { λ a b. refl };
+
+    ghost matches_eq = { texts_ties };
+
+    fn cmp(&self, other: &Key) -> Ordering {
+        self.bytes.cmp(&other.bytes)
     }
 }

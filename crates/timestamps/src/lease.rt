@@ -10,7 +10,7 @@
 //! next()  None              []
 //! ```
 ghost use Rattle.std.specs.Prelude.{◌≡◌, ◌<◌, List, ℕ, [], ◌∷◌, IfSome, IfNone};
-ghost use Rattle.timestamps.specs.Numbers.{timestamps_of};
+ghost use Rattle.timestamps.specs.Blocks.{timestamps_of};
 ghost use Rattle.timestamps.specs.declared.lease.TheConstants.{BLOCKS};
 
 use crate::ts::Ts;
@@ -31,7 +31,7 @@ pub struct Lease {
 
 impl Model for Lease {
     ghost use Rattle.std.specs.Prelude.{ℕ, List, ◌+◌, ◌≤◌};
-    ghost use Rattle.timestamps.specs.Numbers.{numbers_from};
+    ghost use Rattle.timestamps.specs.Blocks.{numbers_from};
 
     ghost Value = { List ℕ };
 

@@ -18,7 +18,7 @@
 //! Cost: `new` takes memory. `draw` is a load and a compare-exchange, `meet` five loads; neither takes memory or waits.
 ghost use Rattle.std.specs.Prelude.{◌≡◌, ◌<◌, ◌≤◌, ◌+◌, ◌++◌, [], ◌∷◌, length, All, IfOk, IfErr, OnOk, OnErr};
 ghost use Rattle.std.specs.List.Sorted.{IsStrictlyIncreasing};
-ghost use Rattle.timestamps.specs.Numbers.{timestamps_of, AreApart};
+ghost use Rattle.timestamps.specs.Blocks.{timestamps_of, AreApart};
 ghost use Rattle.timestamps.specs.declared.lease.TheConstants.{BLOCKS, BLOCK_SIZE};
 
 use crate::blocks::{
@@ -53,8 +53,7 @@ pub enum DrawError {
 }
 
 impl Oracle {
-    ghost use Rattle.timestamps.specs.Passes.{drawn, loaded, earlier, looks, leased, IsOf, IsSame, IsNew};
-    ghost use Rattle.timestamps.specs.Reasons.{IsReason, steps_of};
+    ghost use Rattle.timestamps.specs.Passes.{drawn, loaded, earlier, looks, leased, IsOf, IsSame, IsNew, IsReason, steps_of};
 
     /// An oracle whose first lease is of block `first_block`, and its passes. At [`BLOCKS`] or above there is no lease.
     pub fn new(

@@ -1,3 +1,4 @@
+//! Rows: committed versions as a feed tells them.
 ghost use Rattle.std.specs.Prelude.{◌≡◌, IfOk};
 
 use crate::key::Key;

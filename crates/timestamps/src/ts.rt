@@ -1,3 +1,4 @@
+//! Timestamps of transactions.
 ghost use Rattle.std.specs.Prelude.{◌≡◌, ℕ, ◌<◌, ◌≤◌, ◌↔◌, IsSome, IfSome};
 ghost use Rattle.timestamps.specs.declared.ts.TheConstants.{MAX};
 

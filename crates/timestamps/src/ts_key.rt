@@ -1,3 +1,4 @@
+//! Numbers as the keys of maps that are ordered by timestamp.
 ghost use Rattle.std.specs.Prelude.{◌≡◌, ◌≤◌, ℕ, Some};
 ghost use Rattle.std.specs.Ordering.{nat_cmp};
 ghost use Rattle.std.specs.Cmp.Rules.{comparing};

@@ -1,4 +1,7 @@
-ghost use Rattle.std.specs.Prelude.{◌≡◌, ◌<◌, ◌≤◌, length, IfOk, IfErr, OnErr, OnOk};
+//! Values: 0 to 65536 bytes.
+ghost use Rattle.std.specs.Prelude.{◌≡◌, ℕ, List, ◌<◌, ◌≤◌, length, bytes_eq, IfOk, IfErr, OnErr, OnOk};
+ghost use Rattle.std.specs.Cmp.{partial_equiv_from_equiv};
+ghost use Rattle.std.specs.Cmp.Lexicographic.{nat_list_eq_equiv};
 ghost use Rattle.timestamps.specs.declared.value.TheConstants.{MAX_VALUE_BYTES};
 ghost use Rattle.timestamps.specs.declared.value.ValueError.TheVariants.{ValueLength, NoMemory};
 
@@ -9,8 +12,9 @@ use std::marker::Model;
 /// The most bytes that a value has.
 pub const MAX_VALUE_BYTES: usize = 65536;
 
-/// A value, stored under a key: 0 to [`MAX_VALUE_BYTES`] bytes. Up to 24 take no memory of their own.
-#[derive(Debug, Drop, PartialEq, Eq)]
+/// A value, stored under a key: 0 to [`MAX_VALUE_BYTES`] bytes. Up to 24 lie in the value, and take no memory of their
+/// own.
+#[derive(Debug, Drop)]
 pub struct Value {
     bytes: SmallBytes,
 }
@@ -24,8 +28,6 @@ impl Model for Value {
     ghost view = { λ v. v.bytes };
 
     ghost invariant = { λ v. length v.bytes ≤ MAX_VALUE_BYTES };
-
-    ghost inverse = { λ bytes. record { bytes = bytes } };
 }
 
 /// Why bytes are no value.
@@ -72,4 +74,18 @@ impl Value {
         let bytes = self.bytes.copy()?;
         Ok(Value { bytes })
     }
+}
+
+impl PartialEq for Value {
+    ghost eq = { bytes_eq };
+
+    ghost laws = { partial_equiv_from_equiv nat_list_eq_equiv };
+
+    fn eq(&self, other: &Value) -> bool {
+        self.bytes() == other.bytes()
+    }
+}
+
+impl Eq for Value {
+    ghost laws = { nat_list_eq_equiv };
 }

@@ -1,3 +1,2 @@
 pub mod Prelude
 pub mod Traces
-pub mod Checkers

@@ -1,8 +1,14 @@
 -- Which lists of events, the oldest first, one database can have given, and where another list first goes wrong.
 use Rattle.std.specs.Prelude.{ℕ, List, [], ◌∷◌, ◌++◌, ◌≡◌, ◌<◌, ◌↔◌, ◌+◌, Bool, true, Option, Some, None, length, reverse}
-use Rattle.trace_check.specs.Prelude.{Event, IsGapless, IsLegal, IsRightEvent, answer_of, effects_of, is_accepted, may_lack_memory}
 use Rattle.plain_database.specs.declared.database.PlainDatabase.{PlainDatabase}
-use Rattle.plain_database.specs.Tied.{StandsFor}
+use Rattle.spans.specs.declared.report.Report.{Report}
+use Rattle.spans.specs.Report.{IsReport, limit_in, limit_of}
+use Rattle.restarts.specs.Dump.{mark_of}
+use Rattle.plain_database.specs.declared.dump.Dump.{Dump}
+use Rattle.plain_database.specs.Streams.{IsDump}
+use Rattle.plain_database.specs.Tied as plain
+use Rattle.trace_check.specs.Prelude.{Event, IsGapless, IsLegal, IsRightEvent, answer_of, effects_of, is_accepted, may_lack_memory}
+use Rattle.trace_check.specs.declared.checker.Checker.{Checker}
 
 -- where the first event stands
 abbrev pub position_of_first : List Event → ℕ
@@ -39,8 +45,7 @@ pub record IsFirstWrong (events : List Event) (position : ℕ) : Type 0 where
   pub stops : ¬ IsTrace (before ++ event ∷ [])
   pub stands : event.position ≡ position
 
--- what comes before an event is a trace, the event is in its place behind it, its command may lack memory, and the answer
--- to it is no refusal
+-- a trace comes before the event, which is in its place; its command may lack memory, and its answer is no refusal
 pub record MayLackIn (events : List Event) : Type 0 where
   pub before : List Event
   pub event : Event
@@ -53,14 +58,45 @@ pub record MayLackIn (events : List Event) : Type 0 where
 
 -- whatever history the database stands for, this is whether the event is right after it
 abbrev pub Judges : PlainDatabase → Event → Bool → Type 0
-Judges db e right = (h : List Event) → StandsFor db h → length h < 18446744073709551615 → (right ≡ true) ↔ IsRightEvent (effects_of h) e
+Judges db e right = (h : List Event) → plain.StandsFor db h → length h < 18446744073709551615 → (right ≡ true) ↔ IsRightEvent (effects_of h) e
 
 -- whatever history the database stands for, the event's command may lack memory, and the answer to it is no refusal
 abbrev pub MayLack : PlainDatabase → Event → Type 0
 MayLack db e =
-    (h : List Event) → StandsFor db h
+    (h : List Event) → plain.StandsFor db h
     → (may_lack_memory e.cmd ≡ true) × (length h < 18446744073709551615 → is_accepted (answer_of (effects_of h) e.seat e.cmd) ≡ true)
 
 -- where the event is right, the database stands for the history with it
 abbrev pub TakesIn : PlainDatabase → PlainDatabase → Event → Bool → Type 0
-TakesIn db db' e right = right ≡ true → (h : List Event) → StandsFor db h → length h < 18446744073709551615 → StandsFor db' (e ∷ h)
+TakesIn db db' e right = right ≡ true → (h : List Event) → plain.StandsFor db h → length h < 18446744073709551615 → plain.StandsFor db' (e ∷ h)
+
+-- the checker has taken the events, the oldest first: they are a trace, and its database stands for them
+pub record StandsFor (c : Checker) (events : List Event) : Type 0 where
+  pub trace : IsTrace events
+  pub stands : plain.StandsFor c.database (reverse events)
+  pub last : c.last ≡ last_position events
+
+-- whatever a checker has taken, of so few events that a number counts them, this is whether it is a trace with the event behind it
+abbrev pub JudgesNext : Checker → Event → Bool → Type 0
+JudgesNext c e right = (events : List Event) → StandsFor c events → length events < 18446744073709551615 → (right ≡ true) ↔ IsTrace (events ++ e ∷ [])
+
+-- where it is, the checker has taken the event too
+abbrev pub TakesNext : Checker → Checker → Event → Bool → Type 0
+TakesNext c c' e right = right ≡ true → (events : List Event) → StandsFor c events → length events < 18446744073709551615 → StandsFor c' (events ++ e ∷ [])
+
+-- whatever a checker has taken, the next event's command may lack memory, and the answer to it is no refusal
+abbrev pub MayLackNext : Checker → Event → Type 0
+MayLackNext c e =
+    (events : List Event) → StandsFor c events
+    → (may_lack_memory e.cmd ≡ true)
+    × (length events < 18446744073709551615 → is_accepted (answer_of (effects_of (reverse events)) e.seat e.cmd) ≡ true)
+
+-- whatever events a checker has taken, this is their report, and its limit is that of the definitions
+abbrev pub Reports : Checker → Bool → Report → Type 0
+Reports c whole r =
+    (events : List Event) → StandsFor c events → length events < 18446744073709551615
+    → IsReport whole (effects_of (reverse events)) r × (limit_in r ≡ limit_of (effects_of (reverse events)))
+
+-- whatever events a checker has taken, this is their dump, which closes at or above a timestamp
+abbrev pub Dumps : Checker → ℕ → Dump → Type 0
+Dumps c at d = (events : List Event) → StandsFor c events → IsDump (effects_of (reverse events)) (mark_of (effects_of (reverse events)) at) d

@@ -1,8 +1,7 @@
 //! Events checked one at a time.
 ghost use Rattle.std.specs.Prelude.{◌≡◌, ◌↔◌, ◌≤◌, [], true, false, IfOk, OnErr};
 ghost use Rattle.timestamps.specs.declared.ts.TheConstants.{MAX};
-ghost use Rattle.trace_check.specs.Checkers.{Dumps, StandsFor, JudgesNext, MayLackNext, Reports, TakesNext};
-ghost use Rattle.trace_check.specs.Traces.{IsInPlace};
+ghost use Rattle.trace_check.specs.Traces.{Dumps, StandsFor, JudgesNext, MayLackNext, Reports, TakesNext, IsInPlace};
 
 use crate::taking::take_in;
 use plain_database::database::PlainDatabase;
@@ -12,11 +11,20 @@ use spans::report::Report;
 use std::alloc::{AllocError, Global};
 
 /// The events that were taken so far are legal and have no gap. It holds what they left, and not the events.
-#[derive(Drop)]
 pub struct Checker {
     database: PlainDatabase,
     /// The latest event's position, if there was one.
     last: Option<u64>,
+}
+
+// for the proof, which has no case for each part of it where a checker is dropped
+impl Drop for Checker {
+    fn drop(self) {
+        let Checker {
+            database: _,
+            last: _,
+        } = self;
+    }
 }
 
 impl Checker {

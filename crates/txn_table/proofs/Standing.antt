@@ -1,9 +1,7 @@
 -- The two maps stay tied.
 use Rattle.std.proofs.lemmas.Grind.{common_steps}
 use Rattle.std.proofs.Common.{List, None, Some, arith, cond, false, ℕ, ◌==◌, ◌≡◌}
-use Rattle.txn_table.specs.States.{first_ending}
-use Rattle.txn_table.specs.Ties.{AreUndecided}
-use Rattle.txn_table.specs.TransactionIn.{found}
+use Rattle.txn_table.specs.States.{first_ending, AreUndecided, found}
 use Rattle.txn_table.specs.declared.ending.Ending.{Ending}
 
 module _ (us us' : List (ℕ × ℕ)) (es es' : List (ℕ × Ending)) (ts : ℕ) (tied : AreUndecided us es) where

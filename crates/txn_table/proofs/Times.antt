@@ -8,18 +8,15 @@ use Rattle.std.specs.Ordering.{nat_cmp}
 use Rattle.std.specs.BTreeMap.Range.{entries_between, range_contains}
 use Rattle.std.specs.declared.ops.Bound.TheVariants.{Included, Unbounded}
 use Rattle.std.proofs.lemmas.Bool.{and_from, and_parts}
-use Rattle.std.proofs.lemmas.Grind.{common_steps}
 use Rattle.std.specs.BTreeMap.{is_at}
 use Rattle.std.proofs.lemmas.List.Kept.{IsStrictlyIncreasing-filter}
 use Rattle.std.proofs.lemmas.Map.Keys.{IsStrictlyIncreasing-from_sorted}
 use Rattle.std.proofs.lemmas.Map.Made.{is_some-lookup}
 use Rattle.spans.proofs.Members.{distinct_filter, has_filter}
 use Rattle.spans.proofs.Sets.{has_any, distinct_times, in_range}
-use Rattle.kept.specs.Lists.{AreThose}
-use Rattle.kept.specs.Table.{is_open}
-use Rattle.txn_table.specs.States.{standing}
+use Rattle.kept.specs.Finding.{AreThose, is_open}
+use Rattle.txn_table.specs.States.{standing, Table, found, transaction_in}
 use Rattle.txn_table.specs.declared.ending.Ending.{Ending}
-use Rattle.txn_table.specs.TransactionIn.{Table, found, transaction_in}
 
 -- it is undecided where a seat is found
 open_is : (o : Option ℕ) (e : Option Ending) → is_open (standing o e) ≡ is_some o

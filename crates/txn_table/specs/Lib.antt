@@ -1,4 +1,2 @@
 pub mod Prelude
 pub mod States
-pub mod TransactionIn
-pub mod Ties

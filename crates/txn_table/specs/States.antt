@@ -1,11 +1,14 @@
--- How a transaction begins and how it ends.
-use Rattle.std.specs.Prelude.{None, Option, Some, option_map, unwrap_or, ℕ}
-use Rattle.txn_table.specs.Prelude.{Transaction, new_transaction}
+-- How a transaction begins and how it ends, and what a table of transactions says.
+use Rattle.std.specs.Prelude.{None, Option, Some, option_map, unwrap_or, ℕ, List, false, if◌then◌else◌, is_some, true, ◌==◌, ◌≡◌, ◌≤◌}
+use Rattle.std.specs.BTreeMap.{is_at}
+use Rattle.std.specs.Map.{lookup}
+use Rattle.std.specs.Ordering.{nat_cmp}
 use Rattle.spans.specs.declared.state.State.{State}
 use Rattle.spans.specs.declared.state.State.TheVariants as states
+use Rattle.txn_table.specs.Prelude.{Transaction, new_transaction}
 use Rattle.txn_table.specs.declared.ending.Outcome.{Outcome}
-use Rattle.txn_table.specs.declared.ending.Outcome.TheVariants as outcomes
 use Rattle.txn_table.specs.declared.ending.Ending.{Ending}
+use Rattle.txn_table.specs.declared.ending.Outcome.TheVariants as outcomes
 
 -- the transaction that there is, or else a new one of the seat
 abbrev pub begun : ℕ → Option Transaction → Option Transaction
@@ -32,3 +35,33 @@ ended e = record { seat = e.seat; state = state_after e.outcome }
 abbrev pub standing : Option ℕ → Option Ending → Option Transaction
 standing None e = option_map ended e
 standing (Some seat) e = Some (new_transaction seat)
+
+-- the seats of the undecided transactions, and an ending of each transaction, with their timestamps
+pub record Table : Type 0 where
+  pub undecided : List (ℕ × ℕ)
+  pub endings : List (ℕ × Ending)
+
+-- what stands at t
+abbrev pub found : {A : Type 0} → List (ℕ × A) → ℕ → Option A
+found es t = lookup (is_at (nat_cmp t)) es
+
+-- the transaction of t
+abbrev pub transaction_in : Table → ℕ → Option Transaction
+transaction_in table t = standing (found table.undecided t) (found table.endings t)
+
+-- the transaction of t became f of what it was, and the others are as they were
+abbrev pub IsSetAt : Table → Table → ℕ → (Option Transaction → Option Transaction) → Type 0
+IsSetAt table table' t f = (i : ℕ) → transaction_in table' i ≡ (if t == i then f (transaction_in table i) else transaction_in table i)
+
+-- the greatest timestamp that has a transaction
+abbrev pub IsGreatest : Table → Option ℕ → Type 0
+IsGreatest table None = (t : ℕ) → is_some (transaction_in table t) ≡ false
+IsGreatest table (Some g) = (is_some (transaction_in table g) ≡ true) × ((t : ℕ) → is_some (transaction_in table t) ≡ true → t ≤ g)
+
+-- where a seat's transaction is undecided, its ending is that seat's, and says that it has committed
+abbrev pub IsTied : Option ℕ → Option Ending → Type 0
+IsTied o e = (seat : ℕ) → o ≡ Some seat → e ≡ Some (first_ending seat)
+
+-- so of each timestamp
+abbrev pub AreUndecided : List (ℕ × ℕ) → List (ℕ × Ending) → Type 0
+AreUndecided undecided endings = (t : ℕ) → IsTied (found undecided t) (found endings t)

@@ -2,9 +2,8 @@
 ghost use Rattle.std.specs.Prelude.{◌≡◌, ◌&&◌, ℕ, None, IfOk, OnOk, OnErr, nat_le, nat_lt, option_map, is_none, if◌then◌else◌, length, ◌<◌, ◌^◌};
 ghost use Rattle.std.specs.List.Sorted.{IsStrictlyIncreasing};
 ghost use Rattle.txn_table.specs.Prelude.{IsOldest, Transaction, is_open};
-ghost use Rattle.kept.specs.Lists.{AreThose, IsNumberOf};
-ghost use Rattle.txn_table.specs.States.{begun, decided};
-ghost use Rattle.txn_table.specs.TransactionIn.{found, transaction_in, IsGreatest, IsSetAt};
+ghost use Rattle.kept.specs.Finding.{AreThose, IsNumberOf};
+ghost use Rattle.txn_table.specs.States.{begun, decided, found, transaction_in, IsGreatest, IsSetAt};
 
 use crate::ending::{Ending, Outcome};
 use crate::undecided::Undecided;
@@ -24,8 +23,7 @@ pub struct Txns {
 }
 
 impl Model for Txns {
-    ghost use Rattle.txn_table.specs.TransactionIn.{Table};
-    ghost use Rattle.txn_table.specs.Ties.{AreUndecided};
+    ghost use Rattle.txn_table.specs.States.{Table, AreUndecided};
 
     ghost Value = { Table };
 

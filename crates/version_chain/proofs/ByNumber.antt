@@ -1,10 +1,9 @@
 -- What is found by key, where records lie by number: after one changed, one came and one went.
 use Rattle.version_chain.proofs.Common.{IsNumberedAt, IsOwn, Numbered, SpanMarks, both_ways, by_test, common_steps, get_or-map, is_kept, key_itself, latest_in, length-map, length-set, map-set, number_in, readers_of, same_key}
-use Rattle.std.proofs.Common.{rules}
-use Rattle.std.proofs.Common.{◌≡◌, ℕ, ◌<◌, ◌==◌, true, false, cond, List, [], ◌∷◌, length, Some, None, refl, sym, ◌∙◌, ap, arith, eq-eqb}
+use Rattle.std.proofs.Common.{rules, ◌≡◌, ℕ, ◌<◌, ◌==◌, true, false, cond, List, [], ◌∷◌, length, Some, None, refl, sym, ◌∙◌, ap, arith, eq-eqb}
 use Rattle.std.specs.Prelude.{◌≢◌, bytes_eq, slice_index_or, slice_set}
 use Rattle.version_chain.specs.declared.record.Record.{Record}
-use Rattle.version_chain.specs.Chains.{at_key, chain_of, marked_in}
+use Rattle.version_chain.specs.Stores.{at_key, chain_of, marked_in}
 use Rattle.version_chain.specs.ByNumber.{AreLow, IsPlaced, IsPutAt, at_number, chains_in, entries_of, readers_in, stored}
 
 -- ---- what is found

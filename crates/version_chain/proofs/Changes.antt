@@ -1,13 +1,11 @@
 -- What is found in the chains of all keys after one of them changed.
-use Rattle.std.proofs.Common.{arith}
+use Rattle.std.proofs.Common.{arith, rules, ◌≡◌, ℕ, ◌==◌, cond, List, [], ◌∷◌, Option, Some, None, Result, Ok, Err, ◌∙◌, ap}
 use Rattle.std.proofs.lemmas.Grind.{common_steps}
-use Rattle.std.proofs.Common.{rules}
-use Rattle.std.proofs.Common.{◌≡◌, ℕ, ◌==◌, cond, List, [], ◌∷◌, Option, Some, None, Result, Ok, Err, ◌∙◌, ap}
 use Rattle.std.specs.Prelude.{OnOk, OnErr}
 use Rattle.spans.proofs.Steps.{by_test, same_key}
 use Rattle.version_chain.specs.declared.chain.Version.{Version}
 use Rattle.version_chain.specs.Versions.{version_of}
-use Rattle.version_chain.specs.Chains.{Stored, chain_of, found_in, HaveSameChains, IsChangedAt}
+use Rattle.version_chain.specs.Stores.{Stored, chain_of, found_in, HaveSameChains, IsChangedAt}
 use Rattle.version_chain.specs.Records.{IsPut}
 
 -- what became of the versions of one key

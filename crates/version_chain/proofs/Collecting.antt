@@ -4,8 +4,7 @@ use Rattle.std.proofs.Common.{◌≡◌, ℕ, ◌<◌, ◌-◌, ◌≤◌, ◌�
 use Rattle.std.specs.Prelude.{bytes_eq, is_some}
 use Rattle.version_chain.specs.declared.chain.Version.{Version}
 use Rattle.version_chain.specs.declared.index.Index.{Index}
-use Rattle.version_chain.specs.Chains.{chain_of, found_in, HaveSameMarks}
-use Rattle.version_chain.specs.Stores.{Stored, IsCountOf}
+use Rattle.version_chain.specs.Stores.{chain_of, found_in, HaveSameMarks, Stored, IsCountOf}
 use Rattle.version_chain.specs.Dead.{is_dead_in, is_dropped_in, newest_of, ArePartlyThinned, IsThinnedAt, IsCollectedIn}
 use Rattle.version_chain.specs.Indexes.{is_listed, AreTakenAlike, IsFilled, IsFirstBetween, IsIndexOf, IsNoneBetween, IsSound, IsTakenAlone}
 use Rattle.version_chain.specs.Prelude.{AreThose}

@@ -13,10 +13,9 @@ pub use Rattle.spans.proofs.WriteSets.{has, has_added, has_filtered, has_in}
 pub use Rattle.spans.specs.Collection.{VersionName, is_delete, version_name}
 pub use Rattle.spans.specs.Effects.{After}
 pub use Rattle.spans.specs.Kept.{IsCrossed}
-pub use Rattle.spans.specs.KeyOrder.{below_high, from_low, key_lt}
+pub use Rattle.spans.specs.KeyOrder.{below_high, from_low, key_lt, start_of}
 pub use Rattle.spans.specs.Keys.{in_span, insert_key}
-pub use Rattle.spans.specs.Newest.{newest}
-pub use Rattle.spans.specs.Starting.{start_of}
+pub use Rattle.spans.specs.Versions.{newest}
 pub use Rattle.spans.specs.declared.span.Span.{Span}
 pub use Rattle.std.proofs.Math.Bool.{and-false, and-true, or-false}
 pub use Rattle.std.proofs.Math.Seq.{map-set_same}
@@ -38,4 +37,4 @@ pub use Rattle.std.specs.Option.{option_copied}
 pub use Rattle.std.specs.Ordering.{is_eq, is_lt, nat_cmp, ordering_reverse}
 pub use Rattle.std.specs.declared.cmp.Ordering.TheVariants.{Equal, Greater, Less}
 pub use Rattle.std.specs.declared.ops.Bound.TheVariants.{Excluded, Included, Unbounded}
-pub use Rattle.timestamps.specs.Bytes.{key_cmp}
+pub use Rattle.timestamps.specs.Words.{key_cmp}

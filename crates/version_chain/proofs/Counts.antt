@@ -1,13 +1,11 @@
 -- How many versions there are after some came or went.
 use Rattle.version_chain.proofs.Common.{AreDistinct, Has, RisingKeys, VersionName, and_parts, by_test, common_steps, distinct_filter, eqb-true, filter, has, has_filter, has_in, has_is, in_has, key_itself, length-filter_both, length-map, rising_distinct, same_key, same_length, version_name}
-use Rattle.std.proofs.Common.{rules}
-use Rattle.std.proofs.Common.{◌≡◌, ℕ, ◌<◌, ◌≤◌, ◌-◌, ◌+◌, ◌==◌, Bool, true, false, ◌&&◌, List, [], ◌∷◌, length, map, cond, Option, Some, None, refl, sym, ◌∙◌, arith}
+use Rattle.std.proofs.Common.{rules, ◌≡◌, ℕ, ◌<◌, ◌≤◌, ◌-◌, ◌+◌, ◌==◌, Bool, true, false, ◌&&◌, List, [], ◌∷◌, length, map, cond, Option, Some, None, refl, sym, ◌∙◌, arith}
 use Rattle.std.specs.Prelude.{bytes_eq, is_some, is_none, not, ◌↔◌}
 use Rattle.version_chain.specs.declared.chain.Version.{Version}
 use Rattle.version_chain.specs.Versions.{AreAbove, DoRise, version_of}
-use Rattle.version_chain.specs.Chains.{chain_of, found_in, IsChangedAt}
+use Rattle.version_chain.specs.Stores.{chain_of, found_in, IsChangedAt, Stored, after_of, version_in, IsCountAt, IsCountOf}
 use Rattle.version_chain.specs.Prelude.{AreThose}
-use Rattle.version_chain.specs.Stores.{Stored, after_of, version_in, IsCountAt, IsCountOf}
 use Rattle.version_chain.proofs.Chained.{rises_kept}
 use Rattle.version_chain.proofs.Dead.{none_above}
 

@@ -5,8 +5,7 @@ use Rattle.std.specs.Prelude.{◌↔◌, IfSome, IsTrue, MatchOption, OnErr, OnO
 use Rattle.std.specs.Borrow.{Bor}
 use Rattle.kept.specs.Finding.{IsNextAbove}
 use Rattle.version_chain.specs.declared.chain.Version.{Version}
-use Rattle.version_chain.specs.Chains.{Stored, chain_of, marked_in}
-use Rattle.version_chain.specs.Marking.{IsCrossedIn, IsNotedOn}
+use Rattle.version_chain.specs.Stores.{Stored, chain_of, marked_in, IsCrossedIn, IsNotedOn}
 use Rattle.version_chain.specs.Versions.{afters_of, ts_or, IsLeastAbove, IsNewestOf, IsNoneAbove, IsNoneUpTo}
 
 abbrev ts-of : Option Version → Option ℕ

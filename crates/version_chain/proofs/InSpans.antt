@@ -1,15 +1,13 @@
 -- The keys of a span are those of a range, up to the first one that is not below its end.
 use Rattle.version_chain.proofs.Common.{Has, IsIn, Less, Numbered, RisingKeys, Span, Unbounded, and-false, and-true, and_parts, below_high, by_test, common_steps, false_from_ne_true, filter, from_low, has_filter, in_span, is_at, is_eq, is_eq-slice_cmp, key_cmp, key_itself, keys_of, lookup, range_contains, same_key, start_of, starts_at, starts_before, stays_above}
-use Rattle.std.proofs.Common.{arith}
+use Rattle.std.proofs.Common.{arith, ◌≡◌, ℕ, ◌≤◌, Bool, true, false, ◌&&◌, List, [], ◌∷◌, ◌++◌, length, Option, Some, refl, sym, ◌∙◌, ap, subst, inl, inr}
 use Rattle.spans.proofs.Members.{has_append}
 use Rattle.timestamps.specs.declared.key.TheConstants.{MAX_KEY_BYTES}
-use Rattle.std.proofs.Common.{◌≡◌, ℕ, ◌≤◌, Bool, true, false, ◌&&◌, List, [], ◌∷◌, ◌++◌, length, Option, Some, refl, sym, ◌∙◌, ap, subst, inl, inr}
 use Rattle.std.specs.Prelude.{unwrap_or}
 use Rattle.std.specs.declared.ops.Bound.{Bound}
 use Rattle.version_chain.specs.declared.chain.Version.{Version}
-use Rattle.version_chain.specs.Chains.{Entry, AreFilled, chain_in, has_versions}
+use Rattle.version_chain.specs.Stores.{Entry, AreFilled, chain_in, has_versions, starting_at, AreBehind, AreAhead, AreFrom, AreFound, filled, numbered_in}
 use Rattle.version_chain.specs.ByNumber.{entries_of}
-use Rattle.version_chain.specs.InSpans.{starting_at, AreBehind, AreAhead, AreFrom, AreFound, filled, numbered_in}
 
 -- ---- keys
 

@@ -3,7 +3,7 @@ use Rattle.version_chain.proofs.Common.{Equal, Greater, Less, and_from, and_left
 use Rattle.std.proofs.Common.{List, Option, Some, None, ap, arith, false, refl, sym, true, ℕ, ◌<◌, ◌≤◌, ◌&&◌, ◌==◌, ◌⊎◌, ◌≡◌, ◌∙◌}
 use Rattle.std.specs.Prelude.{nat_lt}
 use Rattle.std.specs.declared.cmp.Ordering.{Ordering}
-use Rattle.version_chain.specs.Following.{is_after_place, is_before}
+use Rattle.version_chain.specs.Walking.{is_after_place, is_before}
 
 parts : (t i : ℕ) (x y : List ℕ) → is_before t x i y ≡ true → (t < i) ⊎ ((t ≡ i) × (key_cmp x y ≡ Less))
 parts t i x y e = grind (arith, common_steps)

@@ -1,14 +1,12 @@
 -- What a store is seen as after one record changed, one came, and one went.
 use Rattle.version_chain.proofs.Common.{IsCrossed, IsNumberedAt, IsOwn, IsPiece, Numbered, SpanMarks, both_ways, by_test, common_steps, is_kept, is_reader, key_itself, latest_in, length-set, nat_tests, number_in, readers_of, same_key}
-use Rattle.std.proofs.Common.{rules}
-use Rattle.std.proofs.Common.{◌≡◌, ℕ, ◌<◌, ◌≤◌, ◌==◌, Bool, true, false, cond, ◌&&◌, List, [], ◌∷◌, length, Option, Some, None, refl, sym, ◌∙◌, ap, subst, arith, nat_lt, max}
+use Rattle.std.proofs.Common.{rules, ◌≡◌, ℕ, ◌<◌, ◌≤◌, ◌==◌, Bool, true, false, cond, ◌&&◌, List, [], ◌∷◌, length, Option, Some, None, refl, sym, ◌∙◌, ap, subst, arith, nat_lt, max}
 use Rattle.std.specs.Prelude.{◌↔◌, IsTrue, bytes_eq, is_none, slice_index_or, slice_set}
 use Rattle.version_chain.specs.declared.record.Record.{Record}
 use Rattle.version_chain.specs.declared.chain.Version.{Version}
 use Rattle.version_chain.specs.Versions.{afters_of, version_of}
-use Rattle.version_chain.specs.Chains.{Stored, chain_of, found_in, marked_in, HaveSameChains, HaveSameMarks, IsChangedAt}
+use Rattle.version_chain.specs.Stores.{Stored, chain_of, found_in, marked_in, HaveSameChains, HaveSameMarks, IsChangedAt, IsCrossedIn, IsMarkedAt}
 use Rattle.version_chain.proofs.Changes.{IsEdited, changed}
-use Rattle.version_chain.specs.Marking.{IsCrossedIn, IsMarkedAt}
 use Rattle.version_chain.proofs.Gaps.{crossed_like, lone_crosses, none_crosses, piece_alike}
 use Rattle.version_chain.specs.ByNumber.{AreLow, IsPlaced, at_number, chains_in, readers_in, stored}
 use Rattle.version_chain.specs.Records.{IsPut}

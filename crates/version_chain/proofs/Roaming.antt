@@ -7,8 +7,7 @@ use Rattle.spans.proofs.Keyed.{IsIn}
 use Rattle.version_chain.specs.declared.record.Record.{Record}
 use Rattle.version_chain.specs.Versions.{afters_of}
 use Rattle.version_chain.specs.ByNumber.{AreLow, chains_in, readers_in}
-use Rattle.version_chain.specs.InSpans.{numbered_in}
-use Rattle.version_chain.specs.Marking.{IsNotedOn}
+use Rattle.version_chain.specs.Stores.{numbered_in, IsNotedOn}
 use Rattle.version_chain.specs.Records.{AreNoted, HaveRoom}
 use Rattle.version_chain.proofs.ByNumber.{chain_at, readers_at}
 use Rattle.version_chain.proofs.InSpans.{rises_filtered}

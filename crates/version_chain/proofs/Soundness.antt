@@ -1,13 +1,11 @@
 -- The count and the index after one place of the chains changed, or all of one timestamp.
 use Rattle.version_chain.proofs.Common.{RisingKeys, and_parts, common_steps, eqb-true, has, ne_eqb, same_key}
-use Rattle.std.proofs.Common.{rules}
-use Rattle.std.proofs.Common.{◌≡◌, ℕ, ◌<◌, ◌≤◌, ◌-◌, ◌==◌, true, false, cond, ◌&&◌, ◌||◌, List, length, Some, None, refl, sym, ◌∙◌, ap, arith}
+use Rattle.std.proofs.Common.{rules, ◌≡◌, ℕ, ◌<◌, ◌≤◌, ◌-◌, ◌==◌, true, false, cond, ◌&&◌, ◌||◌, List, length, Some, None, refl, sym, ◌∙◌, ap, arith}
 use Rattle.std.specs.Prelude.{bytes_eq, is_some, is_none, max, option_map}
 use Rattle.version_chain.specs.declared.chain.Version.{Version}
 use Rattle.version_chain.specs.declared.index.Index.{Index}
-use Rattle.version_chain.specs.Chains.{found_in, AreChangedAt, IsChangedAt}
+use Rattle.version_chain.specs.Stores.{found_in, AreChangedAt, IsChangedAt, Stored, after_of}
 use Rattle.version_chain.specs.Versions.{as_committed}
-use Rattle.version_chain.specs.Stores.{Stored, after_of}
 use Rattle.version_chain.specs.Dead.{is_dead_in}
 use Rattle.version_chain.specs.Indexes.{is_listed, IsFilled, IsIndexOf, IsSound}
 use Rattle.version_chain.proofs.Counts.{AreGoneAt, AreWrittenAt, counted_alike, counted_gone}

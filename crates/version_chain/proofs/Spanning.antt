@@ -3,10 +3,9 @@ use Rattle.std.proofs.Common.{◌≡◌, ℕ, ◌<◌, ◌≤◌, true, false, c
 use Rattle.std.specs.Prelude.{slice_index_or}
 use Rattle.version_chain.proofs.Common.{Numbered, Span, SpanMarks, in_span, is_kept, latest_in, nat_tests, newest, number_in}
 use Rattle.version_chain.specs.declared.record.Record.{Record}
-use Rattle.version_chain.specs.Chains.{Stored, chain_of, marked_in, HaveSameChains, HaveSameMarks}
+use Rattle.version_chain.specs.Stores.{Stored, chain_of, marked_in, HaveSameChains, HaveSameMarks, AreMarkedAt, IsNotedIn, IsNotedOn}
 use Rattle.version_chain.specs.Versions.{afters_of}
 use Rattle.version_chain.specs.ByNumber.{at_number, chains_in, readers_in, stored}
-use Rattle.version_chain.specs.Marking.{AreMarkedAt, IsNotedIn, IsNotedOn}
 use Rattle.version_chain.specs.Records.{AreNoted}
 use Rattle.version_chain.proofs.ByNumber.{chain_is, marked_is}
 use Rattle.version_chain.proofs.Gaps.{newest_of, noted_alike}

@@ -6,7 +6,7 @@ use Rattle.read_marks.proofs.Keeping.{kept_filter}
 use Rattle.read_marks.proofs.Splitting.{filtered_reader}
 use Rattle.version_chain.specs.declared.record.Record.{Record}
 use Rattle.version_chain.specs.declared.chains.Chains.{Chains}
-use Rattle.version_chain.specs.Chains.{HaveSameChains, HaveSameMarks}
+use Rattle.version_chain.specs.Stores.{HaveSameChains, HaveSameMarks}
 use Rattle.version_chain.specs.ByNumber.{at_number, chains_in, readers_in, stored}
 use Rattle.version_chain.specs.Records.{AreSwept, stored_of}
 use Rattle.version_chain.proofs.ByNumber.{chain_is, marked_is, placed, readers_at}

@@ -1,14 +1,11 @@
 -- What a store has after the dead versions of a key went, and after those of some keys.
 use Rattle.version_chain.proofs.Common.{both_ways, by_test, common_steps, false_from_ne_true, filter, key_itself, same_key}
-use Rattle.std.proofs.Common.{arith}
-use Rattle.std.proofs.Common.{rules}
-use Rattle.std.proofs.Common.{◌≡◌, ℕ, ◌-◌, ◌≤◌, Bool, true, false, cond, ◌&&◌, List, [], length, Option, None, refl, sym, ◌∙◌, ap, subst}
+use Rattle.std.proofs.Common.{arith, rules, ◌≡◌, ℕ, ◌-◌, ◌≤◌, Bool, true, false, cond, ◌&&◌, List, [], length, Option, None, refl, sym, ◌∙◌, ap, subst}
 use Rattle.std.specs.Prelude.{bytes_eq, is_some, not}
 use Rattle.version_chain.specs.declared.chain.Version.{Version}
 use Rattle.version_chain.specs.declared.index.Index.{Index}
 use Rattle.version_chain.specs.Versions.{DoRise, version_of}
-use Rattle.version_chain.specs.Chains.{chain_of, found_in, HaveSameMarks}
-use Rattle.version_chain.specs.Stores.{Stored, after_of, is_committed, IsCountOf}
+use Rattle.version_chain.specs.Stores.{chain_of, found_in, HaveSameMarks, Stored, after_of, is_committed, IsCountOf}
 use Rattle.version_chain.specs.Dead.{is_dead_version, is_dead_at, is_dead_in, newest_of, ArePartlyThinned, IsThinnedAt}
 use Rattle.version_chain.specs.Indexes.{is_listed, IsUnlisted}
 use Rattle.version_chain.specs.Records.{IsPut}

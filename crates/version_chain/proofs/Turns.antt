@@ -1,10 +1,9 @@
 -- A change at one timestamp of some keys, one after another.
 use Rattle.version_chain.proofs.Common.{common_steps}
-use Rattle.std.proofs.Common.{arith}
-use Rattle.std.proofs.Common.{List, Option, ℕ, ◌≡◌, ◌∷◌, []}
+use Rattle.std.proofs.Common.{arith, List, Option, ℕ, ◌≡◌, ◌∷◌, []}
 use Rattle.std.specs.Prelude.{option_map}
 use Rattle.version_chain.specs.declared.chain.Version.{Version}
-use Rattle.version_chain.specs.Chains.{AreChangedAt, IsChangedAt, Stored, found_in}
+use Rattle.version_chain.specs.Stores.{AreChangedAt, IsChangedAt, Stored, found_in}
 use Rattle.version_chain.specs.Versions.{as_committed}
 
 -- what changes the rest of the keys after fs changes all of them after es

@@ -4,8 +4,7 @@ use Rattle.std.proofs.Common.{◌≡◌, ℕ, ◌<◌, ◌≤◌, ◌⊎◌, tru
 use Rattle.std.specs.Prelude.{filter}
 use Rattle.version_chain.specs.declared.index.Index.{Index}
 use Rattle.version_chain.specs.Indexes.{is_listed, listed_in, IsFirstBetween, IsIndexOf, AreBetween}
-use Rattle.version_chain.specs.Following.{is_after_place, is_before, IsStep, IsToCome, Walk}
-use Rattle.version_chain.specs.Walking.{IsAhead, IsBeside}
+use Rattle.version_chain.specs.Walking.{is_after_place, is_before, IsStep, IsToCome, Walk, IsAhead, IsBeside}
 use Rattle.version_chain.proofs.Indexes.{Keyed, is_at_number, listed_first}
 use Rattle.version_chain.proofs.Order.{before_itself, after_beside, after_trans, at_place, beside_is_not_before, from_less, higher_is_not_below, key_above, later_is_not_before}
 

@@ -4,7 +4,7 @@ use Rattle.version_chain.specs.Prelude.{Numbered, number_in, readers_of}
 use Rattle.read_marks.specs.declared.span_marks.SpanMarks.{SpanMarks}
 use Rattle.version_chain.specs.declared.chain.Version.{Version}
 use Rattle.version_chain.specs.declared.record.Record.{Record}
-use Rattle.version_chain.specs.Chains.{Stored}
+use Rattle.version_chain.specs.Stores.{Stored}
 
 -- by number, the versions and the readers of the records
 abbrev pub chains_in : List Record → List (List Version)

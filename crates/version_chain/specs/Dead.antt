@@ -3,8 +3,7 @@ use Rattle.std.specs.Prelude.{ℕ, List, Bool, true, ◌≡◌, ◌&&◌, ◌||�
 use Rattle.version_chain.specs.Prelude.{After, AreThose, VersionName, is_delete, list_any, newest}
 use Rattle.version_chain.specs.declared.chain.Version.{Version}
 use Rattle.version_chain.specs.Versions.{version_of}
-use Rattle.version_chain.specs.Chains.{HaveSameMarks, found_in}
-use Rattle.version_chain.specs.Stores.{Stored, after_of, is_committed, version_in, is_committed_in}
+use Rattle.version_chain.specs.Stores.{HaveSameMarks, found_in, Stored, after_of, is_committed, version_in, is_committed_in}
 
 -- the version of x at t, where it is committed
 abbrev pub committed_in : Stored → List ℕ → ℕ → Option After

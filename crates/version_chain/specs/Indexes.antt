@@ -3,8 +3,7 @@ use Rattle.std.specs.Prelude.{ℕ, List, [], ◌∷◌, Bool, bytes_eq, false, i
 use Rattle.version_chain.specs.Prelude.{has, is_at, lookup}
 use Rattle.std.specs.Ordering.{nat_cmp}
 use Rattle.version_chain.specs.declared.index.Index.{Index}
-use Rattle.version_chain.specs.Chains.{Stored, found_in}
-use Rattle.version_chain.specs.Stores.{IsCountOf}
+use Rattle.version_chain.specs.Stores.{Stored, found_in, IsCountOf}
 use Rattle.version_chain.specs.Dead.{is_dead_in}
 
 -- x is one of the keys, if there are any
@@ -22,10 +21,6 @@ is_listed index x t = listed_in index.keys.entries x t
 -- x is listed at t too
 abbrev pub IsListedAt : Index → Index → ℕ → List ℕ → Type 0
 IsListedAt index index' t x = (y : List ℕ) (i : ℕ) → is_listed index' y i ≡ (((t == i) && bytes_eq x y) || is_listed index y i)
-
--- x is no longer listed at t
-abbrev pub IsUnlistedAt : Index → Index → ℕ → List ℕ → Type 0
-IsUnlistedAt index index' t x = (y : List ℕ) (i : ℕ) → is_listed index' y i ≡ (if (t == i) && bytes_eq x y then false else is_listed index y i)
 
 -- x is no longer listed at the timestamps that pass the test
 abbrev pub IsUnlisted : Index → Index → List ℕ → (ℕ → Bool) → Type 0

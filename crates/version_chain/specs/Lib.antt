@@ -1,14 +1,9 @@
 pub mod Prelude
 pub mod Versions
 pub mod Blocks
-pub mod Layout
-pub mod Chains
-pub mod ByNumber
 pub mod Stores
-pub mod Marking
+pub mod ByNumber
 pub mod Records
-pub mod InSpans
 pub mod Dead
 pub mod Indexes
-pub mod Following
 pub mod Walking

@@ -7,9 +7,8 @@ use Rattle.version_chain.specs.declared.chains.Chains.{Chains}
 use Rattle.version_chain.specs.declared.chains.Placed.{Placed}
 use Rattle.version_chain.specs.declared.chains.Placed.TheVariants.{Crossed, New, Over}
 use Rattle.version_chain.specs.Versions.{afters_of}
-use Rattle.version_chain.specs.Chains.{Stored, chain_of, found_in, marked_in, HaveSameChains, IsChangedAt}
+use Rattle.version_chain.specs.Stores.{Stored, chain_of, found_in, marked_in, HaveSameChains, IsChangedAt, IsCrossedIn, IsNotedOn}
 use Rattle.version_chain.specs.ByNumber.{chains_in, readers_in, stored}
-use Rattle.version_chain.specs.Marking.{IsCrossedIn, IsNotedOn}
 
 abbrev pub stored_of : Chains → Stored
 stored_of c = stored c.keys c.records.items c.spans c.forgotten

@@ -1,7 +1,13 @@
 -- The versions of one key: at most one at each timestamp.
-use Rattle.std.specs.Prelude.{ℕ, List, [], ◌∷◌, true, ◌≡◌, ◌<◌, ◌≤◌, ◌==◌, length, slice_index_or, if◌then◌else◌, Option, Some, None, option_map}
+use Rattle.std.specs.Prelude.{List, ℕ, [], ◌∷◌, true, ◌≡◌, ◌<◌, ◌≤◌, ◌==◌, length, slice_index_or, if◌then◌else◌, Option, Some, None, option_map}
 use Rattle.spans.specs.Effects.{After}
 use Rattle.version_chain.specs.declared.chain.Version.{Version}
+use Rattle.version_chain.specs.declared.versions.Versions.{Versions}
+use Rattle.version_chain.specs.declared.versions.Versions.TheVariants.{Short, Long}
+
+abbrev pub versions_in : Versions → List Version
+versions_in (Short versions) = versions.items
+versions_in (Long blocks) = blocks
 
 -- all are above t
 abbrev pub AreAbove : ℕ → List Version → Type 0

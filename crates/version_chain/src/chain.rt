@@ -5,8 +5,7 @@ ghost use Rattle.version_chain.specs.declared.chain.Version.{Version};
 ghost use Rattle.std.specs.List.{filter};
 ghost use Rattle.version_chain.specs.Dead.{is_dead_version, newest_of, is_dead_at};
 ghost use Rattle.version_chain.specs.Indexes.{AreTakenAlike, IsUnlisted};
-ghost use Rattle.version_chain.specs.Layout.{versions_in};
-ghost use Rattle.version_chain.specs.Versions.{DoRise, version_of, as_committed, IsPlaceAbove, IsNoneUpTo, IsNewestOf, IsNoneAbove, IsLeastAbove, IsPlaceOf, IsFreePlace};
+ghost use Rattle.version_chain.specs.Versions.{versions_in, DoRise, version_of, as_committed, IsPlaceAbove, IsNoneUpTo, IsNewestOf, IsNoneAbove, IsLeastAbove, IsPlaceOf, IsFreePlace};
 
 use crate::index::Index;
 use crate::steps::Steps;
@@ -62,8 +61,7 @@ pub struct Chain {
 impl Model for Chain {
     ghost use Rattle.std.specs.Prelude.{List};
     ghost use Rattle.version_chain.specs.declared.chain.Version.{Version};
-    ghost use Rattle.version_chain.specs.Versions.{DoRise};
-    ghost use Rattle.version_chain.specs.Layout.{versions_in};
+    ghost use Rattle.version_chain.specs.Versions.{DoRise, versions_in};
 
     ghost Value = { List Version };
 

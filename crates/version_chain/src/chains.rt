@@ -5,11 +5,8 @@ ghost use Rattle.version_chain.specs.Prelude.{IsOwn, number_in};
 ghost use Rattle.version_chain.specs.declared.chain.Version.{Version};
 ghost use Rattle.version_chain.specs.declared.record.Record.{Record};
 ghost use Rattle.version_chain.specs.Versions.{as_committed, IsNoneUpTo, IsNewestOf};
-ghost use Rattle.version_chain.specs.Chains.{found_in, chain_of, AreChangedAt, HaveSameChains, HaveSameMarks, IsChangedAt, marked_in};
-ghost use Rattle.version_chain.specs.Stores.{IsCountOf};
-ghost use Rattle.version_chain.specs.Marking.{AreMarkedAt, IsCrossedIn, IsMarkedAt};
+ghost use Rattle.version_chain.specs.Stores.{found_in, chain_of, AreChangedAt, HaveSameChains, HaveSameMarks, IsChangedAt, marked_in, IsCountOf, AreMarkedAt, IsCrossedIn, IsMarkedAt, AreFound};
 ghost use Rattle.version_chain.specs.ByNumber.{AreLow, IsPlaced, chains_in, readers_in};
-ghost use Rattle.version_chain.specs.InSpans.{AreFound};
 ghost use Rattle.version_chain.specs.Dead.{is_dead_in, IsThinnedAt};
 ghost use Rattle.version_chain.specs.Indexes.{is_listed, AreTakenAlike};
 

@@ -5,9 +5,9 @@ ghost use Rattle.std.specs.Map.{keys_of};
 ghost use Rattle.std.specs.Map.Iter.{TakesFirst, deref_pair};
 ghost use Rattle.std.specs.Iterator.{at_most};
 ghost use Rattle.std.specs.Range.Bound.{bound_map};
-ghost use Rattle.spans.specs.Starting.{start_of};
+ghost use Rattle.spans.specs.KeyOrder.{start_of};
 ghost use Rattle.version_chain.specs.ByNumber.{chains_in, entries_of};
-ghost use Rattle.version_chain.specs.InSpans.{filled, numbered_in};
+ghost use Rattle.version_chain.specs.Stores.{filled, numbered_in};
 
 use crate::chain::Chain;
 use crate::record::Record;
@@ -30,7 +30,7 @@ pub(crate) struct NumbersIn<'a> {
 
 impl<'a> Model for NumbersIn<'a> {
     ghost use Rattle.key_table.specs.Numbers.{Numbered};
-    ghost use Rattle.version_chain.specs.InSpans.{AreAhead, numbered_in};
+    ghost use Rattle.version_chain.specs.Stores.{AreAhead, numbered_in};
 
     ghost Value = { Numbered };
 
@@ -76,9 +76,8 @@ pub struct InSpan<'a> {
 
 impl<'a> Model for InSpan<'a> {
     ghost use Rattle.std.specs.Prelude.{List};
-    ghost use Rattle.version_chain.specs.Chains.{Entry};
+    ghost use Rattle.version_chain.specs.Stores.{Entry, filled};
     ghost use Rattle.version_chain.specs.ByNumber.{chains_in, entries_of};
-    ghost use Rattle.version_chain.specs.InSpans.{filled};
 
     ghost Value = { List Entry };
 

@@ -1,9 +1,9 @@
 //! Which keys have a version at each timestamp.
-ghost use Rattle.std.specs.Prelude.{◌≡◌, ℕ, List, false, OnOk, OnErr, MatchOption, if◌then◌else◌, ◌==◌, ◌<◌, ◌≤◌, length, take};
+ghost use Rattle.std.specs.Prelude.{bytes_eq, ◌&&◌, ◌≡◌, ℕ, List, false, OnOk, OnErr, MatchOption, if◌then◌else◌, ◌==◌, ◌<◌, ◌≤◌, length, take};
 ghost use Rattle.std.specs.Option.{option_copied};
 ghost use Rattle.version_chain.specs.Dead.{is_dead_at};
-ghost use Rattle.version_chain.specs.Layout.{versions_in};
-ghost use Rattle.version_chain.specs.Indexes.{is_among, is_listed, listed_in, AreBetween, AreTakenAlike, IsFilled, IsFirstBetween, IsListedAt, IsNoneBetween, IsTakenAlone, IsUnlistedAt, IsUnlisted};
+ghost use Rattle.version_chain.specs.Versions.{versions_in};
+ghost use Rattle.version_chain.specs.Indexes.{is_among, is_listed, listed_in, AreBetween, AreTakenAlike, IsFilled, IsFirstBetween, IsListedAt, IsNoneBetween, IsTakenAlone, IsUnlisted};
 ghost use Rattle.spans.proofs.WriteSets.{has};
 
 use crate::versions::Versions;
@@ -54,7 +54,7 @@ impl Index {
 
     /// Takes a key, where it is there, out at `ts`. An entry whose keys are taken stays, so that they can be put back.
     pub(crate) fn remove(&mut self, ts: u64, key: &Key)
-        ensures listed { IsUnlistedAt self.old self.new ts key.now }
+        ensures listed { (x : List ℕ) (t : ℕ) → is_listed self.new x t ≡ (if (ts == t) && bytes_eq key.now x then false else is_listed self.old x t) }
         ensures taken { AreTakenAlike self.old self.new }
     {
         let Some(keys) = self.keys.get_mut(&TsKey(ts)) else {

@@ -2,7 +2,7 @@
 ghost use Rattle.std.specs.Prelude.{◌≡◌, ◌↔◌, ◌<◌, ◌≤◌, ℕ, [], IfSome, IsTrue, true, false};
 ghost use Rattle.std.specs.Option.{option_copied};
 ghost use Rattle.version_chain.specs.Prelude.{IsCrossed, has_room, is_kept, readers_of};
-ghost use Rattle.version_chain.specs.Marking.{IsNotedOn};
+ghost use Rattle.version_chain.specs.Stores.{IsNotedOn};
 ghost use Rattle.version_chain.specs.Versions.{afters_of, ts_or};
 
 use crate::chain::{Chain, Version};

@@ -5,12 +5,10 @@ ghost use Rattle.std.specs.List.{filter};
 ghost use Rattle.std.specs.Map.{keys_of};
 ghost use Rattle.version_chain.specs.Prelude.{IsNextAbove, RisingKeys, in_span, until};
 ghost use Rattle.version_chain.specs.Walking.{IsBeside, keys_ahead};
-ghost use Rattle.version_chain.specs.Chains.{Entry, AreFilled, HaveSameMarks, found_in, has_versions, marked_in};
+ghost use Rattle.version_chain.specs.Stores.{Entry, AreFilled, HaveSameMarks, found_in, has_versions, marked_in, AreMarkedAt, IsCrossedIn, IsMarkedAt, is_committed_in, version_in, IsCommittedAt, IsCountAt, IsCountOf, IsNewestIn, IsAsBefore, IsWrittenTo, AreCommittedAt, AreDroppedAt};
 ghost use Rattle.version_chain.specs.Dead.{is_dead_in, ArePartlyThinned, IsCollectedIn};
-ghost use Rattle.version_chain.specs.Marking.{AreMarkedAt, IsCrossedIn, IsMarkedAt};
 ghost use Rattle.version_chain.specs.Indexes.{is_listed, IsFilled, IsListedAt};
 ghost use Rattle.version_chain.specs.declared.store.Wrote.TheVariants.{Crossed, Done};
-ghost use Rattle.version_chain.specs.Stores.{is_committed_in, version_in, IsCommittedAt, IsCountAt, IsCountOf, IsNewestIn, IsAsBefore, IsWrittenTo, AreCommittedAt, AreDroppedAt};
 
 use crate::chain::Version;
 use crate::chains::{Chains, Placed, Spot};

@@ -2,8 +2,7 @@
 ghost use Rattle.std.specs.Prelude.{◌≡◌, ◌<◌, ◌≤◌, length, drop, slice_set, slice_index_or, not, false, OnOk, OnErr};
 ghost use Rattle.std.specs.List.{All, filter, insert, remove};
 ghost use Rattle.version_chain.specs.declared.chain.Version.{Version};
-ghost use Rattle.version_chain.specs.Versions.{as_committed};
-ghost use Rattle.version_chain.specs.Layout.{versions_in};
+ghost use Rattle.version_chain.specs.Versions.{as_committed, versions_in};
 ghost use Rattle.version_chain.specs.Dead.{is_dead_version};
 
 use crate::block::FULL;

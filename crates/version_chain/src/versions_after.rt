@@ -1,6 +1,5 @@
 //! A walk from one version to the next.
-ghost use Rattle.version_chain.specs.Following.{IsNextFound, IsWalkedTo};
-ghost use Rattle.version_chain.specs.Walking.{IsFirstTaken, keys_ahead};
+ghost use Rattle.version_chain.specs.Walking.{IsNextFound, IsWalkedTo, IsFirstTaken, keys_ahead};
 
 use crate::chains::Chains;
 use key_set::{KeySet, Keys};
@@ -39,8 +38,7 @@ pub struct VersionsAfter<'a> {
 
 impl<'a> Model for VersionsAfter<'a> {
     ghost use Rattle.std.specs.Option.{option_copied};
-    ghost use Rattle.version_chain.specs.Following.{Walk};
-    ghost use Rattle.version_chain.specs.Walking.{IsAhead, keys_ahead};
+    ghost use Rattle.version_chain.specs.Walking.{Walk, IsAhead, keys_ahead};
     ghost use Rattle.version_chain.specs.Records.{stored_of};
 
     ghost Value = { Walk };

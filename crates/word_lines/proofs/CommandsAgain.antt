@@ -5,7 +5,7 @@ use Rattle.word_lines.proofs.Common.{AllByRecursion, Cmd, Format, append-nil, eq
 use Rattle.word_lines.specs.declared.table.Form.{Form}
 use Rattle.word_lines.specs.Table.{layout_of, pieces_of, row, table}
 use Rattle.word_lines.specs.Words.{text_at, words, words_at}
-use Rattle.word_lines.specs.Commands.{joined, parts_words, words_of, command_line}
+use Rattle.word_lines.specs.Events.{joined, parts_words, words_of, command_line}
 use Rattle.word_lines.specs.Limits.{IsNumber, IsCommand}
 use Rattle.word_lines.specs.Reading.{row_at, arguments_at, counted_at, taken_of, command_of, command_at}
 use Rattle.word_lines.proofs.Joining.{some_words, words_are}

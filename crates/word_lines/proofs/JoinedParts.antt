@@ -1,10 +1,9 @@
 -- What was joined or ended by a byte is cut there again.
 use Rattle.word_lines.proofs.Common.{All, AllByRecursion, Format, common_steps, decimal_by_steps, eq-eqb, join_with_byte, le-leb, line_limit, list_all, list_all-append, list_any, ne_eqb, slice_split, slice_split_at, slice_split_none}
-use Rattle.std.proofs.Common.{rules}
-use Rattle.std.proofs.Common.{◌≡◌, ℕ, ◌+◌, ◌-◌, ◌%◌, ◌^◌, ◌<◌, ◌≤◌, Bool, true, false, List, [], ◌∷◌, ◌++◌, length, Ok, refl, ap, ◌∙◌, arith}
+use Rattle.std.proofs.Common.{rules, ◌≡◌, ℕ, ◌+◌, ◌-◌, ◌%◌, ◌^◌, ◌<◌, ◌≤◌, Bool, true, false, List, [], ◌∷◌, ◌++◌, length, Ok, refl, ap, ◌∙◌, arith}
 use Rattle.std.specs.Prelude.{decimal, not, ◌&&◌, ◌==◌, nat_le}
 use Rattle.std.proofs.lemmas.List.Elements.{All-from_recursion}
-use Rattle.word_lines.specs.Commands.{joined}
+use Rattle.word_lines.specs.Events.{joined}
 use Rattle.word_lines.specs.Words.{is_printable, is_empty, text_at, words_at}
 use Rattle.word_lines.proofs.Spellings.{both}
 use Rattle.word_lines.proofs.Splitting.{words_good}

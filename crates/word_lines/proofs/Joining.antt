@@ -7,9 +7,8 @@ use Rattle.spans.specs.declared.calls.replies.Reply.{Reply}
 use Rattle.spans.specs.declared.calls.replies.Reply.TheVariants as reply
 use Rattle.spans.specs.declared.calls.replies.Refusal.{Refusal}
 use Rattle.spans.specs.declared.calls.replies.Refusal.TheVariants as refusal
-use Rattle.word_lines.specs.Commands.{joined, words_in, words_of, command_line}
+use Rattle.word_lines.specs.Events.{joined, words_in, words_of, command_line, reply_words, refusal_words, following_lines, reply_text}
 use Rattle.word_lines.specs.Table.{pieces_of}
-use Rattle.word_lines.specs.Replies.{reply_words, refusal_words, following_lines, reply_text}
 
 pub joined_more : (word : List ℕ) (words : List (List ℕ)) → 0 < length words → joined (word ∷ words) ≡ word ++ 32 ∷ joined words
 joined_more word [] some = absurd (omega arith)

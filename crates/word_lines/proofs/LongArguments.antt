@@ -1,9 +1,8 @@
 -- A long value among a command's arguments.
 use Rattle.word_lines.proofs.Common.{Format, common_steps}
-use Rattle.std.proofs.Common.{arith}
-use Rattle.std.proofs.Common.{◌≡◌, ℕ, true, List, Ok}
+use Rattle.std.proofs.Common.{arith, ◌≡◌, ℕ, true, List, Ok}
 use Rattle.std.specs.Prelude.{drop}
-use Rattle.spelled_words.specs.Memory.{has_long}
+use Rattle.spelled_words.specs.Reading.{has_long}
 use Rattle.word_lines.specs.Reading.{number_and_key_at}
 use Rattle.word_lines.proofs.LongWords.{behind_number, behind_key, left_long, long_behind}
 use Rattle.word_lines.proofs.ReadWords.{bind_ok, ok_is}

@@ -8,7 +8,7 @@ use Rattle.word_lines.specs.declared.table.Verb.TheVariants as verb
 use Rattle.word_lines.specs.declared.table.Form.{Form}
 use Rattle.word_lines.specs.Words.{has_newline, without_newline, text_at, is_printable, is_empty, words, words_at}
 use Rattle.word_lines.specs.Table.{Signature, Parts, Row, arity, layout_of, pieces, pieces_of, row, row_of, table, verbs}
-use Rattle.word_lines.specs.Commands.{joined, parts_words, words_in, words_of, command_line}
+use Rattle.word_lines.specs.Events.{joined, parts_words, words_in, words_of, command_line}
 use Rattle.word_lines.specs.Limits.{ArePieces, IsCommand}
 use Rattle.word_lines.specs.Reading.{◌>>=◌, word_at, session_at, row_at, parts_at, laid_at, arguments_at, counted_at, taken_of, command_of, command_at}
 use Rattle.word_lines.proofs.Joining.{words_are}

@@ -1,10 +1,9 @@
 -- The parts of a command, word by word.
 use Rattle.word_lines.proofs.Common.{AllByRecursion, Cmd, Format, IsKey, LineFault, common_steps}
-use Rattle.std.proofs.Common.{arith}
-use Rattle.std.proofs.Common.{◌≡◌, List, ◌∷◌, [], ◌++◌, ℕ, Result, Ok, refl, subst, append_assoc}
+use Rattle.std.proofs.Common.{arith, ◌≡◌, List, ◌∷◌, [], ◌++◌, ℕ, Result, Ok, refl, subst, append_assoc}
 use Rattle.std.specs.Prelude.{decimal}
-use Rattle.word_lines.specs.Spelling.{spelling}
-use Rattle.word_lines.specs.Commands.{bound_word, parts_words, words_of}
+use Rattle.word_lines.specs.Words.{spelling}
+use Rattle.word_lines.specs.Events.{bound_word, parts_words, words_of}
 use Rattle.word_lines.specs.Limits.{IsNumber, IsValue, IsSpan, AreParts, IsCommand}
 use Rattle.word_lines.specs.Reading.{◌>>=◌, number_at, key_at, value_at, span_at, number_and_key_at, number_and_span_at, opening_at, opening_every_at, parts_at}
 use Rattle.word_lines.specs.Table.{Signature, Nothing, Number, Numbers, NumberKey, NumberKeyValue, NumberSpan, SpanNumber, SpanNumbers, layout_of, pieces_of}

@@ -3,9 +3,9 @@ use Rattle.word_lines.proofs.Common.{BadByte, Format, IsKey, KeyLength, LineFaul
 use Rattle.std.proofs.Common.{◌≡◌, ℕ, ◌<◌, ◌≤◌, Bool, true, false, cond, List, [], ◌∷◌, length, Option, Some, None, Result, Ok, Err, refl, ap, subst, ◌∙◌, arith}
 use Rattle.std.specs.Prelude.{codes, decimal, bytes_eq, ok_or, ◌&&◌, nat_le}
 use Rattle.spans.specs.declared.span.Span.{Span}
-use Rattle.word_lines.specs.Numbers.{number_of}
-use Rattle.word_lines.specs.Spelling.{spelling, bytes_of, AreBytes}
-use Rattle.word_lines.specs.Commands.{bound_word}
+use Rattle.word_lines.specs.Meaning.{number_of}
+use Rattle.word_lines.specs.Words.{spelling, bytes_of, AreBytes}
+use Rattle.word_lines.specs.Events.{bound_word}
 use Rattle.word_lines.specs.Limits.{IsNumber, IsValue, IsBound, IsSpan}
 use Rattle.word_lines.specs.Reading.{◌>>=◌, word_at, number_at, session_at, bytes_at, key_at, value_at, bound_at, span_at}
 use Rattle.word_lines.proofs.NumberWords.{number_found, number_only}

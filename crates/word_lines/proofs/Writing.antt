@@ -2,7 +2,7 @@
 use Rattle.std.proofs.Common.{◌≡◌, ℕ, ◌+◌, ◌<◌, ◌≤◌, ◌^◌, List, ◌++◌, length, length-append, decimal, vec_len, Vec, Result, Ok, Err, OnErr, ap, arith}
 use Rattle.word_lines.proofs.Common.{Global, length-decimal-le}
 use Rattle.std.specs.declared.alloc.AllocError.{AllocError}
-use Rattle.json_lines.specs.Writing.{Keeps}
+use Rattle.json_lines.specs.Messages.{Keeps}
 pub use Rattle.json_lines.proofs.Writing.{keeps_text, keeps_same, keeps_then, on_error, undone, keeping}
 
 -- what stands in a buffer stays there when a part more was written, and then what stands there stays

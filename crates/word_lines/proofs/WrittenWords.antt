@@ -1,11 +1,10 @@
 -- What is written of a command is words, and not too long.
 use Rattle.word_lines.proofs.Common.{AllByRecursion, Cmd, Format, bound_limit, common_steps, decimal_nonempty, flat_map, key_limit, le-leb, length-append, length-decimal-le, line_limit, list_all, list_all-append, value_limit}
-use Rattle.std.proofs.Common.{rules}
-use Rattle.std.proofs.Common.{◌≡◌, ℕ, ◌+◌, ◌*◌, ◌/◌, ◌%◌, ◌<◌, ◌≤◌, Bool, true, false, cond, List, [], ◌∷◌, ◌++◌, length, Option, Some, None, refl, ap, ◌∙◌, lit<, arith}
+use Rattle.std.proofs.Common.{rules, ◌≡◌, ℕ, ◌+◌, ◌*◌, ◌/◌, ◌%◌, ◌<◌, ◌≤◌, Bool, true, false, cond, List, [], ◌∷◌, ◌++◌, length, Option, Some, None, refl, ap, ◌∙◌, lit<, arith}
 use Rattle.std.specs.Prelude.{decimal, ◌==◌}
 use Rattle.text_format.specs.declared.Format.TheVariants.{One, Two}
-use Rattle.word_lines.specs.Spelling.{is_plain, hex_digit, escape, spelled, spelling, AreBytes}
-use Rattle.word_lines.specs.Commands.{joined, bound_word, parts_words, words_of}
+use Rattle.word_lines.specs.Words.{is_plain, hex_digit, escape, spelled, spelling, AreBytes}
+use Rattle.word_lines.specs.Events.{joined, bound_word, parts_words, words_of}
 use Rattle.word_lines.specs.Table.{Signature, Nothing, Number, Numbers, NumberKey, NumberKeyValue, NumberSpan, SpanNumber, SpanNumbers, Parts, layout_of, pieces_of}
 use Rattle.word_lines.specs.declared.table.Verb.{Verb}
 use Rattle.word_lines.specs.Limits.{IsNumber, IsBound, AreParts, IsCommand}

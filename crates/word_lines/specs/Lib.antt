@@ -1,15 +1,9 @@
 pub mod Prelude
-pub use Rattle.json_lines.specs.Writing
-pub use Rattle.json_lines.specs.Numbers
 pub use Rattle.json_lines.specs.Messages
-pub use Rattle.spelled_words.specs.Spelling
-pub use Rattle.spelled_words.specs.SpelledBytes
+pub use Rattle.json_lines.specs.Meaning
 pub use Rattle.spelled_words.specs.Words
 pub use Rattle.spelled_words.specs.Faults
 pub mod Table
 pub mod Reading
-pub mod Memory
-pub mod Commands
-pub mod Replies
 pub mod Events
 pub mod Limits

@@ -6,7 +6,7 @@ use Rattle.spans.specs.declared.calls.replies.Reply.TheVariants as reply
 use Rattle.text_format.specs.Limits.{value_limit, bound_limit, line_limit}
 use Rattle.word_lines.specs.Events.{heading_text}
 use Rattle.json_lines.specs.Messages.{IsKey, IsAfter, IsMessage}
-use Rattle.word_lines.specs.Spelling.{AreBytes}
+use Rattle.word_lines.specs.Words.{AreBytes}
 use Rattle.word_lines.specs.Table.{Signature, Nothing, Number, Numbers, NumberKey, NumberKeyValue, NumberSpan, SpanNumber, SpanNumbers, Parts, Pieces, layout_of, pieces_of}
 
 abbrev pub IsNumber : ℕ → Type 0

@@ -4,7 +4,7 @@ pub use Rattle.spans.specs.declared.calls.events.Event.{Event}
 pub use Rattle.spans.specs.declared.calls.replies.Refusal.{Refusal}
 pub use Rattle.spans.specs.declared.calls.replies.Reply.{Reply}
 pub use Rattle.spans.specs.declared.span.Span.{Span}
-pub use Rattle.spelled_words.specs.Memory.{is_long}
+pub use Rattle.spelled_words.specs.Reading.{is_long}
 pub use Rattle.spelled_words.specs.declared.fault.LineFault.{LineFault}
 pub use Rattle.std.specs.List.{AllByRecursion, flat_map, join_with_byte, list_any}
 pub use Rattle.text_format.specs.declared.Format.{Format}

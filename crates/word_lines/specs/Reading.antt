@@ -1,16 +1,16 @@
 -- Reading a line from left to right: the command, or the first fault that is met. How a word is read as a number, a key, a
 -- value or a span is `spelled_words`' own.
-use Rattle.std.specs.Prelude.{◌≡◌, ℕ, ◌==◌, nat_lt, if◌then◌else◌, List, length, Result, Ok, Err, ok_or}
-use Rattle.word_lines.specs.Prelude.{Cmd, Format, LineFault}
+use Rattle.std.specs.Prelude.{◌≡◌, ℕ, ◌==◌, nat_lt, if◌then◌else◌, List, length, Result, Ok, Err, ok_or, true, [], take, drop, IsOkAnd}
 use Rattle.spelled_words.specs.declared.fault.LineFault.TheVariants.{WordCount, UnknownCommand, Session}
-use Rattle.word_lines.specs.declared.table.Verb.{Verb}
-use Rattle.word_lines.specs.declared.table.Verb.TheVariants as verb
-use Rattle.word_lines.specs.declared.table.Form.{Form}
-use Rattle.word_lines.specs.Numbers.{number_of}
-use Rattle.word_lines.specs.Words.{text_at, words_at}
-use Rattle.word_lines.specs.Table.{Signature, Nothing, Number, Numbers, NumberKey, NumberKeyValue, NumberSpan, SpanNumber, SpanNumbers, Parts, Layout, Row, layout_of, row_of}
 pub use Rattle.spelled_words.specs.Reading.{◌>>=◌, Fails, Gives, Takes, word_at, bytes_at}
 unfoldable pub use Rattle.spelled_words.specs.Reading.{number_at, key_at, value_at, bound_at, span_at, number_and_key_at, number_and_span_at, opening_at, opening_every_at}
+use Rattle.word_lines.specs.Prelude.{Cmd, Format, LineFault, is_long, list_any}
+use Rattle.word_lines.specs.declared.table.Verb.{Verb}
+use Rattle.word_lines.specs.declared.table.Form.{Form}
+use Rattle.word_lines.specs.Meaning.{number_of}
+use Rattle.word_lines.specs.Words.{text_at, words_at, words}
+use Rattle.word_lines.specs.Table.{Signature, Nothing, Number, Numbers, NumberKey, NumberKeyValue, NumberSpan, SpanNumber, SpanNumbers, Parts, Layout, Row, layout_of, row_of}
+use Rattle.word_lines.specs.declared.table.Verb.TheVariants as verb
 
 -- what a function took off the front where memory isn't needed, with the words that it leaves
 abbrev pub TakesFree : {X : Type 0} → Result X LineFault → List (List ℕ) → Result (X × List (List ℕ)) LineFault → Type 0
@@ -85,3 +85,33 @@ command_at format rows seats line = do
   text ← text_at format line
   words ← words_at text
   command_of format rows seats words
+
+-- the words behind a name that are keys, values or bounds
+abbrev pub byte_parts : Signature → List (List ℕ) → List (List ℕ)
+byte_parts NumberKey words = take 1 (drop 1 words)
+byte_parts NumberKeyValue words = take 2 (drop 1 words)
+byte_parts NumberSpan words = take 2 (drop 1 words)
+byte_parts SpanNumber words = take 2 words
+byte_parts SpanNumbers words = take 2 words
+byte_parts _ words = []
+
+-- the same among a command's arguments
+abbrev pub byte_words : Verb → List (List ℕ) → List (List ℕ)
+byte_words v words = byte_parts (layout_of v).signature words
+
+-- the same among the words of a text, behind a session and a name
+unfoldable pub byte_words_of : List Row → ℕ → List (List ℕ) → Result (List (List ℕ)) LineFault
+byte_words_of rows seats words = do
+  session ← session_at seats words
+  row ← row_at rows session.1
+  Ok (byte_words row.0.verb row.1)
+
+-- they were read so far, and one of these words is long
+abbrev pub WantsMemory : Result (List (List ℕ)) LineFault → Type 0
+WantsMemory read = IsOkAnd read (λ words. list_any is_long words ≡ true)
+
+-- those of a line
+unfoldable pub byte_words_at : Format → List Row → ℕ → List ℕ → Result (List (List ℕ)) LineFault
+byte_words_at format rows seats line = do
+  text ← text_at format line
+  byte_words_of rows seats (words text)

@@ -1,23 +1,21 @@
 //! Commands as lines: the session's number, the command's name and its arguments.
 ghost use Rattle.std.specs.Prelude.{◌≡◌, ◌++◌, ◌∷◌, [], ◌<◌, decimal, true, IfOk, IfErr, OnOk, OnErr};
-ghost use Rattle.word_lines.specs.Reading.{Gives, Takes, TakesFree, session_at, row_at, arguments_at, counted_at, taken_of, command_at};
+ghost use Rattle.word_lines.specs.Reading.{Gives, Takes, TakesFree, session_at, row_at, arguments_at, counted_at, taken_of, command_at, WantsMemory, byte_words, byte_words_of, byte_words_at};
 ghost use Rattle.std.specs.List.{list_any};
-ghost use Rattle.spelled_words.specs.Memory.{is_long};
-ghost use Rattle.word_lines.specs.Memory.{WantsMemory, byte_words, byte_words_of, byte_words_at};
+ghost use Rattle.spelled_words.specs.Reading.{is_long};
 ghost use Rattle.spelled_words.specs.declared.fault.ReadError.TheVariants.{NoMemory};
 ghost use Rattle.word_lines.specs.Table.{table};
-ghost use Rattle.word_lines.specs.Words.{words};
-ghost use Rattle.word_lines.specs.Spelling.{spelling};
+ghost use Rattle.word_lines.specs.Words.{words, spelling};
 ghost use Rattle.word_lines.specs.Limits.{IsCommand};
-ghost use Rattle.word_lines.specs.Writing.{Keeps};
-ghost use Rattle.word_lines.specs.Commands.{joined, bound_word, words_of, command_line};
+ghost use Rattle.word_lines.specs.Messages.{Keeps};
+ghost use Rattle.word_lines.specs.Events.{joined, bound_word, words_of, command_line};
 
 use crate::arguments::{
     take_number, take_number_and_key, take_number_and_span, take_opening, take_opening_every,
     take_value,
 };
 use crate::buffer::or_undo;
-use crate::fault::{LineFault, Read, ReadError};
+use crate::fault::{LineFault, Parsed, ReadError};
 use crate::numbers::{number_of, put_number};
 use crate::spelling::put_spelling;
 use crate::table::{Form, Verb, form_of};
@@ -29,7 +27,7 @@ use std::alloc::{AllocError, Global};
 use text_format::Format;
 use timestamps::key::Key;
 
-/// What a writer returns.
+/// A writer's result.
 pub(crate) type Written = Result<(), AllocError>;
 
 /// Reads a command's line of a format, with its newline: the session, below `seats`, and the command. It
@@ -37,9 +35,9 @@ pub(crate) type Written = Result<(), AllocError>;
 ///
 /// A line that parses passes the tests of bytes and of the count of words by itself. They run only after a parse has
 /// failed, to tell the fault that comes first.
-#[tactic(auto, using(crate::proofs::ReadCommands::counted_right, crate::proofs::ReadCommands::counted_fault), unfolding(crate::specs::Reading::command_at, crate::specs::Memory::byte_words_at))]
+#[tactic(auto, using(crate::proofs::ReadCommands::counted_right, crate::proofs::ReadCommands::counted_fault), unfolding(crate::specs::Reading::command_at, crate::specs::Reading::byte_words_at))]
 #[inline(always)]
-pub fn read_command(alloc: Global, line: &[u8], seats: u8, format: Format) -> Read<(u8, Cmd)>
+pub fn read_command(alloc: Global, line: &[u8], seats: u8, format: Format) -> Parsed<(u8, Cmd)>
     // What is read is the text of this command, byte for byte.
     ensures found { IfOk result (λ x. (line.now ≡ command_line x.0 x.1) × (x.0 < seats) × IsCommand format x.1) }
     // Which fault it is: the first from the left.
@@ -60,9 +58,9 @@ pub fn read_command(alloc: Global, line: &[u8], seats: u8, format: Format) -> Re
 }
 
 /// Reads a command from the words of a text, which aren't counted before the last was read.
-#[tactic(auto, unfolding(crate::specs::Reading::taken_of, crate::specs::Memory::byte_words_of))]
+#[tactic(auto, unfolding(crate::specs::Reading::taken_of, crate::specs::Reading::byte_words_of))]
 #[inline(always)]
-fn take_command(alloc: Global, text: &[u8], seats: u8, format: Format) -> Read<(u8, Cmd)>
+fn take_command(alloc: Global, text: &[u8], seats: u8, format: Format) -> Parsed<(u8, Cmd)>
     ensures exact { Gives (λ x. x) result (taken_of format table seats (words text.now)) }
     ensures memory { IfErr result (λ e. e ≡ NoMemory → WantsMemory (byte_words_of table seats (words text.now))) }
 {
@@ -119,7 +117,7 @@ pub fn take_form(words: &mut Words) -> Result<Form, LineFault>
 /// The command, from the words of its arguments.
 #[inline(always)]
 #[tactic(auto, unfolding(crate::specs::Reading::arguments_at, crate::specs::Reading::parts_at))]
-pub fn take_arguments(alloc: Global, verb: Verb, words: &mut Words, format: Format) -> Read<Cmd>
+pub fn take_arguments(alloc: Global, verb: Verb, words: &mut Words, format: Format) -> Parsed<Cmd>
     ensures exact { Takes result words.new (arguments_at format verb words.old) }
     ensures memory { IfErr result (λ e. e ≡ NoMemory → list_any is_long (byte_words verb words.old) ≡ true) }
 {
@@ -205,7 +203,7 @@ fn put_command(out: &mut Vec<u8>, seat: u8, cmd: &Cmd) -> Written
 }
 
 /// Writes a command's name and its arguments, a space before each.
-#[tactic(auto, using(crate::proofs::Writing::keeping), unfolding(crate::specs::Commands::words_of))]
+#[tactic(auto, using(crate::proofs::Writing::keeping), unfolding(crate::specs::Events::words_of))]
 pub(crate) fn put_words(out: &mut Vec<u8>, cmd: &Cmd) -> Written
     ensures ok { OnOk result (out.new.items ≡ out.old.items ++ 32 ∷ joined (words_of cmd.now)) }
     ensures err { OnErr result (Keeps out.old.items out.new.items) }

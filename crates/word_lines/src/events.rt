@@ -1,8 +1,7 @@
 //! Events as text, and the lines that can end the output of a run.
 ghost use Rattle.std.specs.Prelude.{◌≡◌, ◌+◌, ◌++◌, ◌<◌, vec_len, vec_capacity, OnOk, OnErr};
-ghost use Rattle.word_lines.specs.Writing.{Keeps};
-ghost use Rattle.word_lines.specs.Commands.{command_line};
-ghost use Rattle.word_lines.specs.Events.{event_text, fault_line, spent_line};
+ghost use Rattle.word_lines.specs.Messages.{Keeps};
+ghost use Rattle.word_lines.specs.Events.{command_line, event_text, fault_line, spent_line};
 
 use crate::buffer::or_undo;
 use crate::commands::{Written, put_words};

@@ -1,7 +1,7 @@
 //! What holds of all commands, as the contract of a function that does nothing.
 ghost use Rattle.std.specs.Prelude.{◌≡◌, ℕ, ◌<◌, ◌^◌, Ok};
 ghost use Rattle.word_lines.specs.Prelude.{Cmd, Format};
-ghost use Rattle.word_lines.specs.Commands.{command_line};
+ghost use Rattle.word_lines.specs.Events.{command_line};
 ghost use Rattle.word_lines.specs.Limits.{IsCommand};
 ghost use Rattle.word_lines.specs.Reading.{command_at};
 ghost use Rattle.word_lines.specs.Table.{table};

@@ -1,9 +1,7 @@
 //! Replies as text: a line of words, and the lines that follow it.
 ghost use Rattle.std.specs.Prelude.{◌≡◌, ◌++◌, OnOk, OnErr};
-ghost use Rattle.word_lines.specs.Writing.{Keeps};
-ghost use Rattle.word_lines.specs.Commands.{joined};
-ghost use Rattle.word_lines.specs.Messages.{message_line};
-ghost use Rattle.word_lines.specs.Replies.{reply_words, refusal_words, row_line, following_lines, reply_text};
+ghost use Rattle.word_lines.specs.Messages.{Keeps, message_line};
+ghost use Rattle.word_lines.specs.Events.{joined, reply_words, refusal_words, row_line, following_lines, reply_text};
 ghost use Rattle.std.specs.List.{flat_map};
 
 use crate::buffer::or_undo;
@@ -37,7 +35,7 @@ pub(crate) fn put_reply(out: &mut Vec<u8>, reply: &Reply) -> Written
 }
 
 /// Writes the words of a reply.
-#[tactic(auto, using(crate::proofs::Writing::keeping), unfolding(crate::specs::Replies::reply_words))]
+#[tactic(auto, using(crate::proofs::Writing::keeping), unfolding(crate::specs::Events::reply_words))]
 fn put_words(out: &mut Vec<u8>, reply: &Reply) -> Written
     ensures ok { OnOk result (out.new.items ≡ out.old.items ++ joined (reply_words reply.now)) }
     ensures err { OnErr result (Keeps out.old.items out.new.items) }
@@ -100,7 +98,7 @@ fn put_refusal(out: &mut Vec<u8>, refusal: Refusal) -> Written
 }
 
 /// Writes the lines that follow a reply.
-#[tactic(auto, using(crate::proofs::Writing::keeping), unfolding(crate::specs::Replies::following_lines))]
+#[tactic(auto, using(crate::proofs::Writing::keeping), unfolding(crate::specs::Events::following_lines))]
 fn put_following(out: &mut Vec<u8>, reply: &Reply) -> Written
     ensures ok { OnOk result (out.new.items ≡ out.old.items ++ following_lines reply.now) }
     ensures err { OnErr result (Keeps out.old.items out.new.items) }

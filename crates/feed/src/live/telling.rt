@@ -1,8 +1,8 @@
 //! What a feed tells next.
 ghost use Rattle.std.specs.Prelude.{◌≡◌, ◌≤◌, ◌++◌, IfOk, length, map, take};
 ghost use Rattle.timestamps.specs.declared.ts.TheConstants.{MAX};
-ghost use Rattle.feed.specs.Live.{due_at};
-ghost use Rattle.feed.specs.Telling.{IsTold};
+ghost use Rattle.feed.specs.Standing.{due_at};
+ghost use Rattle.feed.specs.Firsts.{IsTold};
 
 use crate::live::LiveFeed;
 use crate::place::{Arrival, place_behind};

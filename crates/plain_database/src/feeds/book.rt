@@ -4,8 +4,7 @@ ghost use Rattle.std.specs.List.{find, fold, position};
 ghost use Rattle.std.specs.Option.{option_copied};
 ghost use Rattle.plain_database.specs.Prelude.{Cancels, Opens, Polls, feed_of, feeds_opened, floor_of, least_of, live_feeds};
 ghost use Rattle.plain_database.specs.declared.feeds.record.FeedRecord.{FeedRecord};
-ghost use Rattle.plain_database.specs.Records.{floor_in, telling_in};
-ghost use Rattle.plain_database.specs.FeedTie.{FeedsTied, IsRecordOf, Says, LeadsTo, refusal_of_poll, refusal_of_cancel};
+ghost use Rattle.plain_database.specs.FeedTie.{floor_in, telling_in, FeedsTied, IsRecordOf, Says, LeadsTo, refusal_of_poll, refusal_of_cancel};
 
 use crate::feeds::record::{FeedRecord, Told};
 use spans::calls::{Message, Messages, Refusal};

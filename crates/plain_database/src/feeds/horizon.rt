@@ -1,5 +1,5 @@
 //! The horizon that a collection reaches, as the checker finds it.
-ghost use Rattle.plain_database.specs.Horizon.{IsReached};
+ghost use Rattle.plain_database.specs.ProtectionTie.{IsReached};
 
 use crate::feeds::book::FeedBook;
 use crate::feeds::protections::Protections;

@@ -1,7 +1,7 @@
 //! Where the rows begin that one of the checker's feeds was not told.
 ghost use Rattle.std.specs.Prelude.{◌≡◌};
 ghost use Rattle.std.specs.Option.{option_copied};
-ghost use Rattle.plain_database.specs.Places.{IsPlace, key_above, row_ts, tells_snapshot};
+ghost use Rattle.plain_database.specs.Streams.{IsPlace, key_above, row_ts, tells_snapshot};
 
 use crate::feeds::record::FeedRecord;
 use spans::report::ToldRow;

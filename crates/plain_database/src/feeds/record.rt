@@ -2,9 +2,7 @@
 ghost use Rattle.std.specs.Prelude.{◌≡◌, ◌≤◌, ◌++◌, length, map, IfOk, OnErr, OnOk};
 ghost use Rattle.std.specs.Option.{option_to_list};
 ghost use Rattle.timestamps.specs.declared.ts.TheConstants.{MAX};
-ghost use Rattle.plain_database.specs.FeedReports.{record_report};
-ghost use Rattle.plain_database.specs.Records.{due_in, floor_in, fresh_told, told_more};
-ghost use Rattle.plain_database.specs.FeedTie.{AreNext};
+ghost use Rattle.plain_database.specs.FeedTie.{record_report, due_in, floor_in, fresh_told, told_more, AreNext};
 
 use crate::Allocated;
 use spans::calls::{Message, Messages};

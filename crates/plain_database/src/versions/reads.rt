@@ -5,7 +5,7 @@
 ghost use Rattle.std.specs.Prelude.{◌≡◌, ◌++◌, ◌∷◌, ℕ, List, [], OnErr, OnOk, bytes_eq, if◌then◌else◌};
 ghost use Rattle.std.specs.List.{list_any};
 ghost use Rattle.plain_database.specs.declared.versions.reads.Read.{Read};
-ghost use Rattle.plain_database.specs.ReadBy.{is_across, source_found};
+ghost use Rattle.plain_database.specs.Table.{is_across, source_found};
 
 use spans::span::Span;
 use std::alloc::{AllocError, Global};

@@ -3,14 +3,11 @@ ghost use Rattle.std.specs.Prelude.{◌≡◌, ◌≤◌, ◌&&◌, ◌++◌, �
 ghost use Rattle.std.specs.Option.{option_copied};
 ghost use Rattle.spans.specs.Answer.{first_refusal};
 ghost use Rattle.spans.specs.Keys.{in_span, with_value};
-ghost use Rattle.spans.specs.Newest.{newest};
+ghost use Rattle.spans.specs.Versions.{newest, is_blocked, visible};
 ghost use Rattle.spans.specs.Streams.{stream_of};
-ghost use Rattle.spans.specs.Versions.{is_blocked, visible};
 ghost use Rattle.spans.specs.declared.calls.replies.Refusal.TheVariants.{Blocked};
-ghost use Rattle.plain_database.specs.Behind.{beside, is_past};
-ghost use Rattle.plain_database.specs.Filling.{filled, write_rows};
-ghost use Rattle.plain_database.specs.ReadBy.{source_found};
-ghost use Rattle.plain_database.specs.Replies.{block_tests, rows_past};
+ghost use Rattle.plain_database.specs.Replies.{beside, is_past, filled, write_rows, block_tests, rows_past};
+ghost use Rattle.plain_database.specs.Table.{source_found};
 ghost use Rattle.plain_database.specs.VersionsTied.{Says, version_in};
 
 use crate::Allocated;

@@ -2,7 +2,7 @@
 //! where its state says so, or where it is undecided at or below closed, because a hard closing ended it.
 ghost use Rattle.std.specs.Prelude.{◌≡◌, ◌++◌, ◌∷◌, [], OnErr, OnOk, Some};
 ghost use Rattle.std.specs.Option.{option_copied};
-ghost use Rattle.spans.specs.Newest.{newest};
+ghost use Rattle.spans.specs.Versions.{newest};
 ghost use Rattle.plain_database.specs.Table.{begun_at, changed, committed_at, ended, gone_in, is_crossed, reading, with_begun, writing};
 ghost use Rattle.plain_database.specs.VersionsTied.{Held, VersionsTied, place_of, version_in};
 
@@ -33,7 +33,7 @@ pub struct VersionStore {
 }
 
 impl Model for VersionStore {
-    ghost use Rattle.plain_database.specs.Indexed.{IsIndexed};
+    ghost use Rattle.plain_database.specs.Table.{IsIndexed};
     ghost use Rattle.plain_database.specs.VersionsTied.{Held};
 
     ghost Value = { Held };

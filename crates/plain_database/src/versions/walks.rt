@@ -5,12 +5,10 @@
 ghost use Rattle.std.specs.Prelude.{◌≡◌, ◌-◌, ◌<◌, ◌^◌, ◌≤◌, IfOk, Some, filter, is_some, length, max, min, nat_le, ℕ};
 ghost use Rattle.restarts.specs.Dump.{greatest_of};
 ghost use Rattle.spans.specs.Collection.{horizon_of};
-ghost use Rattle.spans.specs.Newest.{newest};
+ghost use Rattle.spans.specs.Versions.{newest};
 ghost use Rattle.spans.specs.Report.{AreUndecided};
 ghost use Rattle.spans.specs.Transactions.{begun_of, closed_of, decided_through, undecided_timestamps};
-ghost use Rattle.plain_database.specs.Counts.{deaths_by, newly_dead, standing, versions_between};
-ghost use Rattle.plain_database.specs.Opens.{IsRising, above_closed, is_open, stopped};
-ghost use Rattle.plain_database.specs.VersionsTied.{Says, version_in};
+ghost use Rattle.plain_database.specs.VersionsTied.{deaths_by, newly_dead, standing, versions_between, IsRising, above_closed, is_open, stopped, Says, version_in};
 
 use crate::versions::begun::Begun;
 use crate::versions::store::VersionStore;

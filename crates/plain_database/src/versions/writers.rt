@@ -7,8 +7,8 @@ ghost use Rattle.std.specs.Map.Iter.{TakesFirst, deref};
 ghost use Rattle.std.specs.Range.Bound.{bound_map};
 ghost use Rattle.spans.proofs.Keyed.{RisingKeys};
 ghost use Rattle.spans.specs.Keys.{in_span};
-ghost use Rattle.spans.specs.Starting.{start_of};
-ghost use Rattle.plain_database.specs.Indexed.{IsLast, is_listed};
+ghost use Rattle.spans.specs.KeyOrder.{start_of};
+ghost use Rattle.plain_database.specs.Table.{IsLast, is_listed};
 
 use spans::bound::{Bound, is_below};
 use spans::span::Span;
@@ -29,7 +29,7 @@ pub struct Writers {
 }
 
 impl Model for Writers {
-    ghost use Rattle.plain_database.specs.Indexed.{Listed};
+    ghost use Rattle.plain_database.specs.Table.{Listed};
 
     ghost Value = { Listed };
 
@@ -88,7 +88,7 @@ impl<'a> Model for KeysIn<'a> {
     ghost use Rattle.std.specs.Prelude.{ℕ, List, filter};
     ghost use Rattle.std.specs.Map.{keys_of};
     ghost use Rattle.spans.specs.Keys.{in_span};
-    ghost use Rattle.plain_database.specs.KeysIn.{AreAhead};
+    ghost use Rattle.plain_database.specs.Replies.{AreAhead};
 
     ghost Value = { List (List ℕ) };
 

@@ -3,7 +3,7 @@ ghost use Rattle.std.specs.Prelude.{◌≡◌, [], OnErr, OnOk, length};
 ghost use Rattle.std.specs.BTreeMap.{insert_entry, is_at};
 ghost use Rattle.std.specs.Map.{lookup};
 ghost use Rattle.std.specs.Option.{option_copied};
-ghost use Rattle.timestamps.specs.Bytes.{key_cmp};
+ghost use Rattle.timestamps.specs.Words.{key_cmp};
 
 use std::alloc::{AllocError, Global};
 use std::collections::BTreeMap;

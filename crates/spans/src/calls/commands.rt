@@ -1,3 +1,4 @@
+//! What a session asks for.
 ghost use Rattle.std.specs.Prelude.{◌≡◌};
 ghost use Rattle.spans.specs.Parts.{asked_span};
 

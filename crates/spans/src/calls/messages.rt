@@ -1,3 +1,4 @@
+//! What a feed tells.
 ghost use Rattle.std.specs.Prelude.{◌≡◌};
 
 use std::marker::Model;

@@ -1,3 +1,4 @@
+//! What a command is answered.
 ghost use Rattle.std.specs.Prelude.{◌≡◌};
 ghost use Rattle.spans.specs.Parts.{answered_rows};
 

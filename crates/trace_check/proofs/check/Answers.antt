@@ -1,7 +1,6 @@
 use Rattle.std.proofs.Common.{◌≡◌, ◌∙◌, ◌+◌, ℕ, Option, take, drop, true, false, sym, subst, arith}
 use Rattle.spans.proofs.Results.{any_err}
-use Rattle.trace_check.specs.Checkers.{StandsFor}
-use Rattle.trace_check.specs.Traces.{IsFirstWrong, IsInPlace, MayLackIn}
+use Rattle.trace_check.specs.Traces.{StandsFor, IsFirstWrong, IsInPlace, MayLackIn}
 use Rattle.trace_check.proofs.TraceSteps.{next_is, parts_at, wrong_at, wrong_is_no_trace, few_before}
 use Rattle.trace_check.proofs.check.Goals as goal
 

@@ -1,5 +1,5 @@
 use Rattle.std.proofs.Common.{take}
-use Rattle.trace_check.specs.Checkers.{StandsFor}
+use Rattle.trace_check.specs.Traces.{StandsFor}
 use Rattle.trace_check.proofs.check.Given as goal
 
 -- the events so far were taken

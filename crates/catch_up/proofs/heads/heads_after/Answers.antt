@@ -1,5 +1,5 @@
 use Rattle.std.proofs.Common.{◌∙◌, List, ap, arith, length, subst, ◌≡◌}
-use Rattle.version_chain.specs.Chains.{Entry}
+use Rattle.version_chain.specs.Stores.{Entry}
 use Rattle.catch_up.proofs.Merge.{IsHeading, heads_begin, heads_go_on}
 use Rattle.catch_up.proofs.heads.heads_after.Goals as goal
 

@@ -1,7 +1,7 @@
 use Rattle.std.proofs.Common.{◌≡◌, length, arith}
 use Rattle.std.proofs.lemmas.Grind.{common_steps}
 use Rattle.std.proofs.lemmas.Result.{err_from_is_err_and}
-use Rattle.embedded_replica.specs.Seeds.{pairs_at}
+use Rattle.embedded_replica.specs.Consumers.{pairs_at}
 use Rattle.embedded_replica.proofs.PairLines.{goes_on, is_done, nothing_before, stops}
 use Rattle.embedded_replica.proofs.rows.pairs_of.Goals as goal
 

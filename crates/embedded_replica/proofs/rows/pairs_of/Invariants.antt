@@ -1,5 +1,5 @@
 use Rattle.std.proofs.Common.{◌≡◌, length}
-use Rattle.embedded_replica.specs.Seeds.{pairs_at}
+use Rattle.embedded_replica.specs.Consumers.{pairs_at}
 use Rattle.embedded_replica.proofs.PairLines.{behind}
 use Rattle.embedded_replica.proofs.rows.pairs_of.Given as goal
 

@@ -1,5 +1,5 @@
 use Rattle.std.proofs.Common.{◌≡◌, ◌++◌, flat_map}
-use Rattle.word_lines.specs.Replies.{row_line}
+use Rattle.word_lines.specs.Events.{row_line}
 use Rattle.embedded_replica.proofs.rows.text_of.Given as goal
 
 abbrev pub invariant-loop-key : goal.invariant-loop-key

@@ -1,6 +1,6 @@
 use Rattle.std.proofs.Common.{arith, inl, inr, subst, sym, ◌∙◌}
 use Rattle.engine.proofs.Common.{Stored, both_ways, cases_lt, option_copied}
-use Rattle.engine.specs.Dumping.{IsNextRow}
+use Rattle.engine.specs.Looking.{IsNextRow}
 use Rattle.engine.proofs.RowsLeft.{first_left, first_taken, next_is}
 use Rattle.engine.proofs.Engine.next_left.Goals as goal
 

@@ -1,8 +1,7 @@
 use Rattle.std.proofs.Common.{rules, ◌++◌, ◌∷◌, map, reverse, length, sym, ap, ◌∙◌, subst, arith}
 use Rattle.std.proofs.lemmas.Grind.{common_steps}
 use Rattle.engine.proofs.Common.{IsGapless, gapless_more, length_push, turned_more}
-use Rattle.engine.specs.Runs.{call_of}
-use Rattle.engine.specs.Engine.{StandsFor}
+use Rattle.engine.specs.Engine.{call_of, StandsFor}
 use Rattle.engine.proofs.Runs.{calls_more}
 use Rattle.engine.proofs.Engine.run_in.Goals as goal
 

@@ -1,8 +1,7 @@
 use Rattle.std.proofs.Common.{◌≡◌, ◌≤◌, ◌+◌, ◌++◌, map, reverse, length, vec_len}
 use Rattle.std.specs.Prelude.{vec_capacity}
 use Rattle.spans.specs.Legal.{IsGapless}
-use Rattle.engine.specs.Runs.{call_of}
-use Rattle.engine.specs.Engine.{StandsFor, steps_of}
+use Rattle.engine.specs.Engine.{call_of, StandsFor, steps_of}
 use Rattle.engine.proofs.Engine.run_in.Given as goal
 
 -- the engine stands for the events so far, which are the calls so far; the others are still to come

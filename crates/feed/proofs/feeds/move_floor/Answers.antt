@@ -1,5 +1,5 @@
 use Rattle.std.proofs.Common.{subst}
-use Rattle.feed.specs.Ties.{IsFloorMoved}
+use Rattle.feed.specs.Standing.{IsFloorMoved}
 use Rattle.feed.proofs.Tying.{floor_moves, floor_stays}
 use Rattle.feed.proofs.feeds.move_floor.Goals as goal
 

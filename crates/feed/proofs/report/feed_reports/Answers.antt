@@ -1,7 +1,7 @@
 use Rattle.std.proofs.Common.{◌≡◌, subst}
 use Rattle.std.specs.Prelude.{filter_map}
 use Rattle.feed.proofs.Common.{AreLive, IfOk-weaker, IsPermutation, keys_of}
-use Rattle.feed.specs.Reports.{place_at, report_at}
+use Rattle.feed.specs.Standing.{place_at, report_at}
 use Rattle.feed.proofs.Reports.{live_reports, numbers_those, sorted_rise}
 use Rattle.feed.proofs.report.feed_reports.Goals as goal
 

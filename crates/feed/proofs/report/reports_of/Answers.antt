@@ -1,7 +1,7 @@
 use Rattle.std.proofs.Common.{Option, Some, ap, get_or, refl, sym, ◌∙◌}
 use Rattle.std.specs.Prelude.{option_map}
 use Rattle.feed.proofs.Common.{Place, feed_report}
-use Rattle.feed.specs.Reports.{report_at}
+use Rattle.feed.specs.Standing.{report_at}
 use Rattle.feed.proofs.Reports.{told_none, told_one}
 use Rattle.feed.proofs.report.reports_of.Goals as goal
 use Rattle.feed.proofs.report.reports_of.Goals.{in-Some+in_ok-report+in_ok-push, in_default}

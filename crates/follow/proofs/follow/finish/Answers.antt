@@ -1,5 +1,5 @@
 use Rattle.std.proofs.Common.{refl, inl}
-use Rattle.sessions.specs.Writing.{pending_of}
+use Rattle.sessions.specs.Devices.{pending_of}
 use Rattle.follow.specs.declared.ending.FollowEnd.TheVariants as ends
 use Rattle.follow.proofs.Ends.{followed_cut, followed_told, followed_unlined, could_written}
 use Rattle.follow.proofs.follow.finish.Goals as goal

@@ -1,5 +1,5 @@
 use Rattle.std.proofs.Common.{subst, sym}
-use Rattle.sessions.specs.Writing.{pending_of}
+use Rattle.sessions.specs.Devices.{pending_of}
 use Rattle.follow.specs.Ends.{CouldBegin}
 use Rattle.follow.specs.Steps.{IsStopped}
 use Rattle.follow.proofs.Ends.{followed_memory, stopped_unbegun, could_unbegun}

@@ -2,7 +2,7 @@ use Rattle.std.proofs.Common.{rules, ◌≡◌, subst, arith}
 use Rattle.std.proofs.lemmas.Grind.{common_steps}
 use Rattle.std.specs.Prelude.{unwrap_or}
 use Rattle.jobs.proofs.Common.{Dumps}
-use Rattle.jobs.specs.Dumps.{dump_text}
+use Rattle.jobs.specs.Verdicts.{dump_text}
 use Rattle.jobs.proofs.Dumps.{written_dump}
 use Rattle.jobs.proofs.dump.dump_of_text.Goals as goal
 

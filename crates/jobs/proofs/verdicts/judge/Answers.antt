@@ -1,6 +1,6 @@
 use Rattle.std.proofs.Common.{◌≡◌, MatchResult, subst, sym}
 use Rattle.script.specs.Transcripts.{Fails, outcome, transcript_at}
-use Rattle.jobs.specs.Judging.{IsJudged}
+use Rattle.jobs.specs.Verdicts.{IsJudged}
 use Rattle.jobs.proofs.verdicts.judge.Goals as goal
 
 pub returns-in-Ok : goal.returns-in-Ok

@@ -1,6 +1,5 @@
 use Rattle.std.proofs.Common.{◌≡◌, ◌++◌, length}
-use Rattle.json_lines.specs.Messages.{base64}
-use Rattle.json_lines.specs.Writing.{Keeps}
+use Rattle.json_lines.specs.Messages.{base64, Keeps}
 use Rattle.json_lines.proofs.base64_text.put_base64.Given as goal
 
 abbrev pub invariant-loop-rest : goal.invariant-loop-rest

@@ -1,4 +1,4 @@
-use Rattle.json_lines.specs.TextsView.{texts_view}
+use Rattle.json_lines.specs.Meaning.{texts_view}
 use Rattle.json_lines.proofs.Readings.{read_found, read_whole, read_unresolved}
 use Rattle.json_lines.proofs.reading.read_written.Goals as goal
 

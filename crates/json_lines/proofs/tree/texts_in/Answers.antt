@@ -3,9 +3,7 @@ use Rattle.serde_json.specs.View.{view, members_view}
 use Rattle.serde_json.specs.Events.{members_len}
 use Rattle.serde_json.proofs.Views.{members_len-members_view}
 use Rattle.json_lines.specs.declared.fault.MessageFault.{MessageFault}
-use Rattle.json_lines.specs.Texts.{Texts}
-use Rattle.json_lines.specs.TextsView.{texts_view}
-use Rattle.json_lines.specs.Steps.{Reads}
+use Rattle.json_lines.specs.Meaning.{Texts, texts_view, Reads}
 use Rattle.json_lines.proofs.Trees.{texts_by_count, texts_other}
 use Rattle.json_lines.proofs.tree.texts_in.Goals as goal
 

@@ -1,7 +1,7 @@
 use Rattle.std.proofs.Common.{◌≡◌, ◌≤◌, ◌+◌, ◌++◌, vec_len}
 use Rattle.std.specs.Prelude.{vec_capacity}
 use Rattle.races.proofs.Common.{IsOf, IsSame, into_iter_items, into_iter_len, mine}
-use Rattle.races.specs.Playing.{commands_of}
+use Rattle.races.specs.Racing.{commands_of}
 use Rattle.races.proofs.racing.play.Given as goal
 
 abbrev pub invariant-loop-cmd : goal.invariant-loop-cmd

@@ -4,8 +4,7 @@ use Rattle.std.proofs.lemmas.Result.{IfOk-weaker}
 use mathlib.Core.Option.{some}
 use lib.ListN.{get_elem?}
 use Rattle.races.proofs.Common.{each_read}
-use Rattle.races.specs.Playing.{IsPlayed}
-use Rattle.races.specs.Racing.{AreOk, AllEnded}
+use Rattle.races.specs.Racing.{IsPlayed, AreOk, AllEnded}
 use Rattle.races.proofs.Promised.{found, all_ended}
 use Rattle.races.proofs.racing.run.Goals as goal
 

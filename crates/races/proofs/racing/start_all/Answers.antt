@@ -1,6 +1,6 @@
 use Rattle.std.proofs.Common.{◌≡◌, [], ◌∷◌, ◌++◌, rules}
 use Rattle.races.proofs.Common.{All-push, All-rest, All-same, IsOf, into_iter_items}
-use Rattle.races.specs.Playing.{IsIdle}
+use Rattle.races.specs.Racing.{IsIdle}
 use Rattle.races.proofs.Starting.{one_more}
 use Rattle.races.proofs.racing.start_all.Goals as goal
 

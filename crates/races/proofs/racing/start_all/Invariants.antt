@@ -1,6 +1,6 @@
 use Rattle.std.proofs.Common.{◌≡◌, ◌+◌, ◌++◌, map, All, vec_len}
 use Rattle.races.proofs.Common.{IsOf, into_iter_items, into_iter_len}
-use Rattle.races.specs.Playing.{IsIdle}
+use Rattle.races.specs.Racing.{IsIdle}
 use Rattle.races.proofs.racing.start_all.Given as goal
 
 abbrev pub invariant-loop-seat : goal.invariant-loop-seat

@@ -1,6 +1,5 @@
 use Rattle.std.proofs.Common.{append_assoc}
-use Rattle.report_lines.specs.Lines.{database_line, limit_members, version_members, number_or_null}
-use Rattle.report_lines.specs.Members.{line_of, up_to_end, text_of}
+use Rattle.report_lines.specs.Lines.{database_line, limit_members, version_members, number_or_null, line_of, up_to_end, text_of}
 use Rattle.report_lines.proofs.lines.put_database.Goals as goal
 
 pub returns-clause-ok : goal.returns-clause-ok

@@ -1,6 +1,5 @@
 use Rattle.std.proofs.Common.{append_assoc}
-use Rattle.report_lines.specs.Lines.{feed_line, opening_members, told_members, progress_members, number_or_null}
-use Rattle.report_lines.specs.Members.{line_of, up_to_end, text_of}
+use Rattle.report_lines.specs.Lines.{feed_line, opening_members, told_members, progress_members, number_or_null, line_of, up_to_end, text_of}
 use Rattle.report_lines.proofs.lines.put_feed.Goals as goal
 
 pub returns-clause-ok : goal.returns-clause-ok

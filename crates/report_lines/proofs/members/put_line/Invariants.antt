@@ -1,7 +1,6 @@
 use Rattle.std.proofs.Common.{◌≡◌, ◌++◌, take}
 use Rattle.report_lines.proofs.Common.{flat_map}
-use Rattle.report_lines.specs.Lines.{begins}
-use Rattle.report_lines.specs.Members.{text_of}
+use Rattle.report_lines.specs.Lines.{begins, text_of}
 use Rattle.report_lines.proofs.members.put_line.Given as goal
 
 abbrev pub invariant-loop-member : goal.invariant-loop-member

@@ -2,7 +2,7 @@ use Rattle.std.proofs.Common.{◌≡◌, ℕ, false, List, Option, Some, None, r
 use Rattle.std.specs.Prelude.{is_some}
 use Rattle.ripsawbean.proofs.Common.{Consumer, replica_of}
 use Rattle.embedded_replica.specs.declared.consumer.SeedingError.TheVariants.{NoMemory}
-use Rattle.embedded_replica.specs.Seeds.{IsUnseeded}
+use Rattle.embedded_replica.specs.Consumers.{IsUnseeded}
 use Rattle.embedded_replica.proofs.Seeding.{begins_wants}
 use Rattle.ripsawbean.specs.ReplicaExports.{Begun}
 use Rattle.ripsawbean.proofs.beginning.ripsawbean_replica_begin.Goals as goal

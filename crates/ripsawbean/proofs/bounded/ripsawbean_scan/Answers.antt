@@ -1,7 +1,7 @@
 use Rattle.std.proofs.Common.{rules}
 use Rattle.embedded.specs.declared.bounded.Bounded.TheVariants.{Scan}
 use Rattle.ripsawbean.specs.BoundedExports.{span_fault, span_of}
-use Rattle.ripsawbean.specs.TypedParts.{IsOf}
+use Rattle.ripsawbean.specs.TypedExports.{IsOf}
 use Rattle.ripsawbean.proofs.BoundedCalls.{scan_made}
 use Rattle.ripsawbean.proofs.bounded.ripsawbean_scan.Goals as goal
 

@@ -1,5 +1,5 @@
 use Rattle.std.proofs.Common.{List, ℕ, subst}
-use Rattle.json_lines.specs.Writing.{Copied}
+use Rattle.json_lines.specs.Messages.{Copied}
 use Rattle.ripsawbean.proofs.looks.state.Goals as goal
 
 pub returns-in-Ok-clause-text : goal.returns-in-Ok-clause-text

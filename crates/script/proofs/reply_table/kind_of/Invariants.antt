@@ -1,5 +1,5 @@
 use Rattle.std.proofs.Common.{◌≡◌, drop, map}
-use Rattle.script.specs.ReplyTable.{reply_row, kind_of}
+use Rattle.script.specs.ReplyReading.{reply_row, kind_of}
 use Rattle.script.proofs.reply_table.kind_of.Given as goal
 
 abbrev pub invariant-loop-row : goal.invariant-loop-row

@@ -1,5 +1,5 @@
 use Rattle.std.proofs.Common.{◌≡◌, [], length}
-use Rattle.script.specs.Lines.{lines_of}
+use Rattle.script.specs.EventLines.{lines_of}
 use Rattle.script.specs.Scripts.{above, script_at}
 use Rattle.script.proofs.ScriptLines.{script_from}
 use Rattle.script.proofs.scripts.read_script.Given as goal

@@ -1,6 +1,6 @@
 use Rattle.std.proofs.Common.{List, ℕ, drop, ◌++◌, ◌+◌, ◌∙◌, ap, refl, subst}
 use Rattle.sessions.proofs.Common.{err_from_is_err_and, events_text, transcript_text}
-use Rattle.sessions.specs.Writing.{pending_of, HasTaken}
+use Rattle.sessions.specs.Devices.{pending_of, HasTaken}
 use Rattle.sessions.proofs.Transcripts.{begun_on, nothing_taken, one_kept, taken_before, taken_on}
 use Rattle.sessions.proofs.whole.write_transcript.Goals as goal
 

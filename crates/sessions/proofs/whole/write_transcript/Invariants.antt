@@ -1,6 +1,6 @@
 use Rattle.std.proofs.Common.{◌++◌, drop, Ok}
 use Rattle.script.specs.Transcripts.{events_text, transcript_text}
-use Rattle.sessions.specs.Writing.{pending_of, HasWritten}
+use Rattle.sessions.specs.Devices.{pending_of, HasWritten}
 use Rattle.sessions.proofs.whole.write_transcript.Given as goal
 
 abbrev pub invariant-loop-event : goal.invariant-loop-event

@@ -1,5 +1,5 @@
 use Rattle.std.proofs.Common.{Ok, length}
-use Rattle.sessions.specs.Writing.{HasWritten}
+use Rattle.sessions.specs.Devices.{HasWritten}
 use Rattle.sessions.proofs.whole.write_whole.Given as goal
 
 abbrev pub invariant-loop-rest : goal.invariant-loop-rest

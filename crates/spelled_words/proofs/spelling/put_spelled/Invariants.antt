@@ -1,6 +1,6 @@
 use Rattle.std.proofs.Common.{◌≡◌, ◌++◌, take}
 use Rattle.std.specs.List.{flat_map}
-use Rattle.spelled_words.specs.Spelling.{spelled}
+use Rattle.spelled_words.specs.Words.{spelled}
 use Rattle.spelled_words.proofs.spelling.put_spelled.Given as goal
 
 abbrev pub invariant-loop-byte : goal.invariant-loop-byte

@@ -1,7 +1,7 @@
 use Rattle.std.proofs.Common.{◌≡◌, ◌<◌, length, ap, arith}
 use Rattle.std.proofs.lemmas.Grind.{common_steps}
 use Rattle.std.specs.Prelude.{ok_or}
-use Rattle.spelled_words.specs.Spelling.{unspelled}
+use Rattle.spelled_words.specs.Words.{unspelled}
 use Rattle.spelled_words.specs.declared.fault.LineFault.TheVariants.{BadByte}
 use Rattle.spelled_words.proofs.Unescaping.{goes_on, fails, is_done}
 use Rattle.spelled_words.proofs.spelling.unescaped.Goals as goal

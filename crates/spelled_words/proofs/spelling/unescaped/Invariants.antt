@@ -1,5 +1,5 @@
 use Rattle.std.proofs.Common.{◌≡◌, ◌+◌, ◌≤◌, length}
-use Rattle.spelled_words.specs.Spelling.{unspelled}
+use Rattle.spelled_words.specs.Words.{unspelled}
 use Rattle.spelled_words.proofs.Unescaping.{onto}
 use Rattle.spelled_words.proofs.spelling.unescaped.Given as goal
 

@@ -1,6 +1,6 @@
 use Rattle.std.proofs.Common.{nat_lt, true, ℕ, ◌≡◌}
 use Rattle.std.specs.BTreeMap.{btree_map_len}
-use Rattle.txn_table.specs.TransactionIn.{found}
+use Rattle.txn_table.specs.States.{found}
 use Rattle.txn_table.proofs.txns.drop_through.Given as goal
 
 -- what is above the bound is there yet

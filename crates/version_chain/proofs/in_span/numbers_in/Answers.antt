@@ -1,7 +1,7 @@
 use Rattle.std.proofs.Common.{ap, subst, sym, ◌∙◌, ◌≡◌}
-use Rattle.spans.specs.Starting.{start_of}
+use Rattle.spans.specs.KeyOrder.{start_of}
 use Rattle.spans.proofs.Ascending.{rising_keys}
-use Rattle.version_chain.specs.InSpans.{AreFrom, starting_at}
+use Rattle.version_chain.specs.Stores.{AreFrom, starting_at}
 use Rattle.version_chain.proofs.InSpans.{from_start, numbers_found}
 use Rattle.version_chain.proofs.in_span.numbers_in.Goals as goal
 use Rattle.version_chain.proofs.in_span.numbers_in.Goals.{After-range_from-ahead}

@@ -1,6 +1,6 @@
 use Rattle.std.proofs.Common.{◌≡◌, ◌++◌, take}
 use Rattle.std.specs.List.{flat_map}
-use Rattle.word_lines.specs.Replies.{row_line}
+use Rattle.word_lines.specs.Events.{row_line}
 use Rattle.word_lines.proofs.replies.put_rows.Given as goal
 
 abbrev pub invariant-loop-row : goal.invariant-loop-row

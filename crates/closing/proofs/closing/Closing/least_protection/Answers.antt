@@ -1,6 +1,6 @@
 use Rattle.closing.proofs.Common.{contains, is_at}
 use Rattle.spans.proofs.Sets.{none_in}
-use Rattle.closing.specs.Ties.{pair_cmp}
+use Rattle.closing.specs.Standing.{pair_cmp}
 use Rattle.closing.proofs.Least.{first_least, none_least}
 use Rattle.closing.proofs.closing.Closing.least_protection.Goals as goal
 

@@ -1,6 +1,6 @@
 use Rattle.std.proofs.Common.{arith, ◌+◌}
 use Rattle.closing.proofs.Common.{contains, get, nat_cmp}
-use Rattle.closing.specs.Ties.{pair_cmp}
+use Rattle.closing.specs.Standing.{pair_cmp}
 use Rattle.closing.proofs.Numbers.{insert_last, none_beyond, numbered_push}
 use Rattle.closing.proofs.Tying.{alike_again, alike_put}
 use Rattle.closing.proofs.closing.Closing.protect.Goals as goal

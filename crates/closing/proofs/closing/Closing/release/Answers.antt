@@ -1,6 +1,6 @@
 use Rattle.std.proofs.Common.{sym, ap, ◌∙◌}
 use Rattle.closing.proofs.Common.{contains, get, nat_cmp}
-use Rattle.closing.specs.Ties.{pair_cmp}
+use Rattle.closing.specs.Standing.{pair_cmp}
 use Rattle.std.specs.Prelude.{is_some}
 use Rattle.closing.proofs.Numbers.{number_stands, numbered_removed}
 use Rattle.closing.proofs.Tying.{alike_taken}

@@ -1,5 +1,5 @@
 use Rattle.std.proofs.Common.{◌∙◌, sym}
-use Rattle.word_lines.specs.Commands.{command_line}
+use Rattle.word_lines.specs.Events.{command_line}
 use Rattle.embedded.proofs.Stepping.{made}
 use Rattle.embedded.proofs.database.Database.call_command.Goals as goal
 

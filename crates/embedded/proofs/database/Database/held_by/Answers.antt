@@ -1,6 +1,6 @@
 use Rattle.std.proofs.Common.{◌≡◌}
 use Rattle.std.proofs.lemmas.Result.{IfOk-weaker}
-use Rattle.embedded.specs.Held.{AreHeldBy, held_in}
+use Rattle.embedded.specs.Looks.{AreHeldBy, held_in}
 use Rattle.embedded.proofs.database.Database.held_by.Goals as goal
 
 pub returns : goal.returns

@@ -1,7 +1,7 @@
 use Rattle.std.proofs.Common.{◌≤◌, Option, Some, length, arith, sym, subst, ◌∙◌}
 use Rattle.spans.specs.Effects.{effects_of}
 use Rattle.embedded.specs.declared.dumping.DumpPlace.{DumpPlace}
-use Rattle.embedded.specs.DumpTexts.{IsNextText}
+use Rattle.embedded.specs.Dumping.{IsNextText}
 use Rattle.embedded.proofs.DumpTexts.{goes_on}
 use Rattle.embedded.proofs.database.Database.put_more.Goals as goal
 

@@ -1,6 +1,6 @@
 use Rattle.std.proofs.Common.{◌≡◌, ◌-◌, List, length}
 use Rattle.embedded.proofs.Common.{Event, effects_of, horizon_of}
-use Rattle.embedded.specs.DumpTexts.{filled}
+use Rattle.embedded.specs.Dumping.{filled}
 use Rattle.embedded.specs.Embedded.{StandsFor}
 use Rattle.embedded.proofs.database.Database.put_more.Given as goal
 

@@ -1,7 +1,7 @@
 use Rattle.std.proofs.Common.{◌≡◌, List, ℕ, [], Option, Some, subst}
 use Rattle.embedded.proofs.Common.{IfOk-weaker, effects_of}
 use Rattle.embedded.specs.declared.dumping.DumpPlace.{DumpPlace}
-use Rattle.embedded.specs.DumpTexts.{AreTexts, IsNextText, filled}
+use Rattle.embedded.specs.Dumping.{AreTexts, IsNextText, filled}
 use Rattle.embedded.proofs.DumpTexts.{first_then}
 use Rattle.embedded.proofs.database.Database.put_texts.Goals as goal
 

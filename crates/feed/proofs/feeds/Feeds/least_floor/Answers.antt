@@ -1,7 +1,7 @@
 use Rattle.std.specs.Prelude.{nat_eq}
 use Rattle.feed.proofs.Common.{contains, is_at, lookup}
 use Rattle.spans.proofs.Sets.{none_in}
-use Rattle.feed.specs.Ties.{pair_cmp}
+use Rattle.feed.specs.Standing.{pair_cmp}
 use Rattle.feed.proofs.Least.{least_is, none_live}
 use Rattle.feed.proofs.feeds.Feeds.least_floor.Goals as goal
 

@@ -1,7 +1,7 @@
 use Rattle.std.proofs.Common.{ap, arith, max, subst, sym, ◌≡◌, ◌≤◌, ◌∙◌}
 use Rattle.feed.proofs.Common.{is_at, list_any, place_floor, start_at}
 use Rattle.spans.proofs.Listing.{start_low}
-use Rattle.feed.specs.Ties.{AreTied, pair_cmp}
+use Rattle.feed.specs.Standing.{AreTied, pair_cmp}
 use Rattle.feed.proofs.Tying.{tied_put}
 use Rattle.feed.proofs.feeds.Feeds.open.Goals as goal
 

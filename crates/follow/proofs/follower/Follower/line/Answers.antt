@@ -1,4 +1,4 @@
-use Rattle.sessions.specs.Writing.{pending_of}
+use Rattle.sessions.specs.Devices.{pending_of}
 use Rattle.follow.proofs.Steps.{stop_line, go_written, stop_written}
 use Rattle.follow.proofs.follower.Follower.line.Goals as goal
 

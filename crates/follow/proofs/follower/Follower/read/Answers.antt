@@ -5,9 +5,8 @@ use Rattle.json_lines.specs.declared.fault.MessageFault.TheVariants as message
 use Rattle.follow.specs.declared.fault.FollowError.{FollowError}
 use Rattle.follow.specs.declared.fault.FollowError.TheVariants as errors
 use Rattle.follow.specs.declared.follower.Follower.{Follower}
-use Rattle.follow.specs.Followed.{is_chosen, error_of_message}
-use Rattle.follow.specs.Following.{line_at, chosen_at}
-use Rattle.follow.specs.Taking.{front_of, IsMisreadAt}
+use Rattle.follow.specs.Following.{is_chosen, error_of_message, line_at, chosen_at}
+use Rattle.follow.specs.Steps.{front_of, IsMisreadAt}
 use Rattle.follow.proofs.Lines.{line_misread, line_chosen, line_message}
 use Rattle.follow.proofs.follower.Follower.read.Goals as goal
 

@@ -1,6 +1,6 @@
 use Rattle.std.proofs.Common.{◌≡◌, [], Option, ℕ, refl, rules, subst, sym}
 use Rattle.replica.specs.Replicas.{view_in}
-use Rattle.follow.specs.Telling.{TellsAt}
+use Rattle.follow.specs.Reports.{TellsAt}
 use Rattle.follow.proofs.Tellings.{tells_rows}
 use Rattle.follow.proofs.telling.Telling.tell.Goals as goal
 

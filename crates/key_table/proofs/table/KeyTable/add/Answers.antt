@@ -1,8 +1,7 @@
 use Rattle.std.proofs.Common.{ap, refl, sym, ◌∙◌, subst, ◌≡◌, ℕ, List, Some, None}
 use Rattle.key_table.proofs.Common.{Slab, get, key_cmp}
 use Rattle.slab.specs.Slab as slab
-use Rattle.key_table.specs.Numbers.{number_in, IsNumberedAt}
-use Rattle.key_table.specs.Ties.{AreTied}
+use Rattle.key_table.specs.Numbers.{number_in, IsNumberedAt, AreTied}
 use Rattle.key_table.proofs.Numbering.{ArePut, tied_more, numbered_at, own_at}
 use Rattle.key_table.proofs.table.KeyTable.add.Goals as goal
 

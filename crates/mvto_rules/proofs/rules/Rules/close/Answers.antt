@@ -1,7 +1,6 @@
 use Rattle.std.proofs.Common.{ap, arith, rules, subst, sym, ◌≤◌, ◌∙◌}
 use Rattle.mvto_rules.proofs.Common.{MAX, closed_in, made_in, nat_tests, protections_in}
-use Rattle.mvto_rules.specs.Closings.{AreMarksForgotten}
-use Rattle.mvto_rules.specs.Holding.{holding}
+use Rattle.mvto_rules.specs.Holding.{AreMarksForgotten, holding}
 use Rattle.mvto_rules.proofs.Closing.{close_done, close_outside, closed_so}
 use Rattle.mvto_rules.proofs.rules.Rules.close.Goals as goal
 

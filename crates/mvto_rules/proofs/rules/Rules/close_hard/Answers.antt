@@ -2,8 +2,7 @@ use Rattle.std.specs.Prelude.{nat_lt}
 use Rattle.mvto_rules.proofs.Common.{IsClosedAt, MAX, closed_in, is_committed_in, made_in, nat_tests, protections_in, version_in}
 use Rattle.mvto_rules.proofs.Noting.{same_marks}
 use Rattle.std.proofs.Common.{ap, arith, ◌&&◌, rules, subst, sym, ◌≤◌, ◌∙◌}
-use Rattle.mvto_rules.specs.Closings.{AreMarksForgotten}
-use Rattle.mvto_rules.specs.Holding.{holding}
+use Rattle.mvto_rules.specs.Holding.{AreMarksForgotten, holding}
 use Rattle.mvto_rules.proofs.Closing.{closed_so, hard_closed, hard_done, hard_outside}
 use Rattle.mvto_rules.proofs.rules.Rules.close_hard.Goals as goal
 

@@ -2,8 +2,7 @@ use Rattle.std.proofs.Common.{None, ap, arith, cond, false, sym, true, ◌≡◌
 use Rattle.std.specs.Prelude.{nat_lt}
 use Rattle.std.proofs.lemmas.Bool.Decides.{nat_tests}
 use Rattle.mvto_rules.specs.Holding.{holding}
-use Rattle.mvto_rules.specs.Room.{end_seen}
-use Rattle.mvto_rules.specs.Scans.{keys_in}
+use Rattle.mvto_rules.specs.Scans.{end_seen, keys_in}
 use Rattle.mvto_rules.proofs.Scanning.{keys_are}
 use Rattle.mvto_rules.proofs.rules.Rules.end_within.Goals as goal
 

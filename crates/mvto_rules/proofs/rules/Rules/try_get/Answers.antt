@@ -1,7 +1,7 @@
 use Rattle.std.proofs.Common.{ap, arith, refl, rules, subst, sym, ◌≤◌, ◌∙◌, ◌≡◌}
 use Rattle.mvto_rules.proofs.Common.{Found, IsNextAbove, IsReadBy, Kept, MAX, alike_self, any_err, common_steps, option_copied, seen, version_in}
 use Rattle.mvto_rules.specs.Holding.{holding}
-use Rattle.mvto_rules.specs.Sights.{sight_of, value_in}
+use Rattle.mvto_rules.specs.Scans.{sight_of, value_in}
 use Rattle.mvto_rules.specs.declared.sight.Sight.{Sight}
 use Rattle.mvto_rules.proofs.Noting.{gap_read, own_is_read, past_until, stays}
 use Rattle.mvto_rules.proofs.Replies.{get_refused}

@@ -1,7 +1,7 @@
 use Rattle.std.proofs.Common.{None, Some, refl, subst, sym, ◌∙◌, ◌≤◌}
 use Rattle.mvto_rules.proofs.Common.{IsScanReply, MAX, IsScannedBy, Rows, alike_self, any_err}
 use Rattle.mvto_rules.specs.Holding.{holding}
-use Rattle.mvto_rules.specs.Readings.{IsReading}
+use Rattle.mvto_rules.specs.Scans.{IsReading}
 use Rattle.mvto_rules.proofs.Noting.{stays}
 use Rattle.mvto_rules.proofs.Replies.{scan_refused}
 use Rattle.mvto_rules.proofs.Scanning.{scan_found, scanned}

@@ -1,7 +1,7 @@
 use Rattle.std.proofs.Common.{◌≡◌, ◌-◌, ◌∙◌, ap, arith, rules, subst, sym}
 use Rattle.mvto_rules.proofs.Common.{common_steps}
-use Rattle.spans.specs.Newest.{newest, version_at}
-use Rattle.mvto_rules.specs.Looking.{value_at}
+use Rattle.spans.specs.Versions.{newest, version_at}
+use Rattle.mvto_rules.specs.Holding.{value_at}
 use Rattle.mvto_rules.proofs.Committed.{committed_in, newest_done, newest_nowhere, newest_passed}
 use Rattle.mvto_rules.proofs.rules.Rules.version_at.Goals as goal
 

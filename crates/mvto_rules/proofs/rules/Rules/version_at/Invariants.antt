@@ -1,5 +1,5 @@
 use Rattle.std.proofs.Common.{◌≡◌}
-use Rattle.spans.specs.Newest.{newest}
+use Rattle.spans.specs.Versions.{newest}
 use Rattle.mvto_rules.proofs.Committed.{committed_in}
 use Rattle.mvto_rules.proofs.rules.Rules.version_at.Given as goal
 

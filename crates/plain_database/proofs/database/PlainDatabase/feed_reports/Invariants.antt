@@ -1,5 +1,5 @@
 use Rattle.std.proofs.Common.{drop, reverse}
-use Rattle.plain_database.specs.Answering.{AfterEach}
+use Rattle.plain_database.specs.Tied.{AfterEach}
 use Rattle.plain_database.proofs.Reporting.{AreSoFar}
 use Rattle.plain_database.proofs.database.PlainDatabase.feed_reports.Given as goal
 

@@ -1,7 +1,7 @@
 use Rattle.std.proofs.Common.{◌∙◌, ap, arith, rules}
 use Rattle.std.specs.Prelude.{filter}
 use Rattle.std.proofs.lemmas.Fn.{filter_same}
-use Rattle.plain_database.specs.Dumps.{is_kept}
+use Rattle.plain_database.specs.Streams.{is_kept}
 use Rattle.plain_database.proofs.Common.{all_keys, effects_of, legal_allowed, stream_of}
 use Rattle.plain_database.proofs.Dumping.{left_are}
 use Rattle.plain_database.proofs.Taken.{all_taken}

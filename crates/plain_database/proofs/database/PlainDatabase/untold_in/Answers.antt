@@ -1,6 +1,6 @@
 use Rattle.std.proofs.Common.{Some, ap, arith, length}
 use Rattle.plain_database.proofs.Common.{effects_of, untold_rows}
-use Rattle.plain_database.specs.Records.{feed_part}
+use Rattle.plain_database.specs.FeedTie.{feed_part}
 use Rattle.plain_database.proofs.Taken.{all_taken}
 use Rattle.plain_database.proofs.database.PlainDatabase.untold_in.Goals as goal
 

@@ -1,5 +1,5 @@
 use Rattle.std.proofs.Common.{◌≡◌}
-use Rattle.plain_database.specs.Filling.{filled, write_rows}
+use Rattle.plain_database.specs.Replies.{filled, write_rows}
 use Rattle.plain_database.proofs.versions.scans.add_writes.Given as goal
 
 -- with the rows of the writes that are left, all rows are there

@@ -2,7 +2,7 @@ use Rattle.std.proofs.Common.{ap, sym, ◌≡◌, ◌∙◌, ◌||◌, Some, Non
 use Rattle.replica.proofs.Common.{is_at, key_cmp, list_any, lookup, nil_from_length, one_more}
 use Rattle.std.specs.Prelude.{bytes_eq, is_some}
 use Rattle.spans.proofs.Results.{any_err}
-use Rattle.replica.specs.Indexes.{is_among}
+use Rattle.replica.specs.Rows.{is_among}
 use Rattle.replica.proofs.Listed.{ArePutAt, listed_more, listed_same}
 use Rattle.replica.proofs.index.Index.add.Goals as goal
 

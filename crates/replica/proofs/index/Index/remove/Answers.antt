@@ -1,7 +1,7 @@
 use Rattle.std.proofs.Common.{ap, sym, ◌∙◌, Some, None, cond, false, rules, ◌≡◌}
 use Rattle.replica.proofs.Common.{is_at, key_cmp, list_any, lookup, nil_from_length, one_less}
 use Rattle.std.specs.Prelude.{is_some, bytes_eq}
-use Rattle.replica.specs.Indexes.{is_among}
+use Rattle.replica.specs.Rows.{is_among}
 use Rattle.replica.proofs.Listed.{ArePutAt, listed_less, put_at_twice}
 use Rattle.replica.proofs.index.Index.remove.Goals as goal
 

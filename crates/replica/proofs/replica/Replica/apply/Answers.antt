@@ -1,5 +1,5 @@
 use Rattle.std.proofs.Common.{ap, sym, refl, ◌≡◌, ◌∙◌, Some, None}
-use Rattle.replica.specs.Tests.{fault_in}
+use Rattle.replica.specs.Replicas.{fault_in}
 use Rattle.replica.proofs.Rests.{none_of}
 use Rattle.replica.proofs.Following.{fault_is, takes_resolved, resolved_above}
 use Rattle.replica.proofs.replica.Replica.apply.Goals as goal

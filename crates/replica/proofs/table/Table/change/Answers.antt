@@ -1,7 +1,5 @@
-use Rattle.std.proofs.Common.{sym, None}
-use Rattle.replica.specs.Indexes.{is_listed}
-use Rattle.replica.specs.Rows.{value_at}
-use Rattle.std.proofs.Common.{arith}
+use Rattle.std.proofs.Common.{sym, None, arith}
+use Rattle.replica.specs.Rows.{is_listed, value_at}
 use Rattle.replica.proofs.Common.{common_steps}
 use Rattle.replica.proofs.Listed.{at_bytes}
 use Rattle.replica.proofs.Tied.{put_at, tied_less}

@@ -1,8 +1,5 @@
-use Rattle.std.proofs.Common.{sym, ◌≡◌, ◌∙◌, Some, false}
-use Rattle.replica.specs.Indexes.{is_listed}
-use Rattle.replica.specs.Rows.{value_at}
-use Rattle.replica.specs.Values.{has_value}
-use Rattle.std.proofs.Common.{arith}
+use Rattle.std.proofs.Common.{sym, ◌≡◌, ◌∙◌, Some, false, arith}
+use Rattle.replica.specs.Rows.{is_listed, value_at, has_value}
 use Rattle.replica.proofs.Common.{common_steps}
 use Rattle.replica.proofs.Listed.{at_bytes}
 use Rattle.replica.proofs.Putting.{ties_new, ties_other}

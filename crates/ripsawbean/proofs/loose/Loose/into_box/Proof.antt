@@ -38,7 +38,7 @@ use Rattle.std.specs.contracts.alloc.Global as global
 use Rattle.std.specs.contracts.boxed.Box.from_raw as callee
 use Rattle.std.proofs.boxed.Box.from_raw.Met.{met}
 use Rattle.ripsawbean.proofs.Destruct++none.drop.Code as drops
-use Rattle.ripsawbean.specs.Heap.{token}
+use Rattle.ripsawbean.specs.Handles.{token}
 use Rattle.ripsawbean.proofs.Heap.{Z, LZ, lets_go, heap, boxed}
 use Rattle.ripsawbean.proofs.LooseValues.{pointer, kept, loose_out}
 use Rattle.ripsawbean.specs.contracts.loose.Loose as loose

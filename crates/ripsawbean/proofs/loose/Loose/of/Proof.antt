@@ -36,7 +36,7 @@ use Rattle.std.proofs.BoxSteps.Form as form
 use Rattle.std.specs.contracts.boxed.Box.into_raw as callee
 use Rattle.std.proofs.boxed.Box.into_raw.Met.{met}
 use Rattle.ripsawbean.proofs.Destruct++none.drop.Code as drops
-use Rattle.ripsawbean.specs.Heap.{token}
+use Rattle.ripsawbean.specs.Handles.{token}
 use Rattle.ripsawbean.proofs.Heap.{Z, LZ, lets_go, boxed, Boxed}
 use Rattle.ripsawbean.proofs.LooseValues.{pointer, loose_in}
 use Rattle.ripsawbean.specs.contracts.loose.Loose.of.{ended, clauses}

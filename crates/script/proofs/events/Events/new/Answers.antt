@@ -1,6 +1,6 @@
 use Rattle.std.proofs.Common.{◌≡◌, ℕ, ◌+◌, ◌≤◌, length, arith, ap, ◌∙◌}
 use Rattle.script.proofs.Common.{header_lines, length-drop}
-use Rattle.script.specs.Lines.{Place, lines_of}
+use Rattle.script.specs.EventLines.{Place, lines_of}
 use Rattle.script.proofs.Headers.{front_found, front_left, front_missing, no_front}
 use Rattle.script.proofs.TakeLines.{few_left, whole_left}
 use Rattle.script.proofs.events.Events.new.Goals as goal

@@ -1,6 +1,6 @@
 use Rattle.std.proofs.Common.{ap, ◌∙◌, length}
 use Rattle.std.specs.Prelude.{◌==◌}
-use Rattle.script.specs.Lines.{Place}
+use Rattle.script.specs.EventLines.{Place}
 use Rattle.script.proofs.CutLines.{lines_some}
 use Rattle.script.proofs.lines.Lines.is_empty.Goals as goal
 

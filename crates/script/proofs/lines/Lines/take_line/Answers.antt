@@ -1,5 +1,5 @@
 use Rattle.std.proofs.Common.{refl, sym, ap, ◌∙◌}
-use Rattle.script.specs.Lines.{Place}
+use Rattle.script.specs.EventLines.{Place}
 use Rattle.script.proofs.CutLines.{lines_none}
 use Rattle.script.proofs.lines.Lines.take_line.Goals as goal
 

@@ -2,7 +2,7 @@ use Rattle.std.proofs.Common.{◌≡◌, ◌∙◌, sym, subst, rules, [], ◌�
 use Rattle.sessions.proofs.Common.{IfErr-weaker, IfOk-weaker, IsAnswered, IsSpent}
 use mathlib.Core.Option.{some}
 use lib.ListN.{get_elem?}
-use Rattle.sessions.specs.Made.{HasMade}
+use Rattle.sessions.specs.Runs.{HasMade}
 use Rattle.sessions.proofs.Halves.{read_at}
 use Rattle.sessions.proofs.Seating.{lent, back}
 use Rattle.sessions.proofs.Making.{call_made, spent_made, spent_known}

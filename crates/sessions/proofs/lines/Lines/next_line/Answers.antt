@@ -1,6 +1,6 @@
 use Rattle.std.proofs.Common.{ℕ, ◌+◌, ◌∙◌, ap}
 use Rattle.std.proofs.lemmas.Result.{err_from_is_err_and}
-use Rattle.sessions.specs.Writing.{pending_of}
+use Rattle.sessions.specs.Devices.{pending_of}
 use Rattle.sessions.proofs.Transcripts.{begun_on}
 use Rattle.sessions.proofs.lines.Lines.next_line.Goals as goal
 

@@ -1,8 +1,7 @@
 use Rattle.std.proofs.Common.{◌≡◌, ◌+◌, ◌-◌, cond, length, None, Ok}
 use Rattle.text_format.specs.Limits.{line_limit}
-use Rattle.sessions.specs.Waiting.{waiting, WantsMore}
-use Rattle.sessions.specs.Writing.{pending_of, HasWritten}
-use Rattle.sessions.specs.NextLines.{HasReadOn, IsNeeded}
+use Rattle.sessions.specs.Waiting.{waiting, WantsMore, HasReadOn, IsNeeded}
+use Rattle.sessions.specs.Devices.{pending_of, HasWritten}
 use Rattle.sessions.proofs.lines.Lines.next_line.Given as goal
 
 abbrev pub invariant-loop-output : goal.invariant-loop-output

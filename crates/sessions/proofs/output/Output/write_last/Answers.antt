@@ -1,8 +1,7 @@
 use Rattle.std.proofs.Common.{◌≡◌, ◌∙◌, ℕ, ◌+◌, List, [], ◌++◌, Result, Ok, Err, ap, subst}
 use Rattle.std.proofs.lemmas.Result.{err_from_is_err_and}
 use Rattle.sessions.specs.declared.devices.WriteFailed.{WriteFailed}
-use Rattle.sessions.specs.Devices.{Writes}
-use Rattle.sessions.specs.Writing.{pending_of, HasTaken, HasWritten}
+use Rattle.sessions.specs.Devices.{Writes, pending_of, HasTaken, HasWritten}
 use Rattle.sessions.proofs.Transcripts.{begun_on, taken_before, taken_on}
 use Rattle.sessions.proofs.output.Output.write_last.Goals as goal
 

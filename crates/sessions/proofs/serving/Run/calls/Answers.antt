@@ -1,6 +1,6 @@
 use Rattle.std.proofs.Common.{◌≡◌, ◌∙◌, [], ◌∷◌, ◌++◌, None, subst, length-append, arith, rules}
 use Rattle.std.proofs.lemmas.Result.{err_from_is_err_and}
-use Rattle.sessions.specs.NextLines.{IsNextLine}
+use Rattle.sessions.specs.Waiting.{IsNextLine}
 use Rattle.sessions.proofs.Steps.{go_on, stop_done, stop_sought}
 use Rattle.sessions.proofs.serving.Run.calls.Goals as goal
 

@@ -1,6 +1,6 @@
 use Rattle.std.proofs.Common.{subst, ◌≡◌}
 use Rattle.engine.specs.declared.Engine.{Engine}
-use Rattle.shared_db.specs.Whole.{IsWhole}
+use Rattle.shared_db.specs.Seats.{IsWhole}
 use Rattle.shared_db.proofs.Finishing.{whole}
 use Rattle.shared_db.proofs.db.Db.finish.Goals as goal
 

@@ -1,6 +1,6 @@
 use Rattle.std.proofs.Common.{rules, [], ◌∷◌, ◌≡◌, ◌∙◌, length, take, sym, ap, arith}
 use Rattle.std.proofs.lemmas.List.{take_at}
-use Rattle.spans.specs.Successors.{successor}
+use Rattle.spans.specs.KeyOrder.{successor}
 use Rattle.spans.proofs.Succeeding.{above_successor}
 use Rattle.spans.proofs.bound.Bound.successor.Goals as goal
 

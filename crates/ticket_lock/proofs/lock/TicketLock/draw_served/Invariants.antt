@@ -1,6 +1,5 @@
 use Rattle.std.proofs.Common.{◌≡◌}
-use Rattle.ticket_lock.specs.Proper.{IsSamePass}
-use Rattle.ticket_lock.specs.Views.{looked, looking}
+use Rattle.ticket_lock.specs.Views.{IsSamePass, looked, looking}
 use Rattle.ticket_lock.proofs.lock.TicketLock.draw_served.Given as goal
 
 abbrev pub invariant-loop : goal.invariant-loop

@@ -1,8 +1,7 @@
 use Rattle.std.proofs.Common.{sym, subst}
 use Rattle.std.proofs.lemmas.List.{get_or_default}
-use Rattle.version_chain.specs.Versions.{IsPlaceOf}
+use Rattle.version_chain.specs.Versions.{IsPlaceOf, versions_in}
 use Rattle.version_chain.proofs.Edits.{some_version, rises_commit, commit_finds, unmarked, none_free}
-use Rattle.version_chain.specs.Layout.{versions_in}
 use Rattle.version_chain.proofs.chain.Chain.commit.Goals as goal
 
 pub invariant_of-self : goal.invariant_of-self

@@ -2,8 +2,7 @@ use Rattle.std.proofs.Common.{◌≡◌, ◌&&◌, ◌+◌, ◌∙◌, ap, arith
 use Rattle.std.specs.Prelude.{bytes_eq}
 use Rattle.version_chain.proofs.Common.{filter, length-filter_both}
 use Rattle.version_chain.specs.declared.chain.Version.{Version}
-use Rattle.version_chain.specs.Versions.{DoRise}
-use Rattle.version_chain.specs.Layout.{versions_in}
+use Rattle.version_chain.specs.Versions.{DoRise, versions_in}
 use Rattle.version_chain.specs.Dead.{is_dead_at, is_dead_version, newest_of}
 use Rattle.version_chain.specs.Indexes.{is_listed}
 use Rattle.version_chain.proofs.Chained.{dead_before, live_above, rises_kept}

@@ -1,7 +1,6 @@
 use Rattle.std.proofs.Common.{sym, subst}
-use Rattle.version_chain.specs.Versions.{DoRise}
+use Rattle.version_chain.specs.Versions.{DoRise, versions_in}
 use Rattle.version_chain.proofs.Edits.{rises_remove, remove_finds, untaken, none_free}
-use Rattle.version_chain.specs.Layout.{versions_in}
 use Rattle.version_chain.proofs.chain.Chain.remove.Goals as goal
 
 pub invariant_of-self : goal.invariant_of-self

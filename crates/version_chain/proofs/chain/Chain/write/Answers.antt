@@ -1,8 +1,7 @@
 use Rattle.std.proofs.Common.{ap, sym, ◌∙◌, subst}
 use Rattle.std.specs.Prelude.{is_none}
-use Rattle.version_chain.specs.Versions.{DoRise, version_of}
+use Rattle.version_chain.specs.Versions.{DoRise, version_of, versions_in}
 use Rattle.version_chain.proofs.Edits.{rises_set, set_finds, rises_insert, insert_finds, some_placed, none_free}
-use Rattle.version_chain.specs.Layout.{versions_in}
 use Rattle.version_chain.proofs.chain.Chain.write.Goals as goal
 
 pub invariant_of-self : goal.invariant_of-self

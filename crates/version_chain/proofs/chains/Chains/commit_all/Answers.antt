@@ -1,7 +1,7 @@
 use Rattle.std.proofs.Common.{subst, sym, ◌∙◌}
 use Rattle.std.specs.Prelude.{option_map}
 use Rattle.version_chain.specs.Versions.{as_committed}
-use Rattle.version_chain.specs.Chains.{AreChangedAt}
+use Rattle.version_chain.specs.Stores.{AreChangedAt}
 use Rattle.version_chain.specs.Records.{stored_of}
 use Rattle.version_chain.proofs.Turns.{changes_more, changes_none, marked_twice}
 use Rattle.version_chain.proofs.chains.Chains.commit_all.Goals as goal

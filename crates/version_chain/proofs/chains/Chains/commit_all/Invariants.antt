@@ -1,6 +1,6 @@
 use Rattle.std.specs.Prelude.{option_map}
 use Rattle.version_chain.specs.Versions.{as_committed}
-use Rattle.version_chain.specs.Chains.{HaveSameMarks}
+use Rattle.version_chain.specs.Stores.{HaveSameMarks}
 use Rattle.version_chain.specs.Records.{stored_of}
 use Rattle.version_chain.proofs.Turns.{IsChanging}
 use Rattle.version_chain.proofs.chains.Chains.commit_all.Given as goal

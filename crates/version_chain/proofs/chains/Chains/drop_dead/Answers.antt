@@ -1,6 +1,6 @@
 use Rattle.std.proofs.Common.{◌≡◌, ◌∙◌, [], refl, sym}
 use Rattle.version_chain.specs.declared.record.Record.{Record}
-use Rattle.version_chain.specs.Chains.{chain_of}
+use Rattle.version_chain.specs.Stores.{chain_of}
 use Rattle.version_chain.specs.Records.{IsPut, stored_of}
 use Rattle.version_chain.proofs.Recorded.{IsHere, chain_here, chain_nowhere, changed_chain, kept_marks}
 use Rattle.version_chain.proofs.Thinning.{thinned_none, thinned_put, counted_left, unlisted_in, unlisted_none}

@@ -1,6 +1,6 @@
 use Rattle.std.proofs.Common.{ap}
 use Rattle.version_chain.specs.ByNumber.{chains_in, entries_of}
-use Rattle.version_chain.specs.InSpans.{filled}
+use Rattle.version_chain.specs.Stores.{filled}
 use Rattle.version_chain.proofs.InSpans.{are_found}
 use Rattle.version_chain.proofs.chains.Chains.in_span.Goals as goal
 

@@ -1,5 +1,5 @@
 use Rattle.std.proofs.Common.{None, refl, subst, sym, ◌∙◌}
-use Rattle.version_chain.specs.Chains.{AreChangedAt}
+use Rattle.version_chain.specs.Stores.{AreChangedAt}
 use Rattle.version_chain.specs.Records.{stored_of}
 use Rattle.version_chain.proofs.Turns.{changes_more, changes_none}
 use Rattle.version_chain.proofs.chains.Chains.remove_all.Goals as goal

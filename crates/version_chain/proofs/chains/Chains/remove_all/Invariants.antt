@@ -1,5 +1,5 @@
 use Rattle.std.proofs.Common.{None}
-use Rattle.version_chain.specs.Chains.{HaveSameMarks}
+use Rattle.version_chain.specs.Stores.{HaveSameMarks}
 use Rattle.version_chain.specs.Records.{stored_of}
 use Rattle.version_chain.proofs.Turns.{IsChanging}
 use Rattle.version_chain.proofs.chains.Chains.remove_all.Given as goal

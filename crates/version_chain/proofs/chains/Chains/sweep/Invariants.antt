@@ -1,7 +1,7 @@
 use Rattle.std.proofs.Common.{◌≡◌, ◌<◌, ◌⊎◌, ℕ, List, [], length, true}
 use Rattle.std.specs.Prelude.{slice_index_or}
 use Rattle.version_chain.proofs.Common.{is_reader, latest_in}
-use Rattle.version_chain.specs.Chains.{HaveSameChains, HaveSameMarks}
+use Rattle.version_chain.specs.Stores.{HaveSameChains, HaveSameMarks}
 use Rattle.version_chain.specs.ByNumber.{readers_in}
 use Rattle.version_chain.specs.Records.{stored_of}
 use Rattle.version_chain.proofs.chains.Chains.sweep.Given as goal

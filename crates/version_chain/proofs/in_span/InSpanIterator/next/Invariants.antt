@@ -1,6 +1,6 @@
 use Rattle.std.proofs.Common.{length, ◌≡◌}
 use Rattle.version_chain.specs.ByNumber.{chains_in, entries_of}
-use Rattle.version_chain.specs.InSpans.{filled}
+use Rattle.version_chain.specs.Stores.{filled}
 use Rattle.version_chain.proofs.in_span.InSpanIterator.next.Given as goal
 
 abbrev pub invariant-loop-key : goal.invariant-loop-key

@@ -1,5 +1,5 @@
 use Rattle.std.proofs.Common.{sym, ◌∙◌, ap, subst, rules}
-use Rattle.version_chain.specs.InSpans.{AreAhead, numbered_in}
+use Rattle.version_chain.specs.Stores.{AreAhead, numbered_in}
 use Rattle.version_chain.proofs.InSpans.{step_inside, step_past}
 use Rattle.version_chain.proofs.in_span.NumbersInIterator.next.Goals as goal
 

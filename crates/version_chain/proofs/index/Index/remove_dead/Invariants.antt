@@ -1,7 +1,7 @@
 use Rattle.std.proofs.Common.{◌≡◌, ◌&&◌, ℕ, List, cond, false, take}
 use Rattle.std.specs.Prelude.{bytes_eq}
 use Rattle.version_chain.specs.Dead.{is_dead_at}
-use Rattle.version_chain.specs.Layout.{versions_in}
+use Rattle.version_chain.specs.Versions.{versions_in}
 use Rattle.version_chain.specs.Indexes.{is_listed, AreTakenAlike}
 use Rattle.version_chain.proofs.index.Index.remove_dead.Given as goal
 

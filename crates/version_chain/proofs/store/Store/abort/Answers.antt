@@ -1,5 +1,5 @@
 use Rattle.std.proofs.Common.{None, arith, subst, sym, ◌-◌}
-use Rattle.version_chain.specs.Chains.{AreChangedAt}
+use Rattle.version_chain.specs.Stores.{AreChangedAt}
 use Rattle.version_chain.specs.Indexes.{IsSound}
 use Rattle.version_chain.specs.Records.{stored_of}
 use Rattle.version_chain.proofs.Soundness.{sound_drop}

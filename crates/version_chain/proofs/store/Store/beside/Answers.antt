@@ -1,7 +1,6 @@
 use Rattle.std.proofs.Common.{[], ap, arith, subst, sym}
 use Rattle.std.specs.Option.{option_copied}
-use Rattle.version_chain.specs.Following.{Walk}
-use Rattle.version_chain.specs.Walking.{IsBeside}
+use Rattle.version_chain.specs.Walking.{Walk, IsBeside}
 use Rattle.version_chain.specs.Records.{stored_of}
 use Rattle.version_chain.proofs.Walking.{none_beside, some_beside}
 use Rattle.version_chain.proofs.store.Store.beside.Goals as goal

@@ -1,6 +1,6 @@
 use Rattle.std.proofs.Common.{[], ap, arith, ◌∙◌}
 use Rattle.std.specs.Prelude.{is_some, option_map}
-use Rattle.version_chain.specs.Chains.{found_in}
+use Rattle.version_chain.specs.Stores.{found_in}
 use Rattle.version_chain.specs.Versions.{as_committed}
 use Rattle.version_chain.specs.Records.{stored_of}
 use Rattle.version_chain.proofs.Counts.{count_at}

@@ -1,6 +1,5 @@
 use Rattle.std.proofs.Common.{◌≡◌, ℕ, List, None, cond, subst, sym}
-use Rattle.version_chain.specs.Chains.{found_in}
-use Rattle.version_chain.specs.Stores.{IsCountOf}
+use Rattle.version_chain.specs.Stores.{found_in, IsCountOf}
 use Rattle.version_chain.specs.Dead.{is_dead_in}
 use Rattle.version_chain.specs.Indexes.{IsIndexOf}
 use Rattle.version_chain.specs.Records.{stored_of}

@@ -1,6 +1,6 @@
 use Rattle.std.proofs.Common.{◌∙◌, ◌&&◌, ap, subst}
 use Rattle.version_chain.proofs.Common.{RisingKeys, filter, in_span, keys_of}
-use Rattle.version_chain.specs.Chains.{Entry, Stored, has_versions}
+use Rattle.version_chain.specs.Stores.{Entry, Stored, has_versions}
 use Rattle.version_chain.proofs.store.Store.in_span.Goals as goal
 
 pub returns-clause-found : goal.returns-clause-found

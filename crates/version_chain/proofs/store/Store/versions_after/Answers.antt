@@ -1,7 +1,6 @@
 use Rattle.std.proofs.Common.{subst, sym}
 use Rattle.std.specs.Option.{option_copied}
-use Rattle.version_chain.specs.Following.{Walk}
-use Rattle.version_chain.specs.Walking.{IsBeside, keys_ahead}
+use Rattle.version_chain.specs.Walking.{Walk, IsBeside, keys_ahead}
 use Rattle.version_chain.specs.Records.{stored_of}
 use Rattle.version_chain.proofs.Walking.{begins}
 use Rattle.version_chain.proofs.store.Store.versions_after.Goals as goal

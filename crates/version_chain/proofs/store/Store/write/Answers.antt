@@ -3,7 +3,7 @@ use Rattle.std.specs.Prelude.{bytes_eq}
 use Rattle.std.specs.Option.{option_copied}
 use Rattle.version_chain.specs.declared.chain.Version.{Version}
 use Rattle.version_chain.specs.Indexes.{is_listed}
-use Rattle.version_chain.specs.Chains.{IsChangedAt}
+use Rattle.version_chain.specs.Stores.{IsChangedAt}
 use Rattle.version_chain.specs.Records.{IsPlacedIn, stored_of}
 use Rattle.version_chain.proofs.Changes.{found_alike}
 use Rattle.version_chain.proofs.Counts.{counted_more, counted_replaced}

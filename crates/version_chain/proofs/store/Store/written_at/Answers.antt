@@ -1,6 +1,6 @@
 use Rattle.std.proofs.Common.{ap, ◌∙◌}
 use Rattle.std.specs.Prelude.{is_some}
-use Rattle.version_chain.specs.Chains.{found_in}
+use Rattle.version_chain.specs.Stores.{found_in}
 use Rattle.version_chain.proofs.Counts.{count_at}
 use Rattle.version_chain.proofs.store.Store.written_at.Goals as goal
 

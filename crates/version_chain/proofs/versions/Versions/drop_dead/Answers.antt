@@ -2,7 +2,7 @@ use Rattle.std.proofs.Common.{ap, filter, not, rules, sym, ◌∙◌}
 use Rattle.std.proofs.lemmas.Fn.{filter_same}
 use Rattle.version_chain.specs.declared.chain.Version.{Version}
 use Rattle.version_chain.specs.Dead.{is_dead_version}
-use Rattle.version_chain.specs.Layout.{versions_in}
+use Rattle.version_chain.specs.Versions.{versions_in}
 use Rattle.version_chain.proofs.versions.Versions.drop_dead.Goals as goal
 
 pub returns-in-Short : goal.returns-in-Short

@@ -1,7 +1,6 @@
 use Rattle.std.proofs.Common.{Some, [], subst, sym}
 use Rattle.spans.proofs.Keyed.{RisingKeys}
-use Rattle.version_chain.specs.Following.{Walk}
-use Rattle.version_chain.specs.Walking.{IsAhead, keys_ahead}
+use Rattle.version_chain.specs.Walking.{Walk, IsAhead, keys_ahead}
 use Rattle.version_chain.proofs.Walking.{finds, goes_on, goes_to}
 use Rattle.version_chain.proofs.versions_after.VersionsAfter.next.Goals as goal
 

@@ -2,7 +2,7 @@ use Rattle.std.proofs.Common.{◌≡◌, drop}
 use Rattle.std.specs.Prelude.{option_map}
 use Rattle.std.specs.Option.{option_copied, option_or}
 use Rattle.plain_database.proofs.Common.{name_of}
-use Rattle.plain_database.specs.Records.{told_more}
+use Rattle.plain_database.specs.FeedTie.{told_more}
 use Rattle.plain_database.proofs.feeds.record.Told.add.Given as goal
 
 -- what is left gives the whole answer

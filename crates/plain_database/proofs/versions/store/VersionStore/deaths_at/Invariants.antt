@@ -1,6 +1,6 @@
 use Rattle.std.proofs.Common.{◌≡◌, ◌+◌, ◌-◌, ◌^◌, ◌≤◌}
 use Rattle.std.specs.Prelude.{min}
-use Rattle.plain_database.specs.Counts.{deaths_by}
+use Rattle.plain_database.specs.VersionsTied.{deaths_by}
 use Rattle.plain_database.proofs.versions.store.VersionStore.deaths_at.Given as goal
 
 -- so many with those that are to come

@@ -1,6 +1,6 @@
 use Rattle.std.proofs.Common.{◌≡◌, ◌+◌, ◌-◌, ◌^◌, ◌≤◌}
 use Rattle.std.specs.Prelude.{min}
-use Rattle.plain_database.specs.Counts.{deaths_by}
+use Rattle.plain_database.specs.VersionsTied.{deaths_by}
 use Rattle.plain_database.proofs.Walked.{between, total}
 use Rattle.plain_database.proofs.versions.store.VersionStore.died_between.Given as goal
 

@@ -4,7 +4,7 @@ use Rattle.std.specs.Map.Iter.{deref_pair}
 use Rattle.std.proofs.lemmas.Iterator.Consumers.{YieldsList-from_rest}
 use Rattle.std.proofs.lemmas.Iterator.Search.{find_from_yields_List}
 use Rattle.plain_database.proofs.Opening.{stopped_is}
-use Rattle.plain_database.specs.Opens.{is_open}
+use Rattle.plain_database.specs.VersionsTied.{is_open}
 use Rattle.plain_database.specs.declared.versions.begun.Begun.{Begun}
 use Rattle.plain_database.proofs.versions.store.VersionStore.oldest_open.Goals as goal
 

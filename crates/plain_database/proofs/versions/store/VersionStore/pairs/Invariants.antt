@@ -1,7 +1,7 @@
 use Rattle.std.proofs.Common.{◌≡◌, ◌≤◌, ◌++◌, length, take}
 use Rattle.std.specs.Prelude.{filter}
 use Rattle.plain_database.proofs.Common.{in_span, option_copied, written_keys}
-use Rattle.plain_database.specs.Behind.{keys_past}
+use Rattle.plain_database.specs.Replies.{keys_past}
 use Rattle.plain_database.specs.VersionsTied.{Says}
 use Rattle.plain_database.proofs.SpanScans.{rows_of}
 use Rattle.plain_database.proofs.versions.store.VersionStore.pairs.Given as goal

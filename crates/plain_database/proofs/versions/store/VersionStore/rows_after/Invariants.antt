@@ -1,8 +1,7 @@
 use Rattle.std.proofs.Common.{◌≡◌, ◌++◌, List, take}
 use Rattle.std.specs.List.{flat_map}
 use Rattle.plain_database.proofs.Common.{Row, option_copied, stream_of}
-use Rattle.plain_database.specs.Behind.{beside}
-use Rattle.plain_database.specs.Filling.{filled}
+use Rattle.plain_database.specs.Replies.{beside, filled}
 use Rattle.plain_database.specs.VersionsTied.{Says}
 use Rattle.plain_database.proofs.Streaming.{rows_behind}
 use Rattle.plain_database.proofs.versions.store.VersionStore.rows_after.Given as goal

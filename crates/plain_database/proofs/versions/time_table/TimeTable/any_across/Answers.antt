@@ -3,8 +3,7 @@ use Rattle.std.specs.List.{list_any}
 use Rattle.std.proofs.lemmas.Iterator.Consumers.{YieldsList-from_rest}
 use Rattle.std.proofs.lemmas.Iterator.Search.{any_from_yields_List}
 use Rattle.plain_database.specs.declared.versions.begun.Begun.{Begun}
-use Rattle.plain_database.specs.ReadBy.{is_across}
-use Rattle.plain_database.specs.Table.{is_crossed}
+use Rattle.plain_database.specs.Table.{is_across, is_crossed}
 use Rattle.plain_database.proofs.TableSteps.{asked_above}
 use Rattle.plain_database.proofs.versions.time_table.TimeTable.any_across.Goals as goal
 

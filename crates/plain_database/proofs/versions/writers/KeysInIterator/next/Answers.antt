@@ -1,6 +1,6 @@
 use Rattle.std.proofs.Common.{filter, sym, ◌∙◌, ap, subst, rules}
 use Rattle.plain_database.proofs.Common.{in_span, keys_of}
-use Rattle.plain_database.specs.KeysIn.{AreAhead}
+use Rattle.plain_database.specs.Replies.{AreAhead}
 use Rattle.plain_database.proofs.KeysIn.{step_inside, step_past}
 use Rattle.plain_database.proofs.versions.writers.KeysInIterator.next.Goals as goal
 

@@ -1,8 +1,38 @@
--- What an embedded database tells of the versions of several keys (this project's own).
-use Rattle.embedded.specs.Prelude.{Effect, flat_map, horizon_of, to_le_bytes, value_version, w16}
-use Rattle.std.specs.Prelude.{ℕ, List, [], ◌++◌, ◌≡◌, ◌≤◌, ◌<◌, ◌-◌, ◌⊎◌, All, drop, length, map, Option, Some, None, Result, Ok, Err}
+-- What an embedded database tells without a call: what a seat holds, its state, versions (this project's own).
+use Rattle.std.specs.Prelude.{ℕ, List, ◌++◌, ◌==◌, ◌≡◌, false, filter, map, [], ◌≤◌, ◌<◌, ◌-◌, ◌⊎◌, All, drop, length, Option, Some, None, Result, Ok, Err}
+use Rattle.spans.specs.declared.report.ProtectionReport.{ProtectionReport}
+use Rattle.report_lines.specs.Lines.{report_text}
+use Rattle.embedded.specs.Prelude.{Event, FeedReport, IsReport, Report, TransactionReport, effects_of, limit_in, limit_of, Effect, flat_map, horizon_of, to_le_bytes, value_version, w16}
+use Rattle.embedded.specs.declared.held.HeldRecord.{HeldRecord}
 use Rattle.embedded.specs.declared.versions.VersionFault.{VersionFault}
 use Rattle.embedded.specs.declared.versions.VersionFault.TheVariants.{BelowHorizon, KeyLength, NoMemory}
+
+-- a transaction: its timestamp, and how many keys it wrote
+abbrev pub held_transaction : TransactionReport → HeldRecord
+held_transaction n = record { number = n.timestamp; at = n.keys; kind = 1 }
+
+-- a feed, and its floor
+abbrev pub held_feed : FeedReport → HeldRecord
+held_feed n = record { number = n.number; at = n.floor; kind = 2 }
+
+-- a protection, and its timestamp
+abbrev pub held_protection : ProtectionReport → HeldRecord
+held_protection n = record { number = n.number; at = n.timestamp; kind = 3 }
+
+-- of a report the seat's transactions, the seat's feeds, and all protections, which are of no seat
+abbrev pub held_in : Report → ℕ → List HeldRecord
+held_in r seat =
+    map held_transaction (filter (λ (n : TransactionReport). n.seat == seat) r.transactions.items)
+    ++ map held_feed (filter (λ (n : FeedReport). n.seat == seat) r.feeds.items)
+    ++ map held_protection r.protections.items
+
+-- of the live report of the history
+abbrev pub AreHeldBy : List Event → ℕ → List HeldRecord → Type 0
+AreHeldBy h seat held = (r : Report) × IsReport false (effects_of h) r × (held ≡ held_in r seat)
+
+-- the text of a live report of the history, whose limit is the history's
+abbrev pub IsStateText : List Event → List ℕ → Type 0
+IsStateText h text = (r : Report) × IsReport false (effects_of h) r × (limit_in r ≡ limit_of (effects_of h)) × (text ≡ report_text r)
 
 -- the bytes are a key
 abbrev pub IsKey : List ℕ → Type 0
