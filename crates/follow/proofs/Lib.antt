@@ -5,3 +5,4 @@ pub mod MessagesRead
 pub mod Lines
 pub mod Steps
 pub mod Ends
+mod WorkedFollowing

@@ -2,6 +2,5 @@ pub mod Prelude
 pub mod Following
 pub mod Reports
 pub mod Ends
-pub mod WorkedFollowing
 pub mod Steps
 pub mod Seeds

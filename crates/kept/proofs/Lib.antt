@@ -23,3 +23,4 @@ pub mod LeftRows
 pub mod Contained
 pub mod Rising
 pub mod Reporting
+mod WorkedKept

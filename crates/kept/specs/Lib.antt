@@ -6,5 +6,4 @@ pub mod StandsFor
 pub mod Changes
 pub mod Replies
 pub mod Answered
-pub mod WorkedKept
 pub mod Reports

@@ -11,3 +11,4 @@ pub mod GoingOnAlike
 pub mod Foreseeing
 pub mod InRange
 pub mod ByRows
+mod WorkedRestart

@@ -2,4 +2,3 @@ pub mod Prelude
 pub mod Running
 pub mod Dump
 pub mod Restart
-pub mod WorkedRestart

@@ -34,3 +34,6 @@ pub mod FeedFloors
 pub mod Dead
 pub mod Promises
 pub mod Lawful
+mod WorkedHistories
+mod WorkedPromises
+mod WorkedReports

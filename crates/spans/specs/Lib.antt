@@ -18,7 +18,4 @@ pub mod Promises
 pub mod Law
 pub mod Kept
 pub mod Report
-pub mod WorkedHistories
-pub mod WorkedPromises
-pub mod WorkedReports
 pub mod Parts

@@ -9,7 +9,7 @@ use Rattle.spans.specs.Answer.{answer_of}
 use Rattle.spans.specs.Feeds.{told_to}
 use Rattle.spans.specs.Completeness.{complete_after}
 use Rattle.spans.specs.Report.{limit, limit_of, removable_of}
-use Rattle.spans.specs.WorkedHistories.{a, b, c, one, whole}
+use Rattle.spans.proofs.WorkedHistories.{a, b, c, one, whole}
 
 -- what calls of seats did, after the effects p
 abbrev pub after : List Effect → List (ℕ × Cmd) → List Effect

@@ -2,14 +2,14 @@
 use Rattle.std.specs.Prelude.{◌≡◌, ℕ, List, [], ◌∷◌, Option, Some, None, refl, length}
 use Rattle.spans.specs.declared.calls.messages.Message.{Message}
 use Rattle.spans.specs.Completeness.{complete_after, ready_after}
-use Rattle.spans.specs.WorkedHistories.{whole, replies_to, a, b, one, two}
+use Rattle.spans.proofs.WorkedHistories.{whole, replies_to, a, b, one, two}
 use Rattle.spans.specs.declared.calls.commands.Cmd.TheVariants.{Begin, Get, Scan, Put, Del, Commit, Abort, Close, CloseHard, Protect, Release, Collect, Open, Cancel, Stats}
 use Rattle.spans.specs.declared.calls.replies.Reply.TheVariants.{Started, Found, Rows, Written, Aborted, Closed, Protected, Released, Collected, Opened, Cancelled}
 use Rattle.spans.specs.Effects.{Effect}
 use Rattle.spans.specs.Versions.{newest, version_at, committed_version_of}
 use Rattle.spans.specs.Collection.{horizon_of, versions_of, dead_of}
 use Rattle.spans.specs.Promises.{Stands, left_version_of, left_versions}
-use Rattle.spans.specs.WorkedReports.{after}
+use Rattle.spans.proofs.WorkedReports.{after}
 use Rattle.spans.specs.declared.calls.messages.Message.TheVariants as messages
 use Rattle.spans.specs.declared.calls.replies.Reply.TheVariants as replies
 
