@@ -6,7 +6,7 @@ ghost use Rattle.spans.specs.Report.{protection_report};
 ghost use Rattle.spans.specs.Transactions.{least_of};
 ghost use Rattle.kept.specs.Places.{or_min};
 ghost use Rattle.kept.specs.Finding.{reach};
-ghost use Rattle.closing.specs.Standing.{closed_in, entry_report, made_in, protections_in, protection};
+ghost use Rattle.closing.specs.Standing.{closed_in, entry_report, made_in, protections_in, protection, Standing, newest_first, AreTied};
 
 use spans::report::ProtectionReport;
 use std::alloc::{AllocError, Global};
@@ -24,8 +24,6 @@ pub struct Closing {
 }
 
 impl Model for Closing {
-    ghost use Rattle.closing.specs.Standing.{Standing, newest_first, AreTied};
-
     ghost Value = { Standing };
 
     ghost view = { λ c. record { closed = c.closed; made = c.made; protections = newest_first c.by_number.entries } };

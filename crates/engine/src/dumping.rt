@@ -13,6 +13,7 @@ ghost use Rattle.std.specs.Prelude.{◌≡◌, IfOk, List};
 ghost use Rattle.std.specs.Option.{option_copied};
 ghost use Rattle.engine.specs.Prelude.{Event, effects_of};
 ghost use Rattle.engine.specs.Looking.{next_left};
+ghost use Rattle.engine.specs.Engine.{StandsFor};
 
 use crate::Engine;
 use catch_up::next_rows;
@@ -23,8 +24,6 @@ use timestamps::key::Key;
 use timestamps::row::Row;
 
 impl Engine {
-    ghost use Rattle.engine.specs.Engine.{StandsFor};
-
     /// The first row that is left behind a place, at or below `through`: of the committed versions that aren't dead, by
     /// timestamp and then by key. The place is that of `key` at `ts`; without a key it is behind all keys of `ts`.
     pub fn next_left(

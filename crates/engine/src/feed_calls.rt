@@ -1,6 +1,7 @@
 //! The commands of feeds: opening, polling and cancelling.
 ghost use Rattle.std.specs.Prelude.{◌<◌, ◌≡◌};
 ghost use Rattle.engine.specs.Prelude.{Cancel, IsStep, Poll, feed_refusal, first_refusal, kept_opening_tests, open_cmd, opened_in};
+ghost use Rattle.engine.specs.Layers.{kept_of};
 
 use crate::layers::Layers;
 use feed::PollError;
@@ -10,8 +11,6 @@ use spans::span::Span;
 use timestamps::ts::MAX;
 
 impl Layers {
-    ghost use Rattle.engine.specs.Layers.{kept_of};
-
     /// Opens a feed of the kind that is `initial` or not, and has the gap.
     pub(crate) fn open_feed(
         &mut self,

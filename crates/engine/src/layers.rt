@@ -3,6 +3,8 @@ ghost use Rattle.std.specs.Prelude.{◌<◌};
 ghost use Rattle.kept.specs.StandsFor.{nothing_kept};
 ghost use Rattle.kept.specs.Changes.{IsAlike};
 ghost use Rattle.engine.specs.Prelude.{IsStep, Stats};
+ghost use Rattle.engine.specs.Layers.{kept_of};
+ghost use Rattle.feed.specs.Standing.{opened_in};
 
 use feed::Feeds;
 use mvto_rules::Rules;
@@ -18,9 +20,6 @@ pub(crate) struct Layers {
 }
 
 impl Layers {
-    ghost use Rattle.engine.specs.Layers.{kept_of};
-    ghost use Rattle.feed.specs.Standing.{opened_in};
-
     /// Nothing has happened.
     pub(crate) fn new(alloc: Global) -> Layers
         ensures { IsAlike nothing_kept (kept_of result) }

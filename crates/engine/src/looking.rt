@@ -12,6 +12,7 @@
 ghost use Rattle.std.specs.Prelude.{◌≡◌, List};
 ghost use Rattle.engine.specs.Prelude.{Event, effects_of, horizon_of};
 ghost use Rattle.engine.specs.Looking.{ArePlaces, feed_floor, known_version};
+ghost use Rattle.engine.specs.Engine.{StandsFor};
 
 use crate::Engine;
 use crate::layers::Layers;
@@ -33,8 +34,6 @@ pub struct Places {
 }
 
 impl Engine {
-    ghost use Rattle.engine.specs.Engine.{StandsFor};
-
     /// How far it has come.
     pub fn places(&self) -> Places
         ensures { (h : List Event) → StandsFor self.now h → ArePlaces (effects_of h) result }

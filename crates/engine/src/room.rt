@@ -14,6 +14,7 @@ ghost use Rattle.std.specs.Prelude.{List, IfOk, OnErr, is_some, true, ◌≡◌}
 ghost use Rattle.std.specs.Option.{option_copied};
 ghost use Rattle.engine.specs.Prelude.{Event, Poll, Scan, ScanAt, effects_of, place_of};
 ghost use Rattle.engine.specs.Room.{IsOwnPoll, is_long, poll_count, scan_end};
+ghost use Rattle.engine.specs.Engine.{StandsFor};
 
 use crate::Engine;
 use crate::layers::Layers;
@@ -26,8 +27,6 @@ use timestamps::key::Key;
 pub const MOST_ROWS: u64 = 32_768;
 
 impl Engine {
-    ghost use Rattle.engine.specs.Engine.{StandsFor};
-
     /// The key at which a scan at `ts` ends, if its rows are to find room in `rows` rows and `bytes` bytes; none where
     /// all of the span does, or something stops the reader before. It takes no memory.
     pub fn scan_end<'a>(&'a self, ts: u64, span: &'a Span, rows: u64, bytes: u64) -> Option<&'a Key>

@@ -2,15 +2,13 @@
 ghost use Rattle.std.specs.Prelude.{◌≡◌, List, [], ◌∷◌, ◌+◌, ◌<◌, ◌≤◌, map, reverse, IfOk, IsOk, vec_capacity, vec_len};
 ghost use Rattle.spans.specs.declared.calls.events.Event.{Event};
 ghost use Rattle.spans.specs.Legal.{IsGapless};
-ghost use Rattle.engine.specs.Engine.{call_of};
+ghost use Rattle.engine.specs.Engine.{call_of, StandsFor, steps_of};
 
 use crate::Engine;
 use spans::calls::{Cmd, Event};
 use std::alloc::{AllocError, Global};
 
 impl Engine {
-    ghost use Rattle.engine.specs.Engine.{StandsFor, steps_of};
-
     /// Makes the calls, each a seat's command, in their order on the engine of the empty history. Positions run from 0.
     /// Only the room of the events can be refused, before the engine is made.
     pub fn run(alloc: Global, calls: Vec<(u8, Cmd)>) -> Result<(Engine, Vec<Event>), AllocError>

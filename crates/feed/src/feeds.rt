@@ -2,7 +2,7 @@
 ghost use Rattle.std.specs.Prelude.{true, ◌≡◌, ◌<◌, ℕ, None, Some, is_some, option_map, suc, IfErr, IfOk, OnOk, OnErr};
 ghost use Rattle.std.specs.BTreeSet.{contains};
 ghost use Rattle.feed.specs.Prelude.{AreLive, IsLeastFloor, place_floor};
-ghost use Rattle.feed.specs.Standing.{cut_at_max, opened_at, opened_in, place_in, seat_in, IsPut, IsPolledBy, IsUnpolled, IsCountOf, IsFloorMoved, pair_cmp};
+ghost use Rattle.feed.specs.Standing.{cut_at_max, opened_at, opened_in, place_in, seat_in, IsPut, IsPolledBy, IsUnpolled, IsCountOf, IsFloorMoved, pair_cmp, Standing, AreTied};
 ghost use Rattle.feed.specs.Firsts.{IsFeedCount};
 
 use crate::live::LiveFeed;
@@ -31,8 +31,6 @@ pub struct Feeds {
 }
 
 impl Model for Feeds {
-    ghost use Rattle.feed.specs.Standing.{Standing, AreTied};
-
     ghost Value = { Standing };
 
     ghost view = { λ s. record { opened = s.opened; live = s.live.entries } };

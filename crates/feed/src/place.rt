@@ -2,6 +2,7 @@
 ghost use Rattle.std.specs.Prelude.{◌≡◌, None, IfOk, option_map};
 ghost use Rattle.std.specs.Option.{option_copied};
 ghost use Rattle.feed.specs.Prelude.{last_name, last_resolved, name_of};
+ghost use Rattle.spans.specs.Collection.{VersionName};
 
 use spans::calls::Message;
 use std::alloc::AllocError;
@@ -18,8 +19,6 @@ pub(crate) struct RowName {
 }
 
 impl Model for RowName {
-    ghost use Rattle.spans.specs.Collection.{VersionName};
-
     ghost Value = { VersionName };
 
     ghost view = { λ n. record { key = n.key; ts = n.ts } };

@@ -12,6 +12,7 @@ ghost use Rattle.key_set.specs.Prelude.{RisingKeys, key_lt};
 ghost use Rattle.spans.specs.Keys.{insert_key};
 ghost use Rattle.spans.proofs.WriteSets.{has};
 ghost use Rattle.key_set.specs.Sets.{AreInOrder, keys_in};
+ghost use Rattle.std.specs.Option.{option_copied};
 
 use std::alloc::{AllocError, Global};
 use std::cmp::Ordering;
@@ -31,9 +32,6 @@ pub struct KeySet {
 }
 
 impl Model for KeySet {
-    ghost use Rattle.std.specs.Prelude.{List, ℕ};
-    ghost use Rattle.key_set.specs.Sets.{AreInOrder, keys_in};
-
     ghost Value = { List (List ℕ) };
 
     ghost view = { λ s. keys_in s.least s.others.keys };
@@ -172,10 +170,6 @@ pub struct Keys<'a> {
 }
 
 impl<'a> Model for Keys<'a> {
-    ghost use Rattle.std.specs.Prelude.{List, ℕ};
-    ghost use Rattle.std.specs.Option.{option_copied};
-    ghost use Rattle.key_set.specs.Sets.{keys_in};
-
     ghost Value = { List (List ℕ) };
 
     ghost view = { λ k. keys_in (option_copied k.least) k.others };

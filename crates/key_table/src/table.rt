@@ -7,7 +7,7 @@ ghost use Rattle.std.specs.Range.Bound.{bound_map};
 ghost use Rattle.std.specs.BTreeMap.Range.{entries_between};
 ghost use Rattle.std.specs.declared.ops.Bound.TheVariants.{Unbounded};
 ghost use Rattle.timestamps.specs.Words.{key_cmp};
-ghost use Rattle.key_table.specs.Numbers.{number_in, AreApart, IsNumberedAt, IsOwn};
+ghost use Rattle.key_table.specs.Numbers.{number_in, AreApart, IsNumberedAt, IsOwn, Numbered, AreTied};
 
 use crate::hints::{Hints, PLACES, hash_of};
 use slab::Slab;
@@ -29,8 +29,6 @@ pub struct KeyTable {
 }
 
 impl Model for KeyTable {
-    ghost use Rattle.key_table.specs.Numbers.{Numbered, AreTied};
-
     ghost Value = { Numbered };
 
     ghost view = { λ t. t.numbers.entries };

@@ -17,15 +17,13 @@
 ghost use Rattle.std.specs.Prelude.{ℕ, ◌≡◌};
 ghost use Rattle.kept.specs.Places.{or_min};
 ghost use Rattle.mvto_rules.specs.Prelude.{Collect, IsLeastFloor, IsStep};
-ghost use Rattle.mvto_rules.specs.Holding.{IsLimit};
+ghost use Rattle.mvto_rules.specs.Holding.{IsLimit, Changes, closing_of};
 
 use crate::rules::Rules;
 use spans::calls::{Refusal, Reply};
 use timestamps::ts::MAX;
 
 impl Rules {
-    ghost use Rattle.mvto_rules.specs.Holding.{Changes, closing_of};
-
     /// Collects through `to`, where `floor` is the least floor of the feeds, if any lives. It drops the versions that are
     /// dead by the horizon that it reaches, and takes no memory.
     pub fn collect(&mut self, to: u64, floor: Option<u64>) -> Reply

@@ -1,7 +1,7 @@
 //! Closings, and what they let go: transactions, readers, and versions.
 ghost use Rattle.std.specs.Prelude.{ℕ, ◌≡◌, ◌≤◌};
 ghost use Rattle.mvto_rules.specs.Prelude.{Close, CloseHard, HaveSameMarks, IsClosedAt, MAX, closed_in};
-ghost use Rattle.mvto_rules.specs.Holding.{AreTakenBack, IsCountTakenBack, is_taken_back};
+ghost use Rattle.mvto_rules.specs.Holding.{AreTakenBack, IsCountTakenBack, is_taken_back, Changes, Steps, closing_of, AreMarksForgotten};
 ghost use Rattle.mvto_rules.specs.Tables.{AreInRange};
 
 use crate::rules::Rules;
@@ -11,8 +11,6 @@ use txn_table::Txns;
 use version_chain::Store;
 
 impl Rules {
-    ghost use Rattle.mvto_rules.specs.Holding.{Changes, Steps, closing_of, AreMarksForgotten};
-
     /// Closes through `to`, or up to just below the oldest undecided transaction where that is lower. It
     /// forgets the transactions and the readers there, and takes no memory.
     pub fn close(&mut self, to: u64) -> Reply

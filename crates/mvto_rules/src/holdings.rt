@@ -2,14 +2,13 @@
 ghost use Rattle.std.specs.Prelude.{◌≡◌, ◌≤◌};
 ghost use Rattle.mvto_rules.specs.Prelude.{IsNumberOf, MAX, closed_in, is_open};
 ghost use Rattle.version_chain.specs.Stores as stores;
+ghost use Rattle.mvto_rules.specs.Holding.{closing_of, horizon_of, transactions_of, versions_of};
 
 use crate::rules::Rules;
 use closing::Closing;
 use version_chain::Store;
 
 impl Rules {
-    ghost use Rattle.mvto_rules.specs.Holding.{closing_of, horizon_of, transactions_of, versions_of};
-
     /// The versions.
     pub fn versions(&self) -> &Store
         ensures { result.now ≡ versions_of self.now }

@@ -2,15 +2,13 @@
 //! and whether a command is refused.
 ghost use Rattle.std.specs.Prelude.{◌≡◌, is_some, not};
 ghost use Rattle.mvto_rules.specs.Prelude.{IsOldest, refusal};
-ghost use Rattle.mvto_rules.specs.Holding.{IsReachedIn, kept_value_version};
+ghost use Rattle.mvto_rules.specs.Holding.{IsReachedIn, kept_value_version, Holds};
 ghost use Rattle.mvto_rules.specs.Scans.{snapshot_refusal};
 
 use crate::rules::Rules;
 use timestamps::key::Key;
 
 impl Rules {
-    ghost use Rattle.mvto_rules.specs.Holding.{Holds};
-
     /// The timestamp of the newest committed version of a key at or below `t`, where that has a value. It searches the
     /// key's chain once more for each undecided version above that one, and takes no memory.
     pub fn version_at(&self, t: u64, key: &Key) -> Option<u64>

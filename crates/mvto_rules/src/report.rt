@@ -1,14 +1,13 @@
 //! What a report tells of the undecided transactions.
 ghost use Rattle.std.specs.Prelude.{IfOk};
 ghost use Rattle.kept.specs.Reports.{AreOpen};
+ghost use Rattle.mvto_rules.specs.Holding.{Holds};
 
 use crate::rules::Rules;
 use spans::report::TransactionReport;
 use std::alloc::AllocError;
 
 impl Rules {
-    ghost use Rattle.mvto_rules.specs.Holding.{Holds};
-
     /// The undecided transactions, timestamps rising. It takes memory for them alone.
     pub fn undecided_report(&self) -> Result<Vec<TransactionReport>, AllocError>
         ensures { IfOk result (λ ns. Holds self.now (λ k. AreOpen k ns.items)) }

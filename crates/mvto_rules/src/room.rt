@@ -13,6 +13,7 @@ ghost use Rattle.std.specs.Map.{keys_of};
 ghost use Rattle.std.specs.Option.{option_copied};
 ghost use Rattle.mvto_rules.specs.Prelude.{AreFilled, RisingKeys};
 ghost use Rattle.mvto_rules.specs.Scans.{IsEnd, end_in, has_room, room_behind, stops_at, entries_of, keys_in, value_in};
+ghost use Rattle.mvto_rules.specs.Holding.{Holds};
 
 use crate::reading::is_named;
 use crate::rules::Rules;
@@ -32,8 +33,6 @@ struct Room {
 }
 
 impl Rules {
-    ghost use Rattle.mvto_rules.specs.Holding.{Holds};
-
     /// The key at which a scan at `ts` ends, if its rows are to find room in `rows` and `bytes`: the first whose row finds
     /// none. There is none where all find room, where something stops the reader before, and below the horizon.
     pub fn end_within<'a>(

@@ -1,7 +1,7 @@
 //! What a read finds at a key.
 ghost use Rattle.std.specs.Prelude.{◌≡◌, ◌≤◌, ◌<◌, IfOk, IfSome};
 ghost use Rattle.std.specs.Option.{option_copied};
-ghost use Rattle.mvto_rules.specs.Scans.{value_in};
+ghost use Rattle.mvto_rules.specs.Scans.{value_in, sight_of};
 
 use std::alloc::AllocError;
 use timestamps::row::copy_after;
@@ -21,8 +21,6 @@ pub(crate) enum Sight {
 }
 
 impl Sight {
-    ghost use Rattle.mvto_rules.specs.Scans.{sight_of};
-
     /// The sight of a read of `ts`, whose newest version is this one, where there is one.
     pub(crate) fn of(newest: Option<&Version>, ts: Ts) -> Sight
         ensures sight { result ≡ sight_of ts (option_copied newest.entry) }

@@ -2,6 +2,7 @@
 ghost use Rattle.std.specs.Prelude.{ℕ, ◌≡◌, ◌<◌};
 ghost use Rattle.mvto_rules.specs.Prelude.{Protect, ReadAt, Release, ScanAt, made_in};
 ghost use Rattle.mvto_rules.specs.Scans.{horizon_refusal, snapshot_refusal};
+ghost use Rattle.mvto_rules.specs.Holding.{Holds, Steps, closing_of, held};
 
 use crate::reading::{is_named, rows_at};
 use crate::rules::Rules;
@@ -12,8 +13,6 @@ use timestamps::key::Key;
 use timestamps::ts::MAX;
 
 impl Rules {
-    ghost use Rattle.mvto_rules.specs.Holding.{Holds, Steps, closing_of, held};
-
     /// A refusal where `t` is below the horizon: what was there may be gone.
     pub fn horizon_refusal(&self, t: u64) -> Option<Refusal>
         ensures { Holds self.now (λ k. result ≡ horizon_refusal k t) }

@@ -1,5 +1,7 @@
 //! The checker's database: the transactions, the feeds and the protections, the horizon, and two numbers of versions.
 ghost use Rattle.std.specs.Prelude.{◌≡◌, IfOk, OnErr, OnOk, [], true};
+ghost use Rattle.spans.specs.Legal.{is_accepted, may_lack_memory};
+ghost use Rattle.plain_database.specs.Tied.{AnswersCounted, MayLackMemory, Records, StandsFor};
 
 use crate::feeds::book::FeedBook;
 use crate::feeds::protections::Protections;
@@ -22,9 +24,6 @@ pub struct PlainDatabase {
 }
 
 impl PlainDatabase {
-    ghost use Rattle.spans.specs.Legal.{is_accepted, may_lack_memory};
-    ghost use Rattle.plain_database.specs.Tied.{AnswersCounted, MayLackMemory, Records, StandsFor};
-
     /// The database of the empty history.
     pub fn new(alloc: Global) -> PlainDatabase
         ensures { StandsFor result [] }

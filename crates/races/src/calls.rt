@@ -1,6 +1,7 @@
 //! The calls of a script, given to sessions that race.
 ghost use Rattle.std.specs.Prelude.{◌≡◌, ◌<◌, [], vec_len, IfOk, IfErr, All};
 ghost use Rattle.races.specs.Racing.{AreLists, IsRaceOf, IsFreshReason};
+ghost use Rattle.races.specs.declared.calls.FreshError.TheVariants as errors;
 
 use crate::gate::Gate;
 use crate::racing::{RaceError, race};
@@ -23,8 +24,6 @@ pub enum FreshError {
 }
 
 impl From<OpenError> for FreshError {
-    ghost use Rattle.races.specs.declared.calls.FreshError.TheVariants as errors;
-
     ghost from_gives = { λ reason e. e ≡ errors.Open reason };
 
     fn from(refused: OpenError) -> FreshError {
@@ -33,8 +32,6 @@ impl From<OpenError> for FreshError {
 }
 
 impl From<AllocError> for FreshError {
-    ghost use Rattle.races.specs.declared.calls.FreshError.TheVariants as errors;
-
     ghost from_gives = { λ _ e. e ≡ errors.NoMemory };
 
     fn from(_refused: AllocError) -> FreshError {

@@ -3,6 +3,7 @@ ghost use Rattle.std.specs.Prelude.{◌≡◌, ◌≢◌, ◌↔◌, ◌<◌, ve
 ghost use Rattle.races.specs.Prelude.{Cmd, IsOf, number};
 ghost use Rattle.races.specs.Racing.{IsIdle, IsPlayed, AreStarted, AreOk, AllEnded};
 ghost use Rattle.races.specs.declared.racing.RaceError.TheVariants.{Counts};
+ghost use Rattle.races.specs.declared.racing.RaceError.TheVariants as errors;
 
 use crate::ended::Ended;
 use crate::gate::Gate;
@@ -26,8 +27,6 @@ pub enum RaceError {
 }
 
 impl From<AllocError> for RaceError {
-    ghost use Rattle.races.specs.declared.racing.RaceError.TheVariants as errors;
-
     ghost from_gives = { λ _ e. e ≡ errors.NoMemory };
 
     fn from(_refused: AllocError) -> RaceError {

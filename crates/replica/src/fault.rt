@@ -1,5 +1,9 @@
 //! Why a replica refuses.
 
+ghost use Rattle.std.specs.Prelude.{◌≡◌};
+ghost use Rattle.replica.specs.Replicas.{code_of};
+ghost use Rattle.replica.specs.declared.fault.Fault.TheVariants.{NoMemory};
+
 use std::alloc::AllocError;
 
 /// Why a message, or what a replica is to begin with, was refused. Nothing changed.
@@ -17,9 +21,6 @@ pub enum Fault {
 }
 
 impl Fault {
-    ghost use Rattle.std.specs.Prelude.{◌≡◌};
-    ghost use Rattle.replica.specs.Replicas.{code_of};
-
     /// Its number, from 1 to 4.
     pub fn code(self) -> u8
         ensures { result ≡ code_of self }
@@ -29,9 +30,6 @@ impl Fault {
 }
 
 impl From<AllocError> for Fault {
-    ghost use Rattle.replica.specs.declared.fault.Fault.TheVariants.{NoMemory};
-    ghost use Rattle.std.specs.Prelude.{◌≡◌};
-
     ghost from_gives = { λ _ fault. fault ≡ NoMemory };
 
     fn from(_refused: AllocError) -> Fault {

@@ -4,7 +4,7 @@ ghost use Rattle.std.specs.Cmp.{partial_equiv_from_equiv};
 ghost use Rattle.std.specs.Cmp.Lexicographic.{nat_list_eq_equiv, nat_list_cmp_total, texts_ties, texts_po};
 ghost use Rattle.spans.proofs.Keyed.{IsIn, RisingKeys};
 ghost use Rattle.timestamps.specs.Words.{key_cmp};
-ghost use Rattle.replica.specs.Rows.{is_listed};
+ghost use Rattle.replica.specs.Rows.{is_listed, Keyed, AreSome};
 
 use std::alloc::{AllocError, Global};
 use std::cmp::Ordering;
@@ -21,8 +21,6 @@ pub(crate) struct Index {
 }
 
 impl Model for Index {
-    ghost use Rattle.replica.specs.Rows.{Keyed, AreSome};
-
     ghost Value = { Keyed };
 
     ghost view = { λ i. i.keys.entries };
@@ -107,8 +105,6 @@ fn copies(alloc: Global, keys: &BTreeSet<Key>) -> Result<Vec<Key>, AllocError>
 struct Content(Value);
 
 impl Model for Content {
-    ghost use Rattle.std.specs.Prelude.{ℕ, List};
-
     ghost Value = { List ℕ };
 
     ghost view = { λ c. c.0 };

@@ -2,6 +2,12 @@
 ghost use Rattle.std.specs.Prelude.{◌≡◌, ◌==◌, ℕ, List, [], None, Some, OnOk, OnErr, IfOk, IfErr};
 ghost use Rattle.std.specs.Option.{option_copied};
 ghost use Rattle.spans.specs.declared.calls.messages.Message.TheVariants as messages;
+ghost use Rattle.spans.specs.declared.calls.messages.Message.{Message};
+ghost use Rattle.replica.specs.Rows.{AreRowsOf, AreKeysWith, IsCountOf};
+ghost use Rattle.replica.specs.Starts.{Start, seeded_start, initial_start, resolved_at, MayBegin, IsSeedFault};
+ghost use Rattle.replica.specs.Replicas.{view_in, span_in, complete_in, through_in, Follows, Takes, IsFaultAt, test_of, fault_in, is_first_in, ready_in, AddsValue};
+ghost use Rattle.replica.specs.declared.fault.Fault.TheVariants.{NoMemory};
+ghost use Rattle.spans.specs.Completeness.{complete_after, ready_after};
 
 use crate::fault::Fault;
 use crate::place::{Place, comes_after, is_of, reaches};
@@ -52,13 +58,6 @@ impl Drop for Replica {
 }
 
 impl Replica {
-    ghost use Rattle.spans.specs.declared.calls.messages.Message.{Message};
-    ghost use Rattle.replica.specs.Rows.{AreRowsOf, AreKeysWith, IsCountOf};
-    ghost use Rattle.replica.specs.Starts.{Start, seeded_start, initial_start, resolved_at, MayBegin, IsSeedFault};
-    ghost use Rattle.replica.specs.Replicas.{view_in, span_in, complete_in, through_in, Follows, Takes, IsFaultAt, test_of, fault_in, is_first_in, ready_in, AddsValue};
-    ghost use Rattle.replica.specs.declared.fault.Fault.TheVariants.{NoMemory};
-    ghost use Rattle.spans.specs.Completeness.{complete_after, ready_after};
-
     /// A replica of what a span holds at a cursor: the pairs that a snapshot answered there, keys rising.
     /// It is for a feed of the span that was opened at this cursor.
     pub fn new(

@@ -2,7 +2,7 @@
 ghost use Rattle.std.specs.Prelude.{◌≡◌, ℕ, List, [], None, Some, IsSome, OnOk, OnErr, IfOk, length};
 ghost use Rattle.std.specs.Option.{option_copied};
 ghost use Rattle.spans.specs.Serial.{put};
-ghost use Rattle.replica.specs.Rows.{value_at, AreRowsOf, AreKeysWith};
+ghost use Rattle.replica.specs.Rows.{value_at, AreRowsOf, AreKeysWith, IsIndexOf};
 
 use crate::index::Index;
 use std::alloc::{AllocError, Global};
@@ -20,9 +20,6 @@ pub(crate) struct Table {
 }
 
 impl Model for Table {
-    ghost use Rattle.std.specs.Prelude.{ℕ, List};
-    ghost use Rattle.replica.specs.Rows.{IsIndexOf};
-
     ghost Value = { List (List ℕ × List ℕ) };
 
     ghost view = { λ t. t.rows.entries };

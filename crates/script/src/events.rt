@@ -8,7 +8,7 @@
 //! ```
 ghost use Rattle.std.specs.Prelude.{◌≡◌, ◌≢◌, ◌≤◌, true, length, IfOk, IfErr, MatchResult};
 ghost use Rattle.script.specs.EventLines.{heading_at, wants_at};
-ghost use Rattle.script.specs.Transcripts.{Fails, HasHeader, TakesLines, TakesEvent, next_at, event_at, left_of, outcome, transcript_at};
+ghost use Rattle.script.specs.Transcripts.{Fails, HasHeader, TakesLines, TakesEvent, next_at, event_at, left_of, outcome, transcript_at, Transcript, left_at};
 ghost use Rattle.script.specs.declared.fault.TranscriptError.TheVariants.{NoMemory};
 
 use crate::fault::{Traced, TranscriptError};
@@ -29,8 +29,6 @@ pub struct Events<'a> {
 }
 
 impl<'a> Model for Events<'a> {
-    ghost use Rattle.script.specs.Transcripts.{Transcript, left_at};
-
     ghost Value = { Transcript };
 
     ghost view = { λ e. left_at e.format e.lines };

@@ -1,6 +1,7 @@
 //! Why a text of many lines was not read.
 ghost use Rattle.std.specs.Prelude.{◌≡◌};
 ghost use Rattle.script.specs.declared.fault.TranscriptError.TheVariants.{NoMemory};
+ghost use Rattle.script.specs.Transcripts.{error_at_line};
 
 use std::alloc::{AllocError, AllocFailed};
 use thiserror::Error;
@@ -21,8 +22,6 @@ pub enum TranscriptError {
 pub type Traced<T> = Result<T, TranscriptError>;
 
 impl TranscriptError {
-    ghost use Rattle.script.specs.Transcripts.{error_at_line};
-
     /// The fault of the line of this number.
     pub(crate) fn at_line(line: u64, error: ReadError) -> TranscriptError
         ensures { result ≡ error_at_line line error }

@@ -1,6 +1,6 @@
 //! A text taken line by line, with the lines counted.
-ghost use Rattle.std.specs.Prelude.{◌≡◌, ◌≤◌, ◌+◌, ◌==◌, ◌<◌, ◌∷◌, [], length, position, IfSome, MatchOption};
-ghost use Rattle.script.specs.EventLines.{is_newline, lines_of, IsPast};
+ghost use Rattle.std.specs.Prelude.{◌≡◌, ◌≤◌, ◌+◌, ◌==◌, ◌<◌, ◌∷◌, [], length, position, IfSome, MatchOption, ◌^◌};
+ghost use Rattle.script.specs.EventLines.{is_newline, lines_of, IsPast, Place};
 
 use std::marker::Model;
 
@@ -12,9 +12,6 @@ pub(crate) struct Lines<'a> {
 }
 
 impl<'a> Model for Lines<'a> {
-    ghost use Rattle.std.specs.Prelude.{◌+◌, ◌<◌, ◌^◌, length};
-    ghost use Rattle.script.specs.EventLines.{Place, lines_of};
-
     ghost Value = { Place };
 
     ghost view = { λ l. record { number = l.number; lines = lines_of l.rest.now } };

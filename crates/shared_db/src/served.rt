@@ -1,5 +1,9 @@
 //! The engine as the lock keeps it.
 
+ghost use Rattle.engine.specs.Engine.{closed_timestamp};
+ghost use Rattle.shared_db.specs.History.{StandsFor};
+ghost use Rattle.shared_db.specs.Standing.{closed_rises};
+
 use engine::Engine;
 use spans::calls::Event;
 use ticket_lock::Chronicle;
@@ -12,10 +16,6 @@ pub struct Served {
 }
 
 impl Chronicle for Served {
-    ghost use Rattle.engine.specs.Engine.{closed_timestamp};
-    ghost use Rattle.shared_db.specs.History.{StandsFor};
-    ghost use Rattle.shared_db.specs.Standing.{closed_rises};
-
     type Entry = Event;
 
     ghost stands = { λ served first events. StandsFor served.engine.value first events };

@@ -2,7 +2,7 @@
 ghost use Rattle.std.specs.Prelude.{◌≡◌, ℕ, suc, List, Some, ◌<◌, ◌≤◌, ◌⊎◌, length, take, bytes_eq, IfOk, IfErr, OnOk, OnErr};
 ghost use Rattle.std.specs.Cmp.{partial_equiv_from_equiv};
 ghost use Rattle.std.specs.Cmp.Lexicographic.{nat_list_eq_equiv};
-ghost use Rattle.spans.specs.KeyOrder.{from_low, below_high, key_lt, start_of, successor};
+ghost use Rattle.spans.specs.KeyOrder.{from_low, below_high, key_lt, start_of, successor, IsCut, all_bytes};
 ghost use Rattle.std.specs.Range.Bound.{bound_map};
 ghost use Rattle.spans.specs.declared.bound.TheConstants.{MAX_BOUND_BYTES};
 ghost use Rattle.spans.specs.declared.bound.BoundError.TheVariants.{BoundLength, NoMemory};
@@ -26,9 +26,6 @@ pub struct Bound {
 }
 
 impl Model for Bound {
-    ghost use Rattle.std.specs.Prelude.{ℕ, List};
-    ghost use Rattle.spans.specs.KeyOrder.{IsCut, all_bytes};
-
     ghost Value = { List ℕ };
 
     ghost view = { λ b. all_bytes b.bytes };

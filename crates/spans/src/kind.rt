@@ -1,5 +1,6 @@
 //! The kinds of feeds.
 ghost use Rattle.std.specs.Prelude.{true, ◌≡◌, ◌<◌};
+ghost use Rattle.spans.specs.Feeds.{start_at, is_due};
 
 /// A feed's kind: what it tells first, and how far apart its resolved messages lie.
 #[derive(Clone, Copy, Debug, PartialEq, Eq)]
@@ -11,8 +12,6 @@ pub struct Kind {
 }
 
 impl Kind {
-    ghost use Rattle.spans.specs.Feeds.{start_at, is_due};
-
     /// The start of a feed of this kind: all that it tells is above this.
     pub fn start(self, cursor: u64) -> u64
         ensures { result ≡ start_at self cursor }

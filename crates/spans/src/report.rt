@@ -9,8 +9,11 @@
 //! limit       at 9, by feed 1: of equal ones the first
 //! oldest      31, of seat 0: a closing goes to 30
 //! ```
-ghost use Rattle.std.specs.Prelude.{◌≡◌, map};
-ghost use Rattle.spans.specs.Report.{first_least, told_protection, told_feed};
+ghost use Rattle.std.specs.Prelude.{◌≡◌, map, List, true, false, nat_lt, if◌then◌else◌};
+ghost use Rattle.spans.specs.Report.{first_least, told_protection, told_feed, IsReport, limit_in, limit_of, limit};
+ghost use Rattle.spans.specs.declared.calls.events.Event.{Event};
+ghost use Rattle.spans.specs.Effects.{effects_of};
+ghost use Rattle.spans.specs.Legal.{IsLegal};
 
 use crate::kind::Kind;
 use crate::span::Span;
@@ -118,12 +121,6 @@ pub struct Limit {
 }
 
 impl Report {
-    ghost use Rattle.std.specs.Prelude.{List, true, false};
-    ghost use Rattle.spans.specs.declared.calls.events.Event.{Event};
-    ghost use Rattle.spans.specs.Effects.{effects_of};
-    ghost use Rattle.spans.specs.Legal.{IsLegal};
-    ghost use Rattle.spans.specs.Report.{IsReport, limit_in, limit_of};
-
     /// How far a collection can go now, and what keeps it there.
     pub fn limit(&self) -> Limit
         ensures exact { result ≡ limit_in self.now }
@@ -139,9 +136,6 @@ impl Report {
 }
 
 impl Limit {
-    ghost use Rattle.std.specs.Prelude.{nat_lt, if◌then◌else◌};
-    ghost use Rattle.spans.specs.Report.{limit};
-
     /// The limit of another holder, where that is lower.
     fn or_lower(self, at: u64, by: Holder) -> Limit
         ensures { result ≡ (if nat_lt at self.at then limit at by else self) }

@@ -1,4 +1,9 @@
 //! Spans: sets of keys between two bounds.
+ghost use Rattle.std.specs.Prelude.{◌≡◌, ◌≤◌, ◌&&◌, suc, ℕ, List, length, not, IfOk};
+ghost use Rattle.std.specs.List.Sorted.{IsStrictlySortedBy};
+ghost use Rattle.timestamps.specs.Words.{key_cmp};
+ghost use Rattle.spans.specs.Keys.{in_span, is_among, is_held, NoneOverlap};
+
 use crate::bound::{Bound, copy_bound, is_below, is_from};
 use std::alloc::{AllocError, Global};
 use std::mem;
@@ -19,11 +24,6 @@ impl Drop for Span {
 }
 
 impl Span {
-    ghost use Rattle.std.specs.Prelude.{◌≡◌, ◌≤◌, ◌&&◌, suc, ℕ, List, length, not, IfOk};
-    ghost use Rattle.std.specs.List.Sorted.{IsStrictlySortedBy};
-    ghost use Rattle.timestamps.specs.Words.{key_cmp};
-    ghost use Rattle.spans.specs.Keys.{in_span, is_among, is_held, NoneOverlap};
-
     /// Whether the key is one of the span. It compares bytes at most twice.
     pub fn contains(&self, key: &Key) -> bool
         ensures { result ≡ in_span self.now key.now }

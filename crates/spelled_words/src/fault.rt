@@ -1,6 +1,7 @@
 //! What is wrong with a line.
 ghost use Rattle.std.specs.Prelude.{◌≡◌};
 ghost use Rattle.spelled_words.specs.declared.fault.ReadError.TheVariants.{Fault, NoMemory};
+ghost use Rattle.spelled_words.specs.Faults.{code_of, name_of};
 
 use std::alloc::{AllocError, AllocFailed};
 use thiserror::Error;
@@ -44,8 +45,6 @@ pub enum LineFault {
 }
 
 impl LineFault {
-    ghost use Rattle.spelled_words.specs.Faults.{code_of, name_of};
-
     /// Its number, from 1 to 11.
     pub fn code(self) -> u8
         ensures { result ≡ code_of self }

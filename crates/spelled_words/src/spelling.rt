@@ -74,8 +74,6 @@ pub enum Spelled<'a> {
 }
 
 impl Spelled<'_> {
-    ghost use Rattle.spelled_words.specs.Words.{spelled_bytes};
-
     /// The bytes, lent.
     pub fn bytes(&self) -> &[u8]
         ensures { result.now ≡ spelled_bytes self.now }

@@ -1,5 +1,5 @@
 //! Lines cut into words.
-ghost use Rattle.std.specs.Prelude.{◌≡◌, ◌==◌, ◌∷◌, [], ◌<◌, length, position, IfSome, MatchOption, MatchResult};
+ghost use Rattle.std.specs.Prelude.{◌≡◌, ◌==◌, ◌∷◌, [], ◌<◌, length, position, IfSome, MatchOption, MatchResult, List, ℕ};
 ghost use Rattle.spelled_words.specs.Words.{text_at, words, words_at, words_left, is_printable, is_space};
 
 use crate::fault::LineFault;
@@ -80,9 +80,6 @@ pub struct Words<'a> {
 }
 
 impl<'a> Model for Words<'a> {
-    ghost use Rattle.std.specs.Prelude.{List, ℕ};
-    ghost use Rattle.spelled_words.specs.Words.{words_left};
-
     ghost Value = { List (List ℕ) };
 
     ghost view = { λ w. words_left w.rest };

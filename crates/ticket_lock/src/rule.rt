@@ -1,5 +1,8 @@
 //! The table behind a lock, and what its seats know.
 
+ghost use Rattle.ticket_lock.specs.Rule.{Ordered};
+ghost use Rattle.ticket_lock.specs.Views.{opener};
+
 use crate::chronicle::Chronicle;
 use atomic_table::{Seat as TableSeat, TableRule};
 use std::collections::LinkedList;
@@ -101,9 +104,6 @@ pub struct Setup {
 pub struct TurnOrder<T>(PhantomData<T>);
 
 impl<T: Chronicle> TableRule<Option<T>, View<T::Entry>, Setup> for TurnOrder<T> {
-    ghost use Rattle.ticket_lock.specs.Rule.{Ordered};
-    ghost use Rattle.ticket_lock.specs.Views.{opener};
-
     ghost holds = { Ordered T.stands T.seat_of T.floor_of };
 
     ghost first = { opener };

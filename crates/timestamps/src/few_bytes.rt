@@ -1,6 +1,6 @@
 //! A few bytes, which lie in place.
-ghost use Rattle.std.specs.Prelude.{◌≡◌, ◌<◌, ◌≤◌, ◌*◌, ◌++◌, ◌∷◌, ◌↔◌, [], length, drop, IsTrue};
-ghost use Rattle.timestamps.specs.Words.{key_cmp, AreBytes, front_of};
+ghost use Rattle.std.specs.Prelude.{◌≡◌, ◌<◌, ◌≤◌, ◌*◌, ◌++◌, ◌∷◌, ◌↔◌, [], length, drop, IsTrue, ℕ, List, take};
+ghost use Rattle.timestamps.specs.Words.{key_cmp, AreBytes, front_of, IsPadded};
 
 use std::cmp::Ordering;
 use std::marker::Model;
@@ -19,9 +19,6 @@ pub(crate) struct FewBytes {
 }
 
 impl Model for FewBytes {
-    ghost use Rattle.std.specs.Prelude.{ℕ, List, take};
-    ghost use Rattle.timestamps.specs.Words.{IsPadded};
-
     ghost Value = { List ℕ };
 
     ghost view = { λ f. take f.len f.bytes };

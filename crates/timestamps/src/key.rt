@@ -22,9 +22,6 @@ pub struct Key {
 }
 
 impl Model for Key {
-    ghost use Rattle.std.specs.Prelude.{ℕ, List, ◌≤◌, length};
-    ghost use Rattle.timestamps.specs.declared.key.TheConstants.{MAX_KEY_BYTES};
-
     ghost Value = { List ℕ };
 
     ghost view = { λ k. k.bytes };

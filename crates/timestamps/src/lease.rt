@@ -9,8 +9,8 @@
 //! next()  Some(64)          []
 //! next()  None              []
 //! ```
-ghost use Rattle.std.specs.Prelude.{◌≡◌, ◌<◌, List, ℕ, [], ◌∷◌, IfSome, IfNone};
-ghost use Rattle.timestamps.specs.Blocks.{timestamps_of};
+ghost use Rattle.std.specs.Prelude.{◌≡◌, ◌<◌, List, ℕ, [], ◌∷◌, IfSome, IfNone, ◌+◌, ◌≤◌};
+ghost use Rattle.timestamps.specs.Blocks.{timestamps_of, numbers_from};
 ghost use Rattle.timestamps.specs.declared.lease.TheConstants.{BLOCKS};
 
 use crate::ts::Ts;
@@ -30,9 +30,6 @@ pub struct Lease {
 }
 
 impl Model for Lease {
-    ghost use Rattle.std.specs.Prelude.{ℕ, List, ◌+◌, ◌≤◌};
-    ghost use Rattle.timestamps.specs.Blocks.{numbers_from};
-
     ghost Value = { List ℕ };
 
     ghost view = { λ l. numbers_from l.next l.left };

@@ -1,8 +1,9 @@
 //! Bytes of any length, in place where they are few.
-ghost use Rattle.std.specs.Prelude.{◌≡◌, ◌<◌, ◌++◌, ◌∷◌, ◌↔◌, [], ◌≤◌, Some, refl, length, bytes_eq, IfOk, OnErr, IsTrue};
+ghost use Rattle.std.specs.Prelude.{◌≡◌, ◌<◌, ◌++◌, ◌∷◌, ◌↔◌, [], ◌≤◌, Some, refl, length, bytes_eq, IfOk, OnErr, IsTrue, ℕ, List};
 ghost use Rattle.std.specs.Cmp.{partial_equiv_from_equiv};
 ghost use Rattle.std.specs.Cmp.Lexicographic.{nat_list_eq_equiv, nat_list_cmp_total, texts_ties, texts_po};
 ghost use Rattle.timestamps.specs.Words.{key_cmp};
+ghost use Rattle.timestamps.specs.SmallBytes.{IsPlaced, bytes_in};
 
 use crate::few_bytes::{FEW, FewBytes};
 use std::alloc::{AllocError, Global};
@@ -16,9 +17,6 @@ pub struct SmallBytes {
 }
 
 impl Model for SmallBytes {
-    ghost use Rattle.std.specs.Prelude.{ℕ, List};
-    ghost use Rattle.timestamps.specs.SmallBytes.{IsPlaced, bytes_in};
-
     ghost Value = { List ℕ };
 
     ghost view = { λ b. bytes_in b.place };

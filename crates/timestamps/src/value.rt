@@ -20,9 +20,6 @@ pub struct Value {
 }
 
 impl Model for Value {
-    ghost use Rattle.std.specs.Prelude.{ℕ, List, ◌≤◌, length};
-    ghost use Rattle.timestamps.specs.declared.value.TheConstants.{MAX_VALUE_BYTES};
-
     ghost Value = { List ℕ };
 
     ghost view = { λ v. v.bytes };

@@ -3,7 +3,7 @@ ghost use Rattle.std.specs.Prelude.{◌≡◌, ◌&&◌, ℕ, None, IfOk, OnOk, 
 ghost use Rattle.std.specs.List.Sorted.{IsStrictlyIncreasing};
 ghost use Rattle.txn_table.specs.Prelude.{IsOldest, Transaction, is_open};
 ghost use Rattle.kept.specs.Finding.{AreThose, IsNumberOf};
-ghost use Rattle.txn_table.specs.States.{begun, decided, found, transaction_in, IsGreatest, IsSetAt};
+ghost use Rattle.txn_table.specs.States.{begun, decided, found, transaction_in, IsGreatest, IsSetAt, Table, AreUndecided};
 
 use crate::ending::{Ending, Outcome};
 use crate::undecided::Undecided;
@@ -23,8 +23,6 @@ pub struct Txns {
 }
 
 impl Model for Txns {
-    ghost use Rattle.txn_table.specs.States.{Table, AreUndecided};
-
     ghost Value = { Table };
 
     ghost view = { λ t. record { undecided = t.undecided.entries; endings = t.endings.entries } };

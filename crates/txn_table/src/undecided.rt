@@ -1,7 +1,8 @@
 //! The iterator over undecided timestamps.
-ghost use Rattle.std.specs.Prelude.{length};
+ghost use Rattle.std.specs.Prelude.{length, List, ℕ};
 ghost use Rattle.std.specs.Iterator.{at_most};
 ghost use Rattle.std.specs.Map.Iter.{TakesFirst, deref};
+ghost use Rattle.std.specs.Map.{keys_of};
 
 use std::collections::btree_map::Range;
 use std::iter::Iterator;
@@ -15,9 +16,6 @@ pub struct Undecided<'a> {
 }
 
 impl<'a> Model for Undecided<'a> {
-    ghost use Rattle.std.specs.Prelude.{List, ℕ};
-    ghost use Rattle.std.specs.Map.{keys_of};
-
     ghost Value = { List ℕ };
 
     ghost view = { λ u. keys_of u.seats };

@@ -1,5 +1,5 @@
 //! The versions of one key, found by timestamp: the newest at one, the one at a place, and what is undecided or dead.
-ghost use Rattle.std.specs.Prelude.{◌≡◌, ℕ, ◌<◌, ◌≤◌, ◌+◌, ◌^◌, ◌==◌, ◌↔◌, [], ◌∷◌, suc, length, slice_index_or, if◌then◌else◌, MatchOption, MatchResult, Some, None, IsTrue, IfOk, OnOk, OnErr, is_none, option_map, not, false};
+ghost use Rattle.std.specs.Prelude.{◌≡◌, ℕ, ◌<◌, ◌≤◌, ◌+◌, ◌^◌, ◌==◌, ◌↔◌, [], ◌∷◌, suc, length, slice_index_or, if◌then◌else◌, MatchOption, MatchResult, Some, None, IsTrue, IfOk, OnOk, OnErr, is_none, option_map, not, false, List};
 ghost use Rattle.std.specs.Option.{option_copied};
 ghost use Rattle.version_chain.specs.declared.chain.Version.{Version};
 ghost use Rattle.std.specs.List.{filter};
@@ -59,10 +59,6 @@ pub struct Chain {
 }
 
 impl Model for Chain {
-    ghost use Rattle.std.specs.Prelude.{List};
-    ghost use Rattle.version_chain.specs.declared.chain.Version.{Version};
-    ghost use Rattle.version_chain.specs.Versions.{DoRise, versions_in};
-
     ghost Value = { List Version };
 
     ghost view = { λ c. versions_in c.versions };

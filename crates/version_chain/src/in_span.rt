@@ -1,13 +1,14 @@
 //! The keys of a span: those with a number, and those with a version.
 ghost use Rattle.version_chain.specs.Prelude.{AreApart, RisingKeys};
-ghost use Rattle.std.specs.Prelude.{◌≡◌, length};
+ghost use Rattle.std.specs.Prelude.{◌≡◌, length, List};
 ghost use Rattle.std.specs.Map.{keys_of};
 ghost use Rattle.std.specs.Map.Iter.{TakesFirst, deref_pair};
 ghost use Rattle.std.specs.Iterator.{at_most};
 ghost use Rattle.std.specs.Range.Bound.{bound_map};
 ghost use Rattle.spans.specs.KeyOrder.{start_of};
 ghost use Rattle.version_chain.specs.ByNumber.{chains_in, entries_of};
-ghost use Rattle.version_chain.specs.Stores.{filled, numbered_in};
+ghost use Rattle.version_chain.specs.Stores.{filled, numbered_in, AreAhead, Entry};
+ghost use Rattle.key_table.specs.Numbers.{Numbered};
 
 use crate::chain::Chain;
 use crate::record::Record;
@@ -29,9 +30,6 @@ pub(crate) struct NumbersIn<'a> {
 }
 
 impl<'a> Model for NumbersIn<'a> {
-    ghost use Rattle.key_table.specs.Numbers.{Numbered};
-    ghost use Rattle.version_chain.specs.Stores.{AreAhead, numbered_in};
-
     ghost Value = { Numbered };
 
     ghost view = { λ s. numbered_in s.span.now s.ahead };
@@ -75,10 +73,6 @@ pub struct InSpan<'a> {
 }
 
 impl<'a> Model for InSpan<'a> {
-    ghost use Rattle.std.specs.Prelude.{List};
-    ghost use Rattle.version_chain.specs.Stores.{Entry, filled};
-    ghost use Rattle.version_chain.specs.ByNumber.{chains_in, entries_of};
-
     ghost Value = { List Entry };
 
     ghost view = { λ s. filled (entries_of s.numbers (chains_in s.records.now)) };

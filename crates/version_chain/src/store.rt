@@ -5,10 +5,11 @@ ghost use Rattle.std.specs.List.{filter};
 ghost use Rattle.std.specs.Map.{keys_of};
 ghost use Rattle.version_chain.specs.Prelude.{IsNextAbove, RisingKeys, in_span, until};
 ghost use Rattle.version_chain.specs.Walking.{IsBeside, keys_ahead};
-ghost use Rattle.version_chain.specs.Stores.{Entry, AreFilled, HaveSameMarks, found_in, has_versions, marked_in, AreMarkedAt, IsCrossedIn, IsMarkedAt, is_committed_in, version_in, IsCommittedAt, IsCountAt, IsCountOf, IsNewestIn, IsAsBefore, IsWrittenTo, AreCommittedAt, AreDroppedAt};
+ghost use Rattle.version_chain.specs.Stores.{Entry, AreFilled, HaveSameMarks, found_in, has_versions, marked_in, AreMarkedAt, IsCrossedIn, IsMarkedAt, is_committed_in, version_in, IsCommittedAt, IsCountAt, IsCountOf, IsNewestIn, IsAsBefore, IsWrittenTo, AreCommittedAt, AreDroppedAt, Stored};
 ghost use Rattle.version_chain.specs.Dead.{is_dead_in, ArePartlyThinned, IsCollectedIn};
-ghost use Rattle.version_chain.specs.Indexes.{is_listed, IsFilled, IsListedAt};
+ghost use Rattle.version_chain.specs.Indexes.{is_listed, IsFilled, IsListedAt, IsSound};
 ghost use Rattle.version_chain.specs.declared.store.Wrote.TheVariants.{Crossed, Done};
+ghost use Rattle.version_chain.specs.Records.{stored_of};
 
 use crate::chain::Version;
 use crate::chains::{Chains, Placed, Spot};
@@ -44,10 +45,6 @@ pub struct Store {
 }
 
 impl Model for Store {
-    ghost use Rattle.version_chain.specs.Stores.{Stored};
-    ghost use Rattle.version_chain.specs.Indexes.{IsSound};
-    ghost use Rattle.version_chain.specs.Records.{stored_of};
-
     ghost Value = { Stored };
 
     ghost view = { λ s. stored_of s.chains };

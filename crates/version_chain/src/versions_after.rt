@@ -1,5 +1,7 @@
 //! A walk from one version to the next.
-ghost use Rattle.version_chain.specs.Walking.{IsNextFound, IsWalkedTo, IsFirstTaken, keys_ahead};
+ghost use Rattle.version_chain.specs.Walking.{IsNextFound, IsWalkedTo, IsFirstTaken, keys_ahead, Walk, IsAhead};
+ghost use Rattle.std.specs.Option.{option_copied};
+ghost use Rattle.version_chain.specs.Records.{stored_of};
 
 use crate::chains::Chains;
 use key_set::{KeySet, Keys};
@@ -37,10 +39,6 @@ pub struct VersionsAfter<'a> {
 }
 
 impl<'a> Model for VersionsAfter<'a> {
-    ghost use Rattle.std.specs.Option.{option_copied};
-    ghost use Rattle.version_chain.specs.Walking.{Walk, IsAhead, keys_ahead};
-    ghost use Rattle.version_chain.specs.Records.{stored_of};
-
     ghost Value = { Walk };
 
     ghost view = { λ w. record { store = stored_of w.chains.now; ts = w.ts; key = option_copied w.key; through = w.through } };

@@ -4,7 +4,7 @@ ghost use Rattle.std.specs.List.{find, fold, position};
 ghost use Rattle.std.specs.Option.{option_copied};
 ghost use Rattle.plain_database.specs.Prelude.{Cancels, Opens, Polls, feed_of, feeds_opened, floor_of, least_of, live_feeds};
 ghost use Rattle.plain_database.specs.declared.feeds.record.FeedRecord.{FeedRecord};
-ghost use Rattle.plain_database.specs.FeedTie.{floor_in, telling_in, FeedsTied, IsRecordOf, Says, LeadsTo, refusal_of_poll, refusal_of_cancel};
+ghost use Rattle.plain_database.specs.FeedTie.{floor_in, telling_in, FeedsTied, IsRecordOf, Says, LeadsTo, refusal_of_poll, refusal_of_cancel, Book};
 
 use crate::feeds::record::{FeedRecord, Told};
 use spans::calls::{Message, Messages, Refusal};
@@ -21,8 +21,6 @@ pub struct FeedBook {
 }
 
 impl Model for FeedBook {
-    ghost use Rattle.plain_database.specs.FeedTie.{Book};
-
     ghost Value = { Book };
 
     ghost view = { λ b. record { opened = b.opened; live = b.live.items } };

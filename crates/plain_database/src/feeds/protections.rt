@@ -2,7 +2,7 @@
 ghost use Rattle.std.specs.Prelude.{◌≡◌, ◌==◌, ◌<◌, [], map, min, reverse, suc, IfOk, OnErr};
 ghost use Rattle.std.specs.List.{fold, list_any};
 ghost use Rattle.plain_database.specs.Prelude.{Protection, Protects, Releases, is_protected, least_of, protection_report, protections_made, protections_of};
-ghost use Rattle.plain_database.specs.ProtectionTie.{ProtectionsTied, Says, LeadsTo, timestamps_of};
+ghost use Rattle.plain_database.specs.ProtectionTie.{ProtectionsTied, Says, LeadsTo, timestamps_of, Standing};
 
 use spans::report::ProtectionReport;
 use std::alloc::{AllocError, Global};
@@ -16,8 +16,6 @@ struct Protection {
 }
 
 impl Model for Protection {
-    ghost use Rattle.plain_database.specs.Prelude.{Protection};
-
     ghost Value = { Protection };
 
     ghost view = { λ x. record { id = x.id; at = x.at } };
@@ -31,8 +29,6 @@ pub struct Protections {
 }
 
 impl Model for Protections {
-    ghost use Rattle.plain_database.specs.ProtectionTie.{Standing};
-
     ghost Value = { Standing };
 
     ghost view = { λ p. record { made = p.made; standing = p.standing.items } };

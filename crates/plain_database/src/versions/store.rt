@@ -3,7 +3,7 @@
 ghost use Rattle.std.specs.Prelude.{◌≡◌, ◌++◌, ◌∷◌, [], OnErr, OnOk, Some};
 ghost use Rattle.std.specs.Option.{option_copied};
 ghost use Rattle.spans.specs.Versions.{newest};
-ghost use Rattle.plain_database.specs.Table.{begun_at, changed, committed_at, ended, gone_in, is_crossed, reading, with_begun, writing};
+ghost use Rattle.plain_database.specs.Table.{begun_at, changed, committed_at, ended, gone_in, is_crossed, reading, with_begun, writing, IsIndexed};
 ghost use Rattle.plain_database.specs.VersionsTied.{Held, VersionsTied, place_of, version_in};
 
 use crate::versions::begun::Begun;
@@ -33,9 +33,6 @@ pub struct VersionStore {
 }
 
 impl Model for VersionStore {
-    ghost use Rattle.plain_database.specs.Table.{IsIndexed};
-    ghost use Rattle.plain_database.specs.VersionsTied.{Held};
-
     ghost Value = { Held };
 
     ghost view = { λ s. record { closed = s.closed; table = s.table } };

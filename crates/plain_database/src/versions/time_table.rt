@@ -1,7 +1,7 @@
 //! The checker's transactions by timestamp.
 ghost use Rattle.std.specs.Prelude.{◌≡◌, [], OnErr, OnOk};
 ghost use Rattle.std.specs.Option.{option_copied};
-ghost use Rattle.plain_database.specs.Table.{begun_at, changed, ended, is_crossed, reading, with_begun, writing};
+ghost use Rattle.plain_database.specs.Table.{begun_at, changed, ended, is_crossed, reading, with_begun, writing, AllBegun};
 
 use crate::versions::begun::Begun;
 use crate::versions::reads::Read;
@@ -22,8 +22,6 @@ pub struct TimeTable {
 }
 
 impl Model for TimeTable {
-    ghost use Rattle.plain_database.specs.Table.{AllBegun};
-
     ghost Value = { AllBegun };
 
     ghost view = { λ t. t.map.entries };

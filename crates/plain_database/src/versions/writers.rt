@@ -8,7 +8,8 @@ ghost use Rattle.std.specs.Range.Bound.{bound_map};
 ghost use Rattle.spans.proofs.Keyed.{RisingKeys};
 ghost use Rattle.spans.specs.Keys.{in_span};
 ghost use Rattle.spans.specs.KeyOrder.{start_of};
-ghost use Rattle.plain_database.specs.Table.{IsLast, is_listed};
+ghost use Rattle.plain_database.specs.Table.{IsLast, is_listed, Listed};
+ghost use Rattle.plain_database.specs.Replies.{AreAhead};
 
 use spans::bound::{Bound, is_below};
 use spans::span::Span;
@@ -29,8 +30,6 @@ pub struct Writers {
 }
 
 impl Model for Writers {
-    ghost use Rattle.plain_database.specs.Table.{Listed};
-
     ghost Value = { Listed };
 
     ghost view = { λ w. w.map.entries };
@@ -85,11 +84,6 @@ pub(crate) struct KeysIn<'a> {
 }
 
 impl<'a> Model for KeysIn<'a> {
-    ghost use Rattle.std.specs.Prelude.{ℕ, List, filter};
-    ghost use Rattle.std.specs.Map.{keys_of};
-    ghost use Rattle.spans.specs.Keys.{in_span};
-    ghost use Rattle.plain_database.specs.Replies.{AreAhead};
-
     ghost Value = { List (List ℕ) };
 
     ghost view = { λ s. filter (in_span s.span.now) (keys_of s.ahead) };

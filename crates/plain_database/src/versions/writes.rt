@@ -1,9 +1,10 @@
 //! What one of the checker's transactions wrote.
-ghost use Rattle.std.specs.Prelude.{◌≡◌, [], OnErr, OnOk, length};
+ghost use Rattle.std.specs.Prelude.{◌≡◌, [], OnErr, OnOk, length, ℕ, List};
 ghost use Rattle.std.specs.BTreeMap.{insert_entry, is_at};
 ghost use Rattle.std.specs.Map.{lookup};
 ghost use Rattle.std.specs.Option.{option_copied};
 ghost use Rattle.timestamps.specs.Words.{key_cmp};
+ghost use Rattle.spans.specs.Effects.{After};
 
 use std::alloc::{AllocError, Global};
 use std::collections::BTreeMap;
@@ -18,9 +19,6 @@ pub struct Writes {
 }
 
 impl Model for Writes {
-    ghost use Rattle.std.specs.Prelude.{ℕ, List};
-    ghost use Rattle.spans.specs.Effects.{After};
-
     ghost Value = { List (List ℕ × After) };
 
     ghost view = { λ w. w.map.entries };

@@ -2,14 +2,13 @@
 ghost use Rattle.std.specs.Prelude.{◌≡◌};
 ghost use Rattle.std.specs.BTreeMap.{IsOrdered};
 ghost use Rattle.timestamps.specs.Words.{key_cmp};
+ghost use Rattle.read_marks.specs.Spans.{KeepsLatest, latest_below};
 
 use super::SpanMarks;
 use std::ops::Bound;
 use timestamps::small_bytes::SmallBytes;
 
 impl SpanMarks {
-    ghost use Rattle.read_marks.specs.Spans.{KeepsLatest, latest_below};
-
     /// The latest reader just below a start, or 0.
     fn latest_below(&self, start: &SmallBytes) -> u64
         ensures latest { result ≡ latest_below self.now start.now }

@@ -1,5 +1,6 @@
 //! What a feed tells.
-ghost use Rattle.std.specs.Prelude.{◌≡◌};
+ghost use Rattle.std.specs.Prelude.{◌≡◌, List};
+ghost use Rattle.spans.specs.declared.calls.messages.Message.{Message};
 
 use std::marker::Model;
 use timestamps::row::Row;
@@ -23,9 +24,6 @@ pub struct Messages {
 }
 
 impl Model for Messages {
-    ghost use Rattle.std.specs.Prelude.{List};
-    ghost use Rattle.spans.specs.declared.calls.messages.Message.{Message};
-
     ghost Value = { List Message };
 
     ghost view = { λ m. m.list.items };
