@@ -4,12 +4,10 @@ ghost use Rattle.catch_up.specs.Left.{AreNextIn, AreHeads, IsCut, IsFirstDue, Is
 ghost use Rattle.version_chain.specs.Walking.{is_before};
 
 use crate::rows::row_of;
-use spans::span::Span;
+use spans::Span;
 use std::alloc::{AllocError, Global};
 use std::collections::BTreeMap;
-use timestamps::key::Key;
-use timestamps::row::Row;
-use timestamps::ts::Ts;
+use timestamps::{Key, Row, Ts};
 use version_chain::chain::{Chain, Version};
 use version_chain::{Steps, Store};
 

@@ -4,12 +4,9 @@ ghost use Rattle.std.specs.Option.{option_copied};
 ghost use Rattle.spans.specs.Keys.{in_span};
 ghost use Rattle.catch_up.specs.Left.{AreNextFirsts, is_past, one_in, value_in};
 
-use spans::bound::Bound;
-use spans::span::Span;
+use spans::{Bound, Span};
 use std::alloc::{AllocError, Global};
-use timestamps::key::Key;
-use timestamps::row::Row;
-use timestamps::ts::Ts;
+use timestamps::{Key, Row, Ts};
 use version_chain::chain::Version;
 use version_chain::{Steps, Store};
 

@@ -8,7 +8,7 @@ ghost use Rattle.kept.specs.Places.{or_min};
 ghost use Rattle.kept.specs.Finding.{reach};
 ghost use Rattle.closing.specs.Standing.{closed_in, entry_report, made_in, protections_in, protection, Standing, newest_first, AreTied};
 
-use spans::report::ProtectionReport;
+use spans::ProtectionReport;
 use std::alloc::{AllocError, Global};
 use std::collections::{BTreeMap, BTreeSet};
 use std::marker::Model;

@@ -1,5 +1,9 @@
 -- What the program does: which job runs on which devices, and the exit status that it leaves (this project).
 use Rattle.std.specs.Prelude.{ℕ, ◌≡◌, ◌≢◌, ◌⊎◌, ◌==◌, if◌then◌else◌, Option, Some, List, unwrap_or}
+use Rattle.jobs.specs.declared.ending.End.{End}
+use Rattle.follow.specs.declared.ending.FollowEnd.{FollowEnd}
+use Rattle.follow.specs.Seeds.{IsSeedOf, IsUnseeded}
+use Rattle.sessions.specs.Devices.{Reads, Writes}
 use Rattle.clap.specs.declared.error.kind.ErrorKind.{ErrorKind}
 use Rattle.jobs.specs.Ends.{IsAnswered, IsSilentAt, IsRun}
 use Rattle.jobs.specs.Verdicts.{IsDumped, IsState, IsVerdict}
@@ -12,7 +16,6 @@ use Rattle.clap.specs.declared.error.kind.ErrorKind.TheVariants as kinds
 use Rattle.jobs.specs.declared.ending.End.TheVariants as ends
 use Rattle.follow.specs.declared.ending.FollowEnd.TheVariants as follow_ends
 use Rattle.follow.specs.declared.options.Start.TheVariants as starts
-use Rattle.command_line.specs.Prelude.{End, FollowEnd, IsSeedOf, IsUnseeded, Reads, Writes}
 use Rattle.command_line.specs.declared.arguments.Job.{Job}
 use Rattle.command_line.specs.declared.following.Seeded.{Seeded}
 use Rattle.command_line.specs.declared.arguments.Job.TheVariants as jobs

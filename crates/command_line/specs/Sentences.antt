@@ -1,10 +1,11 @@
 -- What standard error is told of each end and of each fault (this project).
 use Rattle.std.specs.Prelude.{ℕ, List, ◌++◌, ◌==◌, codes, decimal, if◌then◌else◌, Option, Some, None}
+use Rattle.jobs.specs.declared.ending.End.{End}
+use Rattle.follow.specs.declared.ending.FollowEnd.{FollowEnd}
 use Rattle.spelled_words.specs.declared.fault.LineFault.{LineFault}
 use Rattle.spelled_words.specs.declared.fault.LineFault.TheVariants as faults
 use Rattle.shared_db.specs.declared.config.OpenError.{OpenError}
 use Rattle.shared_db.specs.declared.config.OpenError.TheVariants as reasons
-use Rattle.command_line.specs.Prelude.{End, FollowEnd}
 use Rattle.jobs.specs.declared.ending.End.TheVariants as ends
 use Rattle.follow.specs.declared.ending.FollowEnd.TheVariants as follow_ends
 use Rattle.follow.specs.declared.fault.FollowFault.{FollowFault}

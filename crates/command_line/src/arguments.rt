@@ -11,7 +11,7 @@ use sessions::Config;
 use std::alloc::{AllocError, Global};
 use std::convert::AsStr;
 use text_format::Format;
-use timestamps::ts::Ts;
+use timestamps::Ts;
 use word_lines::fault::ReadError;
 
 /// The program's command line, as clap is to read it.

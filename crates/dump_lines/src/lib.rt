@@ -28,9 +28,9 @@ ghost use Rattle.restarts.specs.Dump.{started};
 ghost use Rattle.dump_lines.specs.Lines.{close_text, end_text, lines_of, row_command, row_text};
 
 use json_lines::buffer::or_undo;
-use spans::calls::Cmd;
+use spans::Cmd;
 use std::alloc::AllocError;
-use timestamps::row::Row;
+use timestamps::Row;
 use word_lines::commands::write_command;
 
 /// Writes the lines of a row at the end: what comes before it, where `latest` may be open, and its write.

@@ -1,9 +1,7 @@
 -- The dump of the database that an embedded one holds, piece by piece, and how a piece is written (this project's own).
 use Rattle.std.specs.Prelude.{ℕ, suc, List, [], ◌∷◌, ◌++◌, ◌-◌, ◌≡◌, length, take, max, min, nat_le, nat_lt, if◌then◌else◌, Option, Some, None, option_map}
 use Rattle.spans.specs.declared.calls.commands.Cmd.TheVariants.{Close, Collect}
-use Rattle.restarts.specs.Dump.{dump_commands, row_commands}
-use Rattle.engine.specs.Looking.{left_after}
-use Rattle.embedded.specs.Prelude.{Effect, Row, close_text, concat, end_text, horizon_of, lines_of, mark_of, row_text}
+use Rattle.embedded.specs.Prelude.{dump_commands, row_commands, left_after, Effect, Row, close_text, concat, end_text, horizon_of, lines_of, mark_of, row_text}
 use Rattle.embedded.specs.declared.dumping.DumpPlace.{DumpPlace}
 use Rattle.embedded.specs.declared.dumping.DumpPiece.{DumpPiece}
 use Rattle.embedded.specs.declared.dumping.DumpEnd.{DumpEnd}

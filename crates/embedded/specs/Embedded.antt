@@ -1,11 +1,8 @@
 -- What an embedded database holds, and what a call of a line does to it (this project's own).
 use Rattle.std.specs.Prelude.{ℕ, List, [], ◌∷◌, ◌≡◌, ◌⊎◌, length, reverse, Option, Some, None, Result, Ok, Err}
-use Rattle.embedded.specs.Prelude.{Cmd, Event, Two, WantsMemory, byte_words_at, command_at, command_line, table}
+use Rattle.embedded.specs.Prelude.{Cmd, Event, Two, WantsMemory, byte_words_at, command_at, command_line, table, event_text, Database, CallError}
 use Rattle.spans.specs.Legal.{IsLegal, IsGapless}
 use Rattle.engine.specs.Engine as engines
-use Rattle.word_lines.specs.Events.{event_text}
-use Rattle.embedded.specs.declared.database.Database.{Database}
-use Rattle.embedded.specs.declared.database.CallError.{CallError}
 use Rattle.embedded.specs.declared.database.CallError.TheVariants.{Fault, NoMemory, Spent, Unwritten}
 
 -- the last event of a history, whose newest event stands first

@@ -1,10 +1,8 @@
 -- The calls of several lines, one after another (this project's own).
 use Rattle.std.specs.Prelude.{ℕ, List, [], ◌∷◌, ◌++◌, ◌==◌, ◌≡◌, ◌≤◌, ◌<◌, ◌-◌, ◌⊎◌, ◌&&◌, Bool, true, false, not, length, map, drop, if◌then◌else◌, Result, Ok, Err}
-use Rattle.embedded.specs.Prelude.{Cmd, Effect, Event, IsOwnPoll, Two, command_at, effects_of, flat_map, is_long, table}
+use Rattle.embedded.specs.Prelude.{Cmd, Effect, Event, IsOwnPoll, Two, command_at, effects_of, flat_map, is_long, table, Database, CallError}
 use Rattle.word_lines.specs.Faults.{code_of}
 use Rattle.embedded.specs.Embedded.{StandsFor, Called, last_of, text_of}
-use Rattle.embedded.specs.declared.database.Database.{Database}
-use Rattle.embedded.specs.declared.database.CallError.{CallError}
 use Rattle.embedded.specs.declared.database.CallError.TheVariants.{Fault, NoMemory, Unwritten}
 use Rattle.embedded.specs.declared.several.Done.{Done}
 use Rattle.embedded.specs.declared.several.Taken.{Taken}

@@ -7,9 +7,8 @@ use Rattle.spans.specs.declared.calls.commands.Cmd.TheVariants as command
 use Rattle.spans.specs.declared.calls.messages.Message.TheVariants as message
 use Rattle.spans.specs.declared.calls.replies.Refusal.TheVariants as refusal
 use Rattle.spans.specs.declared.calls.replies.Reply.TheVariants as reply
-use Rattle.embedded.specs.Prelude.{Cmd, Event, Span, flat_map, to_le_bytes, w32, w64, effects_of, poll_count, scan_end, up_to}
+use Rattle.embedded.specs.Prelude.{Cmd, Event, Span, flat_map, to_le_bytes, w32, w64, effects_of, poll_count, scan_end, up_to, Database}
 use Rattle.embedded.specs.Embedded.{HasStepped}
-use Rattle.embedded.specs.declared.database.Database.{Database}
 use Rattle.embedded.specs.declared.event_record.EventRecord.{EventRecord}
 use Rattle.embedded.specs.declared.typed.Answer.{Answer}
 use Rattle.embedded.specs.declared.typed.NoPosition.{NoPosition}

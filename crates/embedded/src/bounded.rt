@@ -14,9 +14,7 @@ ghost use Rattle.embedded.specs.Embedded.{StandsFor};
 ghost use Rattle.embedded.specs.declared.bounded.BoundedError.TheVariants.{NoMemory};
 
 use crate::database::Database;
-use spans::bound::Bound;
-use spans::calls::Cmd;
-use spans::span::Span;
+use spans::{Bound, Cmd, Span};
 use std::alloc::AllocError;
 
 /// A command whose answer is to find room.

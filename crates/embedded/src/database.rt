@@ -6,8 +6,8 @@ ghost use Rattle.embedded.specs.Embedded.{StandsFor, HasLast, IsLastLine, IsNoRe
 
 use engine::Engine;
 use json_lines::buffer::copy_front;
-use spans::calls::{Cmd, Event};
 use spans::limits::MAX_SEATS;
+use spans::{Cmd, Event};
 use std::alloc::{AllocError, Global};
 use text_format::Format;
 use word_lines::commands::read_command;

@@ -18,8 +18,7 @@ ghost use Rattle.embedded.specs.Embedded.{StandsFor};
 use crate::database::Database;
 use dump_lines::{write_close, write_end, write_row};
 use std::alloc::AllocError;
-use timestamps::key::Key;
-use timestamps::row::Row;
+use timestamps::{Key, Row};
 
 /// A place in a dump: behind the row of a key at a timestamp, or without a key behind all rows of the timestamp.
 /// It begins at 0.

@@ -14,7 +14,7 @@ ghost use Rattle.embedded.specs.Typed.{command_number, first_number, record_of};
 
 use crate::database::Database;
 use crate::typed::reply_numbers;
-use spans::calls::Cmd;
+use spans::Cmd;
 
 /// An event in numbers. `embed/ripsawbean.h` names the commands and the kinds.
 #[repr(C)]

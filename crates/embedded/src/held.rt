@@ -12,7 +12,7 @@ ghost use Rattle.embedded.specs.Embedded.{StandsFor};
 ghost use Rattle.embedded.specs.Looks.{AreHeldBy, held_feed, held_in, held_protection, held_transaction};
 
 use crate::database::Database;
-use spans::report::{FeedReport, ProtectionReport, Report, TransactionReport};
+use spans::{FeedReport, ProtectionReport, Report, TransactionReport};
 use std::alloc::{AllocError, Global};
 
 /// An undecided transaction.

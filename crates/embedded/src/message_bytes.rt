@@ -4,11 +4,9 @@ ghost use Rattle.std.specs.Prelude.{◌≡◌, ◌++◌, ◌<◌, Some, true, is
 ghost use Rattle.std.specs.List.{flat_map};
 ghost use Rattle.embedded.specs.Typed.{end_bytes, head, message_bytes, pair_bytes, row_bytes, rows_bytes, scan_of};
 
-use spans::bound::Bound;
-use spans::calls::{Cmd, Message};
+use spans::{Bound, Cmd, Message};
 use std::alloc::AllocError;
-use timestamps::key::Key;
-use timestamps::value::Value;
+use timestamps::{Key, Value};
 
 /// A resolved timestamp.
 const RESOLVED: u8 = 0;

@@ -15,7 +15,7 @@ ghost use Rattle.embedded.specs.Several.{HaveBeenCalled, IsLookedAt, IsTaken, Is
 
 use crate::database::{CallError, Database};
 use memchr::memchr;
-use spans::calls::Cmd;
+use spans::Cmd;
 use std::alloc::AllocError;
 
 const UNSHOWN: u8 = 14;

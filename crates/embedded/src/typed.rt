@@ -16,7 +16,7 @@ ghost use Rattle.embedded.specs.Typed.{MadeBy, HasBulk, IsBulk, is_read, numbers
 use crate::database::Database;
 use crate::message_bytes::{put_messages, put_scan};
 use json_lines::buffer::copy_front;
-use spans::calls::{Cmd, Event, Refusal, Reply};
+use spans::{Cmd, Event, Refusal, Reply};
 use std::alloc::{AllocError, Global};
 
 /// No position is left: the next one would be 18446744073709551615. No call was made.

@@ -16,7 +16,7 @@ ghost use Rattle.embedded.specs.Looks.{AreVersionsAt, IsKey, Leads, NoneLeads, v
 
 use crate::database::Database;
 use std::alloc::AllocError;
-use timestamps::key::{Key, KeyError, MAX_KEY_BYTES};
+use timestamps::{Key, KeyError, MAX_KEY_BYTES};
 
 /// Why no further version is told.
 #[derive(Clone, Copy, Debug)]

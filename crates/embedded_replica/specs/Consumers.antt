@@ -1,21 +1,29 @@
 -- What a consumer that is called by text holds, with which rows it begins, and what a call does (this project's own).
 use Rattle.std.specs.Prelude.{ℕ, List, [], Bool, true, false, ◌≡◌, ◌≢◌, ◌⊎◌, ◌<◌, ◌≤◌, nat_le, length, flat_map, if◌then◌else◌, Option, Some, None, option_and_then, Ok, Err, ◌∷◌, ◌||◌, nat_lt, Result}
+use Rattle.spans.specs.declared.calls.commands.Cmd.{Cmd}
+use Rattle.replica.specs.declared.fault.Fault.{Fault}
+use Rattle.timestamps.specs.declared.ts.TheConstants.{MAX}
+use Rattle.replica.specs.declared.replica.Replica.{Replica}
+use Rattle.spans.specs.declared.span.Span.{Span}
+use Rattle.replica.specs.Starts.{Start, initial_start, seeded_start, IsSeedFault, MayBegin, Pairs}
+use Rattle.text_format.specs.declared.Format.TheVariants.{Two}
+use Rattle.word_lines.specs.Events.{row_line}
+use Rattle.word_lines.specs.Table.{table}
 use Rattle.timestamps.specs.declared.key.TheConstants.{MAX_KEY_BYTES}
 use Rattle.timestamps.specs.declared.key.KeyError.{KeyError}
 use Rattle.timestamps.specs.declared.key.KeyError.TheVariants.{KeyLength, NoMemory}
 use Rattle.spans.specs.declared.calls.commands.Cmd.TheVariants.{Open, OpenInitial, OpenEvery, OpenInitialEvery}
 use Rattle.spans.specs.declared.calls.messages.Message.{Message}
 use Rattle.json_lines.specs.declared.fault.MessageFault.{MessageFault}
-use Rattle.json_lines.specs.Tests.{MayWantMemory, message_at}
-use Rattle.json_lines.specs.Messages.{IsMessage, message_line, Copied}
-use Rattle.replica.specs.Replicas.{AddsValue, ready_in}
+use Rattle.json_lines.specs.Tests.{message_at, MayWantMemory}
+use Rattle.json_lines.specs.Messages.{message_line, IsMessage, Copied}
+use Rattle.replica.specs.Replicas.{AddsValue, ready_in, Follows, IsFaultAt, Takes, test_of, view_in}
 use Rattle.replica.specs.Rows.{AreRowsOf}
 use Rattle.spelled_words.specs.declared.fault.LineFault.{LineFault}
-use Rattle.word_lines.specs.Reading.{◌>>=◌}
+use Rattle.word_lines.specs.Reading.{◌>>=◌, WantsMemory, byte_words_at, command_at}
 use Rattle.script.specs.EventLines.{lines_of, row_line_at}
 use Rattle.json_lines.specs.declared.fault.MessageFault.TheVariants as lines
 use Rattle.replica.specs.declared.fault.Fault.TheVariants as faults
-use Rattle.embedded_replica.specs.Prelude.{Cmd, Fault, Follows, IsFaultAt, MAX, Replica, Span, Start, Takes, Two, WantsMemory, byte_words_at, command_at, initial_start, row_line, seeded_start, table, test_of, view_in, IsSeedFault, MayBegin, Pairs}
 use Rattle.embedded_replica.specs.declared.consumer.Consumer.{Consumer}
 use Rattle.embedded_replica.specs.declared.consumer.Opening.{Opening}
 use Rattle.embedded_replica.specs.declared.consumer.BeginError.{BeginError}

@@ -1,19 +1,18 @@
 //! The consumer of one feed.
 ghost use Rattle.std.specs.Prelude.{◌≡◌, Some, IfOk, IfErr, OnErr};
-ghost use Rattle.embedded_replica.specs.Prelude.{complete_in, through_in};
+ghost use Rattle.replica.specs.Replicas.{complete_in, through_in};
 ghost use Rattle.embedded_replica.specs.Consumers.{replica_of, opening_of, Begins, BeginsBy, IsUnopened, HasTaken, IsRefused, IsReady, IsNoMessage, IsNoKey, Shows, ShowsRows, IsUnopenedBy, seeded_of, BeginsWith, SeededBy, IsUnseeded, IsUnseededBy};
 
 use crate::rows::{pairs_of, text_of};
 use json_lines::buffer::copy_front;
 use json_lines::{MessageFault, read_message};
 use replica::{Fault, Replica};
-use spans::calls::{Cmd, Message};
 use spans::limits::MAX_SEATS;
-use spans::span::Span;
+use spans::{Cmd, Message, Span};
 use std::alloc::{AllocError, Global};
 use text_format::Format;
-use timestamps::key::{Key, KeyError};
 use timestamps::ts::MAX;
+use timestamps::{Key, KeyError};
 use word_lines::commands::read_command;
 use word_lines::fault::{LineFault, ReadError};
 

@@ -9,8 +9,7 @@ use script::following::read_row;
 use script::lines::first_line;
 use std::alloc::{AllocError, Global};
 use text_format::Format;
-use timestamps::key::Key;
-use timestamps::value::Value;
+use timestamps::{Key, Value};
 use word_lines::fault::ReadError;
 use word_lines::spelling::put_spelling;
 

@@ -2,11 +2,10 @@
 use Rattle.std.specs.Prelude.{List, length, ℕ, ◌≡◌, Option}
 use Rattle.kept.specs.Places.{IsLeastFloor}
 use Rattle.kept.specs.Finding.{IsOldest}
-use Rattle.mvto_rules.specs.Holding.{horizon_of, IsReachedIn, IsLimit}
+use Rattle.mvto_rules.specs.Holding.{horizon_of}
 use Rattle.kept.specs.StandsFor as keeping
-use Rattle.engine.specs.Prelude.{Event, Kept, Standing, holding, opened_in, place_in, closed_in, closing_of, transactions_of}
+use Rattle.engine.specs.Prelude.{IsReachedIn, IsLimit, Event, Kept, Standing, holding, opened_in, place_in, closed_in, closing_of, transactions_of, Places}
 use Rattle.engine.specs.declared.layers.Layers.{Layers}
-use Rattle.engine.specs.declared.looking.Places.{Places}
 
 -- what the feeds are, and nothing else
 abbrev pub feeds_of : Standing → Kept

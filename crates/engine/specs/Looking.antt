@@ -1,14 +1,12 @@
 -- What may be asked beside the commands: versions, places, rows that a dump has still to write (this project's own).
 use Rattle.std.specs.Prelude.{ℕ, List, true, false, ◌≡◌, ◌≤◌, ◌⊎◌, if◌then◌else◌, Option, Some, None, is_some, nat_lt, option_map, MatchOption, [], filter, ◌∷◌}
-use Rattle.spans.specs.Versions.{newest}
 use Rattle.timestamps.specs.declared.row.Row.{Row}
 use Rattle.spans.specs.Streams.{row_lt}
 use Rattle.restarts.specs.Dump.{all_keys, left_rows}
 use Rattle.version_chain.specs.Walking.{is_after_place}
 use Rattle.version_chain.specs.Stores.{Stored}
 use Rattle.catch_up.specs.Left.{IsLeftIn}
-use Rattle.engine.specs.Prelude.{Effect, Feed, closed_of, committed_version_of, feed_of, floor_of, horizon_of, is_cancelled, is_undecided, limit_of, live_feed, owner_of}
-use Rattle.engine.specs.declared.looking.Places.{Places}
+use Rattle.engine.specs.Prelude.{newest, Effect, Feed, closed_of, committed_version_of, feed_of, floor_of, horizon_of, is_cancelled, is_undecided, limit_of, live_feed, owner_of, Places}
 
 -- ---- versions
 

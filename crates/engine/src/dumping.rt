@@ -17,11 +17,10 @@ ghost use Rattle.engine.specs.Engine.{StandsFor};
 
 use crate::Engine;
 use catch_up::next_rows;
-use spans::span::Span;
+use spans::Span;
 use std::alloc::{AllocError, Global};
 use std::iter::Iterator;
-use timestamps::key::Key;
-use timestamps::row::Row;
+use timestamps::{Key, Row};
 
 impl Engine {
     /// The first row that is left behind a place, at or below `through`: of the committed versions that aren't dead, by

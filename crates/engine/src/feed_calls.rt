@@ -5,9 +5,7 @@ ghost use Rattle.engine.specs.Layers.{kept_of};
 
 use crate::layers::Layers;
 use feed::PollError;
-use spans::calls::{Refusal, Reply};
-use spans::kind::Kind;
-use spans::span::Span;
+use spans::{Kind, Refusal, Reply, Span};
 use timestamps::ts::MAX;
 
 impl Layers {

@@ -2,13 +2,12 @@
 ghost use Rattle.std.specs.Prelude.{◌<◌};
 ghost use Rattle.kept.specs.StandsFor.{nothing_kept};
 ghost use Rattle.kept.specs.Changes.{IsAlike};
-ghost use Rattle.engine.specs.Prelude.{IsStep, Stats};
+ghost use Rattle.engine.specs.Prelude.{IsStep, Stats, opened_in};
 ghost use Rattle.engine.specs.Layers.{kept_of};
-ghost use Rattle.feed.specs.Standing.{opened_in};
 
 use feed::Feeds;
 use mvto_rules::Rules;
-use spans::calls::{Cmd, Reply};
+use spans::{Cmd, Reply};
 use std::alloc::Global;
 
 /// Each layer holds its part of what is kept of a history.

@@ -64,8 +64,7 @@ mod running;
 use crate::layers::Layers;
 pub use looking::Places;
 pub use room::MOST_ROWS;
-use spans::calls::{Cmd, Reply};
-use spans::report::Report;
+use spans::{Cmd, Reply, Report};
 use std::alloc::{AllocError, Global};
 
 /// The layers, with a count of the commands that were answered.

@@ -16,7 +16,7 @@ ghost use Rattle.engine.specs.Engine.{StandsFor};
 
 use crate::Engine;
 use crate::layers::Layers;
-use timestamps::key::Key;
+use timestamps::Key;
 
 /// How far a database has come.
 #[derive(Clone, Copy, Debug)]

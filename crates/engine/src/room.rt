@@ -18,10 +18,9 @@ ghost use Rattle.engine.specs.Engine.{StandsFor};
 
 use crate::Engine;
 use crate::layers::Layers;
-use spans::calls::Cmd;
-use spans::span::Span;
+use spans::{Cmd, Span};
 use std::alloc::AllocError;
-use timestamps::key::Key;
+use timestamps::Key;
 
 /// A scan of more rows is long, however few bytes they have, because its time goes with its rows.
 pub const MOST_ROWS: u64 = 32_768;

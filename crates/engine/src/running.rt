@@ -1,11 +1,11 @@
 //! Calls made one after the other on a new engine.
 ghost use Rattle.std.specs.Prelude.{◌≡◌, List, [], ◌∷◌, ◌+◌, ◌<◌, ◌≤◌, map, reverse, IfOk, IsOk, vec_capacity, vec_len};
-ghost use Rattle.spans.specs.declared.calls.events.Event.{Event};
+ghost use Rattle.engine.specs.Prelude.{Event};
 ghost use Rattle.spans.specs.Legal.{IsGapless};
 ghost use Rattle.engine.specs.Engine.{call_of, StandsFor, steps_of};
 
 use crate::Engine;
-use spans::calls::{Cmd, Event};
+use spans::{Cmd, Event};
 use std::alloc::{AllocError, Global};
 
 impl Engine {

@@ -11,13 +11,10 @@ pub(crate) mod telling;
 
 use crate::place::{Arrival, RowName};
 use catch_up::next_snapshot;
-use spans::kind::Kind;
-use spans::span::Span;
+use spans::{Kind, Span};
 use std::alloc::{AllocError, Global};
 use std::marker::Model;
-use timestamps::key::Key;
-use timestamps::row::Row;
-use timestamps::ts::Ts;
+use timestamps::{Key, Row, Ts};
 use version_chain::Store;
 
 /// A feed with its place.

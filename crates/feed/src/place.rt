@@ -4,12 +4,10 @@ ghost use Rattle.std.specs.Option.{option_copied};
 ghost use Rattle.feed.specs.Prelude.{last_name, last_resolved, name_of};
 ghost use Rattle.spans.specs.Collection.{VersionName};
 
-use spans::calls::Message;
+use spans::Message;
 use std::alloc::AllocError;
 use std::marker::Model;
-use timestamps::key::Key;
-use timestamps::row::Row;
-use timestamps::ts::Ts;
+use timestamps::{Key, Row, Ts};
 
 /// The row that was told: its key and timestamp, and not what it says.
 #[derive(Drop)]

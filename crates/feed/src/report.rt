@@ -7,7 +7,7 @@ ghost use Rattle.feed.specs.Standing.{place_at, report_at};
 
 use crate::live::LiveFeed;
 use indexmap::IndexMap;
-use spans::report::FeedReport;
+use spans::FeedReport;
 use std::alloc::{AllocError, Global};
 
 /// Feeds by number.

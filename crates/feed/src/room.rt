@@ -15,9 +15,9 @@ ghost use Rattle.feed.specs.Firsts.{IsCountLeft, count_within, message_weight, v
 
 use crate::live::LiveFeed;
 use crate::live::telling::Told;
-use spans::calls::Message;
+use spans::Message;
 use std::alloc::{AllocError, Global};
-use timestamps::value::Value;
+use timestamps::Value;
 use version_chain::Store;
 
 /// The bytes of a message beside those of a key and a value.

@@ -1,13 +1,9 @@
 -- How following a feed ends: what was taken of the input, and what was told of it (this project).
 use Rattle.std.specs.Prelude.{ℕ, zero, ◌+◌, ◌≡◌, ◌≢◌, ◌≤◌, ◌⊎◌, Bool, true, List, [], ◌∷◌, ◌++◌, length, position, Some, None}
-use Rattle.follow.specs.Prelude.{Message, Reads, Writes, has_newline, is_newline, lines_of}
-use Rattle.word_lines.specs.Events.{spent_line}
+use Rattle.follow.specs.Prelude.{Message, Reads, Writes, has_newline, is_newline, lines_of, spent_line, FollowEnd, FollowOptions, FollowFault}
 use Rattle.ticket_lock.specs.Lists.{StartsWith}
 use Rattle.sessions.specs.Runs.{MayHold}
-use Rattle.follow.specs.declared.ending.FollowEnd.{FollowEnd}
 use Rattle.follow.specs.declared.ending.FollowEnd.TheVariants as ends
-use Rattle.follow.specs.declared.options.FollowOptions.{FollowOptions}
-use Rattle.follow.specs.declared.fault.FollowFault.{FollowFault}
 use Rattle.follow.specs.declared.fault.FollowError.TheVariants as errors
 use Rattle.follow.specs.Following.{IsUnbegun, MayStart, fault_line, Followed, followed_at, followed_through}
 use Rattle.follow.specs.Reports.{IsFollowReport}

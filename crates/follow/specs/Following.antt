@@ -1,7 +1,6 @@
 -- Which lines of an input a follower takes as messages, up to the first that it can't follow (this project).
 use Rattle.std.specs.Prelude.{ℕ, ◌==◌, Bool, false, if◌then◌else◌, List, [], ◌∷◌, Option, Some, None, Result, Ok, Err, bytes_eq, codes, ◌≡◌, ◌&&◌, ◌++◌, decimal, ◌+◌, is_none}
 use Rattle.json_lines.specs.Meaning.{number_of}
-use Rattle.word_lines.specs.Events.{joined}
 use Rattle.replica.specs.declared.fault.Fault.{Fault}
 use Rattle.replica.specs.Starts.{Start as ReplicaStart}
 use Rattle.json_lines.specs.Tests.{message_at}
@@ -9,11 +8,8 @@ use Rattle.json_lines.specs.declared.fault.MessageFault.TheVariants as message
 use Rattle.spelled_words.specs.declared.fault.LineFault.TheVariants as line_faults
 use Rattle.replica.specs.declared.fault.Fault.TheVariants as replica_faults
 use Rattle.spans.specs.Consumer as consumer
-use Rattle.follow.specs.Prelude.{LineFault, words_at, IsSeedFault, MayBegin, MessageFault, Span, initial_start, seeded_start, spelling, ApplyFault, Format, Message, apply_fault, lines_of, text_at}
+use Rattle.follow.specs.Prelude.{spelling, joined, LineFault, words_at, IsSeedFault, MayBegin, MessageFault, Span, initial_start, seeded_start, ApplyFault, Format, Message, apply_fault, lines_of, text_at, FollowFault, FollowError, FollowOptions}
 use Rattle.follow.specs.declared.options.Start.{Start}
-use Rattle.follow.specs.declared.fault.FollowFault.{FollowFault}
-use Rattle.follow.specs.declared.fault.FollowError.{FollowError}
-use Rattle.follow.specs.declared.options.FollowOptions.{FollowOptions}
 use Rattle.follow.specs.declared.options.Start.TheVariants as starts
 use Rattle.follow.specs.declared.fault.FollowFault.TheVariants as faults
 use Rattle.follow.specs.declared.fault.FollowError.TheVariants as errors

@@ -2,8 +2,7 @@
 use Rattle.std.specs.Prelude.{ℕ, ◌≡◌, if◌then◌else◌, List, [], ◌∷◌, ◌++◌, length, codes, Option, Some, None, is_some}
 use Rattle.std.specs.List.{flat_map}
 use Rattle.spans.specs.declared.calls.messages.Message.TheVariants as messages
-use Rattle.follow.specs.Prelude.{AreRowsOf, Map, Message, insert_key, ready_after, row_line, view_of}
-use Rattle.follow.specs.declared.options.FollowOptions.{FollowOptions}
+use Rattle.follow.specs.Prelude.{AreRowsOf, Map, Message, insert_key, ready_after, row_line, view_of, FollowOptions}
 use Rattle.follow.specs.declared.options.Shown.{Shown}
 use Rattle.follow.specs.Following.{start_of, count_line, gone_line}
 use Rattle.follow.specs.declared.telling.Telling.{Telling}

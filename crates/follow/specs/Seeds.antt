@@ -7,7 +7,7 @@ use Rattle.spans.specs.declared.calls.commands.Cmd.{Cmd}
 use Rattle.spans.specs.declared.calls.replies.Reply.{Reply}
 use Rattle.spans.specs.declared.calls.events.Event.{Event}
 use Rattle.script.specs.declared.fault.TranscriptError.{TranscriptError}
-use Rattle.script.specs.Transcripts.{Fault, HasHeader, Transcript, WantsAny, left_of, outcome, transcript_at}
+use Rattle.script.specs.Transcripts.{transcript_at, Fault, HasHeader, Transcript, WantsAny, left_of, outcome}
 use Rattle.spans.specs.declared.calls.commands.Cmd.TheVariants as cmd
 use Rattle.spans.specs.declared.calls.replies.Reply.TheVariants as reply
 use Rattle.script.specs.declared.fault.TranscriptError.TheVariants as read_errors

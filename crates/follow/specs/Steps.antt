@@ -2,12 +2,9 @@
 use Rattle.std.specs.Prelude.{◌≡◌, ℕ, true, List, take, drop, Option, Ok, Err, ◌≢◌, ◌⊎◌, ◌+◌, ◌≤◌, Bool, false, if◌then◌else◌, [], ◌∷◌, ◌++◌, length, None, is_none, Result}
 use Rattle.sessions.specs.declared.ending.ServeEnd.{ServeEnd}
 use Rattle.sessions.specs.declared.ending.ServeEnd.TheVariants as serve_ends
-use Rattle.follow.specs.Prelude.{Message, format_of, has_ended, text_at, waiting, Follows, HasBegun, HasTaken, Reads, Start, Writes, apply_fault, lines_of, ready_after}
+use Rattle.follow.specs.Prelude.{Message, format_of, has_ended, text_at, waiting, Follows, HasBegun, HasTaken, Reads, Start, Writes, apply_fault, lines_of, ready_after, FollowError, FollowEnd, FollowOptions}
 use Rattle.follow.specs.declared.follower.Follower.{Follower}
-use Rattle.follow.specs.declared.fault.FollowError.{FollowError}
 use Rattle.follow.specs.Following.{is_taking_after, is_chosen, start_of, line_at, Followed, followed_at, followed_lines, onto_followed}
-use Rattle.follow.specs.declared.ending.FollowEnd.{FollowEnd}
-use Rattle.follow.specs.declared.options.FollowOptions.{FollowOptions}
 use Rattle.follow.specs.Reports.{IsFollowReport, named_after, named_in}
 use Rattle.follow.specs.Ends.{BeginWith, ComesBy, FailsAt, IsFollowed, TakesNext}
 use Rattle.follow.specs.declared.fault.FollowError.TheVariants as errors

@@ -1,9 +1,8 @@
 //! A feed is followed, from the first byte read to the last one written.
 ghost use Rattle.std.specs.Prelude.{◌≡◌, ◌++◌, OnOk, OnErr};
-ghost use Rattle.follow.specs.declared.options.FollowOptions.{FollowOptions};
 ghost use Rattle.follow.specs.Ends.{CouldBegin, IsFollowed, HasLine, last_line};
 ghost use Rattle.follow.specs.Steps.{EndsWritten, FollowsAs};
-ghost use Rattle.follow.specs.Prelude.{Reads, pending_of};
+ghost use Rattle.follow.specs.Prelude.{FollowOptions, Reads, pending_of};
 
 use crate::ending::{FollowEnd, end_by};
 use crate::follower::Follower;

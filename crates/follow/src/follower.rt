@@ -12,8 +12,7 @@ use crate::telling::Telling;
 use json_lines::read_message;
 use replica::Replica;
 use sessions::{Lines, Output, Sink, Source};
-use spans::calls::Message;
-use spans::span::Span;
+use spans::{Message, Span};
 use std::alloc::Global;
 use text_format::Format;
 use word_lines::words::text_of;
@@ -35,10 +34,8 @@ pub(crate) struct Follower {
 }
 
 impl Follower {
-    ghost use Rattle.sessions.specs.Waiting.{IsNextLine, waiting};
-    ghost use Rattle.sessions.specs.Devices.{pending_of};
+    ghost use Rattle.follow.specs.Prelude.{IsNextLine, waiting, pending_of, FollowOptions};
     ghost use Rattle.follow.specs.Steps.{HasRead, IsMisreadAt, IsFresh, IsStopped, TakesLine, StopsAtLine, TakesMore, StopsWithLine, TakesMessage, StopsWithMessage, ShowsReady, end_at, end_of};
-    ghost use Rattle.follow.specs.declared.options.FollowOptions.{FollowOptions};
 
     pub(crate) fn begin(alloc: Global, options: FollowOptions) -> Result<Follower, FollowError>
         ensures fresh { IfOk result (IsFresh options) }

@@ -1,9 +1,8 @@
 //! What is followed, and what is told of it.
 
-use spans::span::Span;
+use spans::Span;
 use text_format::Format;
-use timestamps::key::Key;
-use timestamps::value::Value;
+use timestamps::{Key, Value};
 
 /// The feed that is followed, and how much is told of it.
 #[derive(Debug, Drop, PartialEq, Eq)]

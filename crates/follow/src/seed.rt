@@ -11,12 +11,10 @@ ghost use Rattle.follow.specs.Seeds.{IsSeedOf, IsUnseeded, IsLastScan, IsUnscann
 
 use script::events::Events;
 use script::fault::TranscriptError;
-use spans::calls::{Cmd, Event, Reply, Rows};
-use spans::span::Span;
+use spans::{Cmd, Event, Reply, Rows, Span};
 use std::alloc::{AllocError, Global};
 use text_format::Format;
-use timestamps::key::Key;
-use timestamps::value::Value;
+use timestamps::{Key, Value};
 use word_lines::fault::LineFault;
 
 /// The rows that a scan found in a span, at a timestamp.

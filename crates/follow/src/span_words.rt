@@ -1,9 +1,8 @@
 //! Two words read as the span that is followed: a lower and an upper bound, `-` for none.
-ghost use Rattle.word_lines.specs.Reading.{Gives};
+ghost use Rattle.follow.specs.Prelude.{Gives};
 ghost use Rattle.follow.specs.Seeds.{bound_in, span_in};
 
-use spans::bound::{Bound, BoundError};
-use spans::span::Span;
+use spans::{Bound, BoundError, Span};
 use std::alloc::Global;
 use text_format::Format;
 use word_lines::fault::{LineFault, ReadError};

@@ -10,16 +10,16 @@
 //! resolved 20            resolved 20 1\ngone a\n
 //! ```
 ghost use Rattle.std.specs.Prelude.{◌≡◌, [], OnOk, OnErr};
-ghost use Rattle.replica.specs.Replicas.{view_in};
+ghost use Rattle.follow.specs.Prelude.{view_in};
 ghost use Rattle.follow.specs.Reports.{named_in, ShowsRows, TellsAt, NamesKey};
 
 use crate::options::Shown;
 use crate::texts::{put_changes, put_count, put_rows};
 use replica::Replica;
-use spans::calls::Message;
+use spans::Message;
 use std::alloc::{AllocError, Global};
 use std::collections::BTreeSet;
-use timestamps::key::Key;
+use timestamps::Key;
 
 /// The choice of what is shown, and the keys that changed.
 #[derive(Drop)]

@@ -11,8 +11,7 @@ use json_lines::numbers::put_number;
 use replica::{KeysAndValues, Replica};
 use std::alloc::AllocError;
 use std::collections::BTreeSet;
-use timestamps::key::Key;
-use timestamps::value::Value;
+use timestamps::{Key, Value};
 use word_lines::spelling::put_spelling;
 
 /// Writes a word, a timestamp at which the rows are complete, and how many there are.

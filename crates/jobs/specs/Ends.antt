@@ -3,8 +3,7 @@ use Rattle.std.specs.Prelude.{◌≡◌, ◌+◌, ◌≤◌, Result, Ok, Err, �
 use Rattle.sessions.specs.Runs.{IsServed}
 use Rattle.sessions.specs.declared.ending.ServeEnd.{ServeEnd}
 use Rattle.sessions.specs.declared.ending.ServeEnd.TheVariants as run
-use Rattle.jobs.specs.Prelude.{Config, Format, Reads, Writes, EndsOnce, HasBegun}
-use Rattle.jobs.specs.declared.ending.End.{End}
+use Rattle.jobs.specs.Prelude.{Config, Format, Reads, Writes, EndsOnce, HasBegun, End}
 use Rattle.jobs.specs.declared.ending.End.TheVariants as ends
 
 -- the end of a run, without the line at which positions were spent

@@ -1,11 +1,10 @@
 -- What a race of a script's sessions answers.
 use Rattle.std.specs.Prelude.{◌≡◌, ℕ, List, [], ◌++◌, Some, None}
-use Rattle.jobs.specs.Prelude.{Config, Event, Format, fault_line, header, transcript_text}
+use Rattle.jobs.specs.Prelude.{Config, Event, Format, fault_line, header, transcript_text, End}
 use Rattle.spans.specs.declared.calls.commands.Cmd.{Cmd}
 use Rattle.script.specs.Scripts.{script_at}
 use Rattle.shared_db.specs.Seats.{IsReason}
 use Rattle.races.specs.Racing.{IsRaceOf}
-use Rattle.jobs.specs.declared.ending.End.{End}
 use Rattle.jobs.specs.declared.ending.End.TheVariants as ends
 use Rattle.jobs.specs.declared.race.RaceOptions.{RaceOptions}
 

@@ -5,11 +5,9 @@ use Rattle.spans.specs.declared.report.Report.{Report}
 use Rattle.spans.specs.Report.{IsReport, limit_in, limit_of}
 use Rattle.report_lines.specs.Lines.{report_text}
 use Rattle.spans.specs.declared.calls.commands.Cmd.TheVariants.{Close, Collect}
-use Rattle.restarts.specs.Dump.{mark_of}
 use Rattle.plain_database.specs.declared.dump.Dump.{Dump}
-use Rattle.jobs.specs.Prelude.{Event, Fault, IsFirstWrong, StandsFor, format_of, transcript_at, IsTrace, fault_line, effects_of, dump_commands, lines_of, row_commands}
+use Rattle.jobs.specs.Prelude.{mark_of, Event, Fault, IsFirstWrong, StandsFor, format_of, transcript_at, IsTrace, fault_line, effects_of, dump_commands, lines_of, row_commands, End}
 use Rattle.jobs.specs.declared.verdicts.Judged.{Judged}
-use Rattle.jobs.specs.declared.ending.End.{End}
 use Rattle.jobs.specs.declared.state.Detail.{Detail}
 use Rattle.jobs.specs.declared.verdicts.Judged.TheVariants as judged
 use Rattle.jobs.specs.declared.ending.End.TheVariants as ends

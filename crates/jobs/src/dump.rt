@@ -11,8 +11,7 @@ use dump_lines::{write_close, write_end, write_row};
 use plain_database::dump::Dump;
 use sessions::{ServeEnd, Sink, Source, read_whole, write_whole};
 use std::alloc::{AllocError, Global};
-use timestamps::row::Row;
-use timestamps::ts::Ts;
+use timestamps::{Row, Ts};
 use trace_check::checker::Checker;
 
 /// Reads a transcript, and writes the script of session 0 that rebuilds its database. The script closes at `at`, or at the

@@ -4,11 +4,9 @@ use Rattle.std.specs.Str.{all_ascii_digits}
 use Rattle.std.specs.Str.Parse.{digits_value}
 use Rattle.timestamps.specs.declared.row.Row.{Row}
 use Rattle.spans.specs.declared.calls.messages.Message.TheVariants as message
-use Rattle.json_lines.specs.declared.fault.MessageFault.{MessageFault}
-use Rattle.json_lines.specs.declared.fault.MessageFault.TheVariants.{NoMemory, Number, Base64, Length}
 use Rattle.json_lines.specs.Messages.{base64}
 use Rattle.json_lines.specs.declared.texts.Texts.{Texts as Lent}
-use Rattle.json_lines.specs.Prelude.{Format, Message, decoded_of, key_limit, standard, value_limit}
+use Rattle.json_lines.specs.Prelude.{MessageFault, NoMemory, Number, Base64, Length, Format, Message, decoded_of, key_limit, standard, value_limit}
 use Rattle.json_lines.specs.declared.texts.Texts.TheVariants as lent
 
 abbrev pub is_number_word : List ℕ → Bool

@@ -6,9 +6,7 @@ use Rattle.serde_json.specs.Find.{get, as_null, as_str, as_object}
 use Rattle.serde_json.specs.Events.{members_len}
 use Rattle.spans.specs.declared.calls.messages.Message.TheVariants.{Resolved}
 use Rattle.json_lines.specs.Meaning.{◌>>=◌, message_of, Texts, resolved, row}
-use Rattle.json_lines.specs.Prelude.{Format, Message, is_utf8}
-use Rattle.json_lines.specs.declared.fault.MessageFault.{MessageFault}
-use Rattle.json_lines.specs.declared.fault.MessageFault.TheVariants.{NotJson, Shape}
+use Rattle.json_lines.specs.Prelude.{Format, Message, is_utf8, MessageFault, NotJson, Shape}
 use Rattle.json_lines.specs.Messages.{message_line, IsTimestamp}
 
 -- a member that is a string

@@ -1,7 +1,6 @@
 -- A message's line taken apart from left to right, as it is written and not otherwise.
 use Rattle.std.specs.Prelude.{ℕ, ◌==◌, Bool, if◌then◌else◌, List, [], ◌∷◌, codes, bytes_eq, Option, Some, None, Result, Ok, Err}
-use Rattle.json_lines.specs.declared.fault.MessageFault.{MessageFault}
-use Rattle.json_lines.specs.declared.fault.MessageFault.TheVariants.{Shape}
+use Rattle.json_lines.specs.Prelude.{MessageFault, Shape}
 use Rattle.json_lines.specs.Meaning.{Texts, resolved, row, ◌>>=◌}
 
 -- what stands behind a front

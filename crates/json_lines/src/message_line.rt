@@ -5,9 +5,9 @@ ghost use Rattle.json_lines.specs.Messages.{Keeps, after_text, message_line};
 use crate::base64_text::put_base64;
 use crate::buffer::or_undo;
 use crate::numbers::put_number;
-use spans::calls::Message;
+use spans::Message;
 use std::alloc::{AllocError, Global};
-use timestamps::value::Value;
+use timestamps::Value;
 
 /// The line of a message.
 pub fn write_message(alloc: Global, message: &Message) -> Result<Vec<u8>, AllocError>

@@ -1,7 +1,6 @@
 //! A line of JSON as a message of a format.
 ghost use Rattle.std.specs.Prelude.{◌≡◌, ◌≢◌, IfOk, IfErr, Err};
-ghost use Rattle.spans.specs.declared.calls.messages.Message.{Message};
-ghost use Rattle.json_lines.specs.declared.fault.MessageFault.TheVariants.{NoMemory};
+ghost use Rattle.json_lines.specs.Prelude.{Message, NoMemory};
 ghost use Rattle.json_lines.specs.Messages.{IsMessage, message_line};
 ghost use Rattle.json_lines.specs.Tests.{message_at, IsUnresolved, MayWantMemory};
 
@@ -9,7 +8,7 @@ use crate::fault::MessageFault;
 use crate::texts::message_of;
 use crate::tree::meant_by;
 use crate::written::texts_written;
-use spans::calls::Message;
+use spans::Message;
 use std::alloc::Global;
 use text_format::Format;
 

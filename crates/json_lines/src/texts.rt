@@ -1,9 +1,8 @@
 //! From the texts of a line's members to its message: the timestamp, and key and value out of base64, or which of them is
 //! faulty.
 ghost use Rattle.std.specs.Prelude.{◌≡◌, ◌≤◌, length, decimal, option_map, IfSome, IfOk, IfErr};
-ghost use Rattle.text_format.specs.Limits.{key_limit, value_limit};
+ghost use Rattle.json_lines.specs.Prelude.{key_limit, value_limit, NoMemory, Number};
 ghost use Rattle.json_lines.specs.Messages.{AreBytes, IsMessage, base64};
-ghost use Rattle.json_lines.specs.declared.fault.MessageFault.TheVariants.{NoMemory, Number};
 ghost use Rattle.json_lines.specs.Tests.{AreOfRow};
 ghost use Rattle.json_lines.specs.Meaning.{texts_of, texts_view, Gives, Reads, timestamp_of, bytes_of, after_of, key_of, value_of, message_of};
 
@@ -11,13 +10,10 @@ use crate::fault::{MessageFault, Read};
 use crate::numbers::number_of;
 use base64::DecodeAllocError;
 use base64::engine::general_purpose::STANDARD;
-use spans::calls::Message;
+use spans::Message;
 use std::alloc::Global;
 use text_format::Format;
-use timestamps::key::{Key, KeyError};
-use timestamps::row::Row;
-use timestamps::ts::Ts;
-use timestamps::value::{Value, ValueError};
+use timestamps::{Key, KeyError, Row, Ts, Value, ValueError};
 
 /// The texts of the members, by name, as they stand in the line or in the tree that was read of it.
 #[derive(Clone, Copy)]

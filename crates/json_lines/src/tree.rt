@@ -8,7 +8,7 @@ ghost use Rattle.json_lines.specs.Tests.{text_at, after_at, resolved_in, row_in,
 use crate::fault::{MessageFault, Read};
 use crate::texts::{Texts, message_of};
 use serde_json::Value;
-use spans::calls::Message;
+use spans::Message;
 use std::alloc::Global;
 use text_format::Format;
 

@@ -1,6 +1,7 @@
 -- The keys of a set, of which the least lies in place.
 use Rattle.std.specs.Prelude.{ℕ, List, [], ◌∷◌, ◌≡◌, Option, Some, None, if◌then◌else◌}
-use Rattle.key_set.specs.Prelude.{RisingKeys, key_lt}
+use Rattle.spans.proofs.Keyed.{RisingKeys}
+use Rattle.spans.specs.KeyOrder.{key_lt}
 
 -- the key in place, where there is one, and then the others
 abbrev pub keys_in : Option (List ℕ) → List (List ℕ) → List (List ℕ)

@@ -7,8 +7,9 @@ ghost use Rattle.std.specs.Iterator.{at_most};
 ghost use Rattle.std.specs.Map.Iter.{TakesFirst, deref};
 ghost use Rattle.std.specs.Set.{remove_key};
 ghost use Rattle.std.specs.declared.cmp.Ordering.TheVariants.{Less};
+ghost use Rattle.spans.proofs.Keyed.{RisingKeys};
+ghost use Rattle.spans.specs.KeyOrder.{key_lt};
 ghost use Rattle.timestamps.specs.Words.{key_cmp};
-ghost use Rattle.key_set.specs.Prelude.{RisingKeys, key_lt};
 ghost use Rattle.spans.specs.Keys.{insert_key};
 ghost use Rattle.spans.proofs.WriteSets.{has};
 ghost use Rattle.key_set.specs.Sets.{AreInOrder, keys_in};
@@ -22,7 +23,7 @@ use std::iter::Iterator;
 use std::marker::Model;
 use std::mem;
 use std::ops::Bound;
-use timestamps::key::Key;
+use timestamps::Key;
 
 /// Keys in rising order, each once.
 #[derive(Drop)]

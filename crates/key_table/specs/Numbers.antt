@@ -1,9 +1,10 @@
 -- What a table of keys is seen as.
 use Rattle.std.specs.Prelude.{ℕ, List, Option, Some, ◌≡◌, if◌then◌else◌, bytes_eq, ◌↔◌}
 use Rattle.std.specs.Map.{lookup}
+use Rattle.std.specs.BTreeMap.{is_at, BTreeMap, get}
+use Rattle.timestamps.specs.Words.{key_cmp}
 use Rattle.slab.specs.Slab.{Slab}
 use Rattle.slab.specs.Slab as slab
-use Rattle.key_table.specs.Prelude.{is_at, key_cmp, BTreeMap, get}
 
 -- keys, each with its number
 abbrev pub Numbered : Type 0

@@ -1,7 +1,7 @@
 //! Numbers that are tried before a map is searched.
 use slab::Slab;
 use std::alloc::{AllocError, Global};
-use timestamps::key::Key;
+use timestamps::Key;
 
 /// How many places of a hash are tried. They lie side by side.
 pub(crate) const PLACES: usize = 4;

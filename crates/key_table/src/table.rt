@@ -16,7 +16,7 @@ use std::collections::BTreeMap;
 use std::collections::btree_map::Range;
 use std::marker::Model;
 use std::ops::Bound;
-use timestamps::key::Key;
+use timestamps::Key;
 
 /// Keys, each with its number.
 #[derive(Drop)]

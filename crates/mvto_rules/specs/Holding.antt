@@ -1,12 +1,11 @@
 -- What the rules hold, as a part of what an engine keeps: all of it but the feeds.
 use Rattle.std.specs.Prelude.{Bool, List, None, Option, Some, ℕ, if◌then◌else◌, is_some, true, ◌≡◌, ◌≤◌, ◌⊎◌, map, length, nat_le, ◌&&◌}
-use Rattle.kept.specs.StandsFor.{nothing_kept}
 use Rattle.spans.specs.declared.calls.commands.Cmd.{Cmd}
 use Rattle.spans.specs.declared.calls.replies.Reply.{Reply}
-use Rattle.spans.specs.Versions.{Version}
+use Rattle.spans.specs.Versions.{Version, newest}
 use Rattle.spans.specs.Collection.{Protection}
 use Rattle.spans.specs.Transactions.{least_of}
-use Rattle.mvto_rules.specs.Prelude.{After, Del, IsAlike, IsStep, Kept, Put, Standing, Stored, Transaction, closed_in, is_committed_in, made_in, marked_in, protections_in, transaction_in, version_in, kept_committed, newest, or_min, AreThose, IsForgotten, Table, is_open}
+use Rattle.mvto_rules.specs.Prelude.{nothing_kept, After, Del, IsAlike, IsStep, Kept, Put, Standing, Stored, Transaction, closed_in, is_committed_in, made_in, marked_in, protections_in, transaction_in, version_in, kept_committed, or_min, AreThose, IsForgotten, Table, is_open}
 use Rattle.mvto_rules.specs.declared.rules.Rules.{Rules}
 
 -- what the rules hold

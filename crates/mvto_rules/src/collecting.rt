@@ -15,12 +15,11 @@
 //! collect 10                40*                  40                                      40        none
 //! ```
 ghost use Rattle.std.specs.Prelude.{ℕ, ◌≡◌};
-ghost use Rattle.kept.specs.Places.{or_min};
-ghost use Rattle.mvto_rules.specs.Prelude.{Collect, IsLeastFloor, IsStep};
+ghost use Rattle.mvto_rules.specs.Prelude.{or_min, Collect, IsLeastFloor, IsStep};
 ghost use Rattle.mvto_rules.specs.Holding.{IsLimit, Changes, closing_of};
 
 use crate::rules::Rules;
-use spans::calls::{Refusal, Reply};
+use spans::{Refusal, Reply};
 use timestamps::ts::MAX;
 
 impl Rules {

@@ -5,8 +5,9 @@ ghost use Rattle.mvto_rules.specs.Holding.{AreTakenBack, IsCountTakenBack, is_ta
 ghost use Rattle.mvto_rules.specs.Tables.{AreInRange};
 
 use crate::rules::Rules;
-use spans::calls::{Refusal, Reply};
-use timestamps::ts::{MAX, Ts};
+use spans::{Refusal, Reply};
+use timestamps::Ts;
+use timestamps::ts::MAX;
 use txn_table::Txns;
 use version_chain::Store;
 

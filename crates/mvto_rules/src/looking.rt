@@ -6,7 +6,7 @@ ghost use Rattle.mvto_rules.specs.Holding.{IsReachedIn, kept_value_version, Hold
 ghost use Rattle.mvto_rules.specs.Scans.{snapshot_refusal};
 
 use crate::rules::Rules;
-use timestamps::key::Key;
+use timestamps::Key;
 
 impl Rules {
     /// The timestamp of the newest committed version of a key at or below `t`, where that has a value. It searches the

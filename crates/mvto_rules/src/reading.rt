@@ -6,11 +6,9 @@ ghost use Rattle.mvto_rules.specs.Prelude.{AreFilled, RisingKeys, with_value};
 ghost use Rattle.mvto_rules.specs.Scans.{entries_of, first_blocker, keys_in, rows_in, IsReading, value_in};
 
 use crate::sight::{Sight, value_of};
-use spans::span::Span;
+use spans::Span;
 use std::alloc::{AllocError, Global};
-use timestamps::key::Key;
-use timestamps::ts::Ts;
-use timestamps::value::Value;
+use timestamps::{Key, Ts, Value};
 use version_chain::chain::Version;
 use version_chain::{Steps, Store};
 

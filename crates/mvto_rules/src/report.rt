@@ -4,7 +4,7 @@ ghost use Rattle.kept.specs.Reports.{AreOpen};
 ghost use Rattle.mvto_rules.specs.Holding.{Holds};
 
 use crate::rules::Rules;
-use spans::report::TransactionReport;
+use spans::TransactionReport;
 use std::alloc::AllocError;
 
 impl Rules {

@@ -17,8 +17,8 @@ ghost use Rattle.mvto_rules.specs.Holding.{Holds};
 
 use crate::reading::is_named;
 use crate::rules::Rules;
-use spans::span::Span;
-use timestamps::key::Key;
+use spans::Span;
+use timestamps::Key;
 use version_chain::chain::Version;
 use version_chain::{Steps, Store};
 

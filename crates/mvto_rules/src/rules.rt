@@ -2,20 +2,15 @@
 //! `Sight::of` is the read rule, which gets and scans apply. The store judges a write by the write rule.
 ghost use Rattle.std.specs.Prelude.{◌≡◌, ◌≤◌, Some, None, IfOk, IfErr, OnOk, OnErr};
 ghost use Rattle.std.specs.Option.{option_copied};
-ghost use Rattle.mvto_rules.specs.Prelude.{Abort, Begin, Commit, Get, IsAbortedBy, IsAlike, IsAnswered, IsWanting, MAX, NoMemory, Refused, Scan, TooLate, closed_in, refusal};
-ghost use Rattle.kept.specs.StandsFor.{nothing_kept};
+ghost use Rattle.mvto_rules.specs.Prelude.{Abort, Begin, Commit, Get, IsAbortedBy, IsAlike, IsAnswered, IsWanting, MAX, NoMemory, Refused, Scan, TooLate, closed_in, refusal, nothing_kept};
 ghost use Rattle.mvto_rules.specs.Tables.{AreInRange};
 
 use crate::reading::{Reading, read_span};
 use crate::sight::{Sight, value_of};
 use closing::Closing;
-use spans::calls::{Refusal, Reply, Rows};
-use spans::span::Span;
-use spans::state::State;
+use spans::{Refusal, Reply, Rows, Span, State};
 use std::alloc::{AllocError, Global};
-use timestamps::key::Key;
-use timestamps::ts::Ts;
-use timestamps::value::Value;
+use timestamps::{Key, Ts, Value};
 use txn_table::{Outcome, Txns};
 use version_chain::{Store, Wrote};
 

@@ -5,8 +5,7 @@ ghost use Rattle.mvto_rules.specs.Scans.{value_in, sight_of};
 
 use std::alloc::AllocError;
 use timestamps::row::copy_after;
-use timestamps::ts::Ts;
-use timestamps::value::Value;
+use timestamps::{Ts, Value};
 use version_chain::chain::Version;
 
 /// Whose version is the newest at or below the timestamp of a read.

@@ -7,9 +7,8 @@ ghost use Rattle.mvto_rules.specs.Holding.{Holds, Steps, closing_of, held};
 use crate::reading::{is_named, rows_at};
 use crate::rules::Rules;
 use crate::sight::value_of;
-use spans::calls::{Refusal, Reply, Rows};
-use spans::span::Span;
-use timestamps::key::Key;
+use spans::{Refusal, Reply, Rows, Span};
+use timestamps::Key;
 use timestamps::ts::MAX;
 
 impl Rules {

@@ -2,13 +2,8 @@
 use Rattle.std.specs.Prelude.{ℕ, List, [], ◌∷◌, ◌==◌, max, if◌then◌else◌, Option, Some, None, nat_lt, suc, ◌≡◌, ◌<◌, ◌&&◌, map, nat_le, take, not, false, is_some}
 use Rattle.std.specs.List.{AllByRecursion}
 use Rattle.spans.specs.declared.kind.Kind.{Kind}
-use Rattle.spans.specs.declared.span.Span.{Span}
 use Rattle.spans.specs.declared.report.FeedReport.{FeedReport}
-use Rattle.spans.specs.declared.calls.replies.Refusal.{Refusal}
-use Rattle.spans.specs.declared.calls.replies.Refusal.TheVariants.{NoFeed, FeedCancelled, NotOwner}
-use Rattle.spans.proofs.Copies.{AllAllowed}
-use Rattle.spans.specs.Answer.{first_refusal}
-use Rattle.plain_database.specs.Prelude.{Feed, Message, floor_after, is_due, last_name, last_resolved, last_told, start_at, Effect, LiveFeed, Row, closed_of, feed_of, feeds_opened, is_cancelled, live_feeds, next_messages, told_to, untold_rows}
+use Rattle.plain_database.specs.Prelude.{Span, Refusal, NoFeed, FeedCancelled, NotOwner, AllAllowed, first_refusal, Feed, Message, floor_after, is_due, last_name, last_resolved, last_told, start_at, Effect, LiveFeed, Row, closed_of, feed_of, feeds_opened, is_cancelled, live_feeds, next_messages, told_to, untold_rows}
 use Rattle.plain_database.specs.declared.feeds.record.FeedRecord.{FeedRecord}
 use Rattle.plain_database.specs.declared.feeds.record.Told.{Told}
 

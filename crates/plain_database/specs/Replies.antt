@@ -1,17 +1,7 @@
 -- Parts of the answers: what comes behind a place, what a scan tests and finds, and the answer to a write.
 use Rattle.std.specs.Prelude.{ℕ, List, [], Bool, true, filter, ◌&&◌, if◌then◌else◌, Option, Some, None, nat_le, ◌∷◌, ◌≡◌, ◌≤◌, length, ◌++◌, ◌-◌, map, take}
-use Rattle.spans.specs.Streams.{rows_of}
-use Rattle.spans.proofs.Keyed.{RisingKeys}
-use Rattle.spans.specs.KeyOrder.{from_low}
 use Rattle.timestamps.specs.declared.key.TheConstants.{MAX_KEY_BYTES}
-use Rattle.spans.specs.declared.calls.commands.Cmd.{Cmd}
-use Rattle.spans.specs.Answer.{first_refusal_or, transaction_tests}
-use Rattle.spans.specs.Versions.{committed_value, is_blocked}
-use Rattle.spans.specs.declared.calls.replies.Refusal.{Refusal}
-use Rattle.spans.specs.declared.calls.replies.Refusal.TheVariants.{Blocked, TooLate}
-use Rattle.spans.specs.declared.calls.replies.Reply.{Reply}
-use Rattle.spans.specs.declared.calls.replies.Reply.TheVariants.{Written}
-use Rattle.plain_database.specs.Prelude.{Effect, Row, Span, is_committed, key_lt, After, in_span, Del, Put, pairs_of, too_late, visible, written_keys}
+use Rattle.plain_database.specs.Prelude.{rows_of, RisingKeys, from_low, Cmd, first_refusal_or, transaction_tests, committed_value, is_blocked, Refusal, Blocked, TooLate, Reply, Written, Effect, Row, Span, is_committed, key_lt, After, in_span, Del, Put, pairs_of, too_late, visible, written_keys}
 
 -- the key is above that one, if there is one
 abbrev pub is_past : Option (List ℕ) → List ℕ → Bool

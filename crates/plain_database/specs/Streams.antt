@@ -1,12 +1,10 @@
 -- The rows that a feed was not told, where they begin and how many they are, and what a dump writes.
 use Rattle.std.specs.Prelude.{ℕ, List, ◌≡◌, ◌&&◌, nat_le, nat_lt, max, Bool, true, false, if◌then◌else◌, Option, Some, None, take, length, ◌||◌, is_some}
 use Rattle.std.specs.Option.{option_copied}
-use Rattle.spans.specs.Collection.{VersionName}
-use Rattle.spans.specs.Versions.{newest}
 use Rattle.plain_database.specs.declared.feeds.record.FeedRecord.{FeedRecord}
 use Rattle.plain_database.specs.declared.feeds.place.Place.{Place}
 use Rattle.plain_database.specs.declared.feeds.place.Place.TheVariants.{Snapshot, Stream}
-use Rattle.plain_database.specs.Prelude.{Event, Row, effects_of, untold_rows, in_whole, Effect, horizon_of, left_rows}
+use Rattle.plain_database.specs.Prelude.{VersionName, newest, Event, Row, effects_of, untold_rows, in_whole, Effect, horizon_of, left_rows}
 use Rattle.plain_database.specs.FeedTie.{feed_part, IsRecordOf}
 use Rattle.plain_database.specs.Tied.{StandsFor}
 use Rattle.plain_database.specs.declared.database.PlainDatabase.{PlainDatabase}

@@ -2,9 +2,7 @@
 use Rattle.std.specs.Prelude.{ℕ, List, Bool, ◌&&◌, bytes_eq, nat_lt, unwrap_or, [], ◌∷◌, ◌++◌, true, false, Option, Some, None, if◌then◌else◌, nat_le, ◌≡◌, ◌≤◌, ◌<◌, is_some}
 use Rattle.std.specs.BTreeMap.{is_at, insert_entry}
 use Rattle.std.specs.BTreeSet.{BTreeSet, contains}
-use Rattle.spans.specs.declared.state.State.{State}
-use Rattle.spans.specs.declared.state.State.TheVariants.{Undecided, Committed, Aborted}
-use Rattle.plain_database.specs.Prelude.{in_span, key_cmp, lookup, After, keys_of, list_any, nat_cmp}
+use Rattle.plain_database.specs.Prelude.{State, Undecided, Committed, Aborted, in_span, key_cmp, lookup, After, keys_of, list_any, nat_cmp}
 use Rattle.plain_database.specs.declared.versions.reads.Read.{Read}
 use Rattle.plain_database.specs.declared.versions.begun.Begun.{Begun}
 use Rattle.plain_database.specs.declared.versions.reads.Read.TheVariants as reads

@@ -1,7 +1,6 @@
 -- What a database holds of a history, and what the contracts are said with.
 use Rattle.std.specs.Prelude.{List, ◌≡◌, ◌-◌, ◌^◌, min, ℕ, ◌∷◌, ◌<◌, length, true}
-use Rattle.spans.specs.declared.calls.commands.Cmd.{Cmd}
-use Rattle.plain_database.specs.Prelude.{Effect, Event, IsLegal, effects_of, horizon_of, IsRightEvent, Reply, answer_of, event, is_accepted, may_lack_memory}
+use Rattle.plain_database.specs.Prelude.{Cmd, Effect, Event, IsLegal, effects_of, horizon_of, IsRightEvent, Reply, answer_of, event, is_accepted, may_lack_memory}
 use Rattle.plain_database.specs.FeedTie.{FeedsTied}
 use Rattle.plain_database.specs.ProtectionTie.{ProtectionsTied}
 use Rattle.plain_database.specs.VersionsTied.{dead_then, passed_then, VersionsTied}

@@ -1,10 +1,7 @@
 -- How the store, its open transactions and its numbers of versions are tied to the effects of a history.
 use Rattle.std.specs.Prelude.{ℕ, List, ◌≡◌, Option, Some, None, if◌then◌else◌, ◌-◌, Bool, false, true, filter, min, nat_lt, [], ◌∷◌, ◌&&◌, ◌+◌, length, is_none, is_some, nat_le}
 use Rattle.std.specs.List.Sorted.{IsStrictlySortedBy}
-use Rattle.spans.specs.Versions.{Version, version_at, newest}
-use Rattle.spans.specs.declared.state.State.{State}
-use Rattle.spans.specs.declared.state.State.TheVariants.{Undecided}
-use Rattle.plain_database.specs.Prelude.{After, AllAllowed, Effect, closed_of, is_aborted, is_committed, owner_of, too_late, write_of, write_set, keys_of, nat_cmp, Closes, Collects, HardCloses, VersionName, dead_of, versions_of}
+use Rattle.plain_database.specs.Prelude.{Version, version_at, newest, State, Undecided, After, AllAllowed, Effect, closed_of, is_aborted, is_committed, owner_of, too_late, write_of, write_set, keys_of, nat_cmp, Closes, Collects, HardCloses, VersionName, dead_of, versions_of}
 use Rattle.plain_database.specs.Table.{AllBegun, begun_at, committed_at, gone_in, is_crossed, keys_in, seat_in, write_in, in_begun}
 use Rattle.plain_database.specs.declared.versions.store.Visible.{Visible}
 use Rattle.plain_database.specs.declared.versions.begun.Begun.{Begun}

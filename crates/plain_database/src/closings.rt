@@ -1,15 +1,13 @@
 //! How closed and the horizon move: the checker's closings, protections and collections.
 ghost use Rattle.std.specs.Prelude.{◌≡◌, ◌+◌, ◌-◌, ◌^◌, OnErr, OnOk, min, true, ℕ};
-ghost use Rattle.spans.specs.declared.calls.commands.Cmd.TheVariants.{Close, CloseHard, Collect};
-ghost use Rattle.spans.specs.Collection.{collection_horizon};
-ghost use Rattle.plain_database.specs.Prelude.{Protect, Release, first_refusal, horizon_tests, is_accepted};
+ghost use Rattle.plain_database.specs.Prelude.{Close, CloseHard, Collect, collection_horizon, Protect, Release, first_refusal, horizon_tests, is_accepted};
 ghost use Rattle.plain_database.specs.Tied.{AfterCounted, AfterEach, Answers, AnswersCounted, Records, any_seat};
 ghost use Rattle.plain_database.specs.VersionsTied.{newly_dead, versions_between, Says};
 
 use crate::Allocated;
 use crate::database::PlainDatabase;
 use crate::feeds::horizon::horizon_reached;
-use spans::calls::{Refusal, Reply};
+use spans::{Refusal, Reply};
 use std::alloc::AllocError;
 use timestamps::ts::MAX;
 

@@ -1,12 +1,12 @@
 //! The checker's database: the transactions, the feeds and the protections, the horizon, and two numbers of versions.
 ghost use Rattle.std.specs.Prelude.{◌≡◌, IfOk, OnErr, OnOk, [], true};
-ghost use Rattle.spans.specs.Legal.{is_accepted, may_lack_memory};
+ghost use Rattle.plain_database.specs.Prelude.{is_accepted, may_lack_memory};
 ghost use Rattle.plain_database.specs.Tied.{AnswersCounted, MayLackMemory, Records, StandsFor};
 
 use crate::feeds::book::FeedBook;
 use crate::feeds::protections::Protections;
 use crate::versions::store::VersionStore;
-use spans::calls::{Cmd, Reply};
+use spans::{Cmd, Reply};
 use std::alloc::{AllocError, Global};
 
 /// The state that a history led to.

@@ -1,16 +1,14 @@
 //! What a dump writes, as the checker finds it: the versions that are left, where it closes, and the horizon.
 ghost use Rattle.std.specs.Prelude.{◌≡◌, ◌≤◌, IfOk};
-ghost use Rattle.plain_database.specs.Prelude.{MAX, left_rows};
-ghost use Rattle.restarts.specs.Dump.{mark_of};
+ghost use Rattle.plain_database.specs.Prelude.{MAX, left_rows, mark_of};
 ghost use Rattle.plain_database.specs.Tied.{AfterEach};
 ghost use Rattle.plain_database.specs.Streams.{IsDump, is_kept};
 
 use crate::Allocated;
 use crate::database::PlainDatabase;
-use spans::span::Span;
+use spans::Span;
 use std::alloc::AllocError;
-use timestamps::row::Row;
-use timestamps::ts::Ts;
+use timestamps::{Row, Ts};
 
 /// The contents of a dump.
 #[derive(Drop)]

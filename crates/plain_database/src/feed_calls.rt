@@ -1,8 +1,7 @@
 //! The checker's openings, polls and cancels of feeds, and the rows that a feed was not told.
 ghost use Rattle.std.specs.Prelude.{◌≡◌, ◌≤◌, IfOk, OnErr, OnOk, length, map, suc, take, true, ℕ};
 ghost use Rattle.std.specs.Option.{option_copied};
-ghost use Rattle.spans.specs.Streams.{pair_row};
-ghost use Rattle.plain_database.specs.Prelude.{Cancel, MAX, Opened, Poll, feeds_opened, is_accepted, is_gap, kind_of, open_cmd, opening_answer};
+ghost use Rattle.plain_database.specs.Prelude.{pair_row, Cancel, MAX, Opened, Poll, feeds_opened, is_accepted, is_gap, kind_of, open_cmd, opening_answer};
 ghost use Rattle.plain_database.specs.Tied.{Accepts, AfterCounted, Answers, Records, any_seat};
 ghost use Rattle.plain_database.specs.Replies.{rows_past};
 ghost use Rattle.plain_database.specs.Streams.{AreLeft, IsInSnapshot};
@@ -12,14 +11,10 @@ use crate::Allocated;
 use crate::database::PlainDatabase;
 use crate::feeds::place::Place;
 use crate::feeds::record::FeedRecord;
-use spans::calls::{Refusal, Reply};
-use spans::kind::Kind;
-use spans::span::Span;
+use spans::{Kind, Refusal, Reply, Span};
 use std::alloc::{AllocError, Global};
-use timestamps::key::Key;
-use timestamps::row::Row;
-use timestamps::ts::{MAX, Ts};
-use timestamps::value::Value;
+use timestamps::ts::MAX;
+use timestamps::{Key, Row, Ts, Value};
 
 impl PlainDatabase {
     /// The answer to an opening of a feed of this kind: its tests in order.

@@ -8,10 +8,8 @@ ghost use Rattle.plain_database.specs.Replies.{rows_seen};
 use crate::Allocated;
 use crate::database::PlainDatabase;
 use crate::versions::reads::Read;
-use spans::calls::{Refusal, Reply, Rows};
-use spans::span::Span;
-use timestamps::key::Key;
-use timestamps::value::Value;
+use spans::{Refusal, Reply, Rows, Span};
+use timestamps::{Key, Value};
 
 impl PlainDatabase {
     #[tactic(auto, using(crate::proofs::Common::legal_allowed, crate::proofs::Common::tests_past))]

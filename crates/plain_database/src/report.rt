@@ -7,8 +7,7 @@ ghost use Rattle.plain_database.specs.Streams.{IsUntoldIn};
 use crate::Allocated;
 use crate::database::PlainDatabase;
 use crate::feeds::record::FeedRecord;
-use spans::calls::Reply;
-use spans::report::{FeedReport, Report};
+use spans::{FeedReport, Reply, Report};
 use std::alloc::AllocError;
 
 impl PlainDatabase {

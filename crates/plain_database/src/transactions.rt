@@ -9,11 +9,9 @@ ghost use Rattle.plain_database.specs.Replies.{write_answer, write_cmd};
 use crate::Allocated;
 use crate::database::PlainDatabase;
 use crate::reads::copied;
-use spans::calls::{Refusal, Reply};
-use spans::state::State;
-use timestamps::key::Key;
+use spans::{Refusal, Reply, State};
 use timestamps::ts::MAX;
-use timestamps::value::Value;
+use timestamps::{Key, Value};
 
 impl PlainDatabase {
     pub(crate) fn answer_begin(&self, ts: u64) -> Reply

@@ -7,7 +7,7 @@ use crate::gate::Gate;
 use crate::racing::{RaceError, race};
 use crate::settling::settle;
 use shared_db::{Config, Db, OpenError};
-use spans::calls::{Cmd, Event};
+use spans::{Cmd, Event};
 use std::alloc::{AllocError, Global};
 use std::sync::Wait;
 use std::thread::Threads;

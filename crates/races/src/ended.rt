@@ -3,7 +3,7 @@ ghost use Rattle.std.specs.Prelude.{◌≡◌, true};
 ghost use Rattle.ticket_lock.specs.Seats.{mine, met_spent};
 
 use shared_db::Seat;
-use spans::calls::Event;
+use spans::Event;
 
 /// A session that has ended: its seat, all events of that seat's calls, and whether a call was refused
 /// since no position was left.

@@ -3,7 +3,7 @@ ghost use Rattle.std.specs.Prelude.{◌≡◌, IfOk, IfErr, IfNone, IfSome};
 ghost use Rattle.std.specs.List.Sorted.{IsNonDecreasingBy};
 ghost use Rattle.races.specs.Merging.{position_of, events_of, IsMerged, IsUnbroken, IsBreak, IsReason};
 
-use spans::calls::Event;
+use spans::Event;
 use std::alloc::{AllocError, Global};
 
 /// Why lists of events aren't one history: the first of the sorted events that isn't one above the one

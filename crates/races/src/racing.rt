@@ -8,7 +8,7 @@ ghost use Rattle.races.specs.declared.racing.RaceError.TheVariants as errors;
 use crate::ended::Ended;
 use crate::gate::Gate;
 use shared_db::{Db, Seat};
-use spans::calls::Cmd;
+use spans::Cmd;
 use std::alloc::{AllocError, Global};
 use std::snapshot::Snapshot;
 use std::sync::Wait;

@@ -7,7 +7,7 @@ use crate::ended::Ended;
 use crate::merging::{MergeError, merge};
 use engine::Engine;
 use shared_db::{Db, Seat};
-use spans::calls::Event;
+use spans::Event;
 use std::alloc::{AllocError, Global};
 
 /// The engine of a database whose sessions have all ended, and their events as one history, the oldest first. They were

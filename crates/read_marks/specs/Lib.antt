@@ -1,4 +1,3 @@
-pub mod Prelude
 pub mod Readers
 pub mod Starts
 pub mod Spans

@@ -8,7 +8,8 @@ use Rattle.std.specs.declared.cmp.Ordering.TheVariants.{Less}
 use Rattle.std.specs.declared.ops.Bound.TheVariants.{Excluded, Included, Unbounded}
 use Rattle.std.specs.BTreeMap.Range.{entries_between}
 use Rattle.std.specs.BTreeMap.{get}
-use Rattle.read_marks.specs.Prelude.{below_high, key_cmp}
+use Rattle.spans.specs.KeyOrder.{below_high}
+use Rattle.timestamps.specs.Words.{key_cmp}
 pub use Rattle.read_marks.specs.Starts.{reaches, step_at}
 use Rattle.read_marks.specs.declared.span_marks.SpanMarks.{SpanMarks}
 

@@ -9,12 +9,11 @@ ghost use Rattle.read_marks.specs.Starts.{AreLow};
 
 mod joining;
 
-use spans::span::Span;
+use spans::Span;
 use std::alloc::{AllocError, Global};
 use std::collections::BTreeMap;
 use std::ops::Bound;
-use timestamps::key::Key;
-use timestamps::small_bytes::SmallBytes;
+use timestamps::{Key, SmallBytes};
 
 /// Of each key the latest reader, by spans.
 #[derive(Drop)]

@@ -1,8 +1,7 @@
 -- When replicas of a feed are right.
 use Rattle.std.specs.Prelude.{ℕ, ◌<◌, List, [], ◌∷◌, ◌++◌, ◌≡◌, Some}
 use Rattle.spans.specs.declared.calls.messages.Message.TheVariants as messages
-use Rattle.replica.specs.Prelude.{AllTaken, Effect, Feed, Message, feed_of, map_at, span_part, told_to}
-use Rattle.spans.specs.Completeness.{AllAbove, GoesOn}
+use Rattle.replica.specs.Prelude.{AllTaken, Effect, Feed, Message, feed_of, map_at, span_part, told_to, AllAbove, GoesOn}
 use Rattle.replica.specs.declared.replica.Replica.{Replica}
 use Rattle.replica.specs.Starts.{Start, IsStartOf}
 use Rattle.replica.specs.Replicas.{Follows, view_in, span_in, complete_in, through_in, ready_in}

@@ -2,16 +2,14 @@
 ghost use Rattle.std.specs.Prelude.{◌≡◌, ◌&&◌, ◌||◌, ◌↔◌, ℕ, List, Some, false, true, refl, bytes_eq, if◌then◌else◌, OnOk, OnErr, IfOk};
 ghost use Rattle.std.specs.Cmp.{partial_equiv_from_equiv};
 ghost use Rattle.std.specs.Cmp.Lexicographic.{nat_list_eq_equiv, nat_list_cmp_total, texts_ties, texts_po};
-ghost use Rattle.spans.proofs.Keyed.{IsIn, RisingKeys};
-ghost use Rattle.timestamps.specs.Words.{key_cmp};
+ghost use Rattle.replica.specs.Prelude.{IsIn, RisingKeys, key_cmp};
 ghost use Rattle.replica.specs.Rows.{is_listed, Keyed, AreSome};
 
 use std::alloc::{AllocError, Global};
 use std::cmp::Ordering;
 use std::collections::{BTreeMap, BTreeSet};
 use std::marker::Model;
-use timestamps::key::Key;
-use timestamps::value::Value;
+use timestamps::{Key, Value};
 
 /// The keys of each value that some key has. A value without a key is not kept.
 #[derive(Debug, Drop)]

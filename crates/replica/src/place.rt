@@ -3,9 +3,7 @@ ghost use Rattle.std.specs.Prelude.{◌≡◌};
 ghost use Rattle.replica.specs.Rows.{is_past, is_over, is_place_of};
 
 use std::cmp::Ordering;
-use timestamps::key::Key;
-use timestamps::row::Row;
-use timestamps::ts::Ts;
+use timestamps::{Key, Row, Ts};
 
 /// A row's place: rows are ordered by timestamp, and then by key.
 #[derive(Debug, Drop)]

@@ -1,26 +1,21 @@
 //! A replica of a span, as its user calls it.
 ghost use Rattle.std.specs.Prelude.{◌≡◌, ◌==◌, ℕ, List, [], None, Some, OnOk, OnErr, IfOk, IfErr};
 ghost use Rattle.std.specs.Option.{option_copied};
+ghost use Rattle.replica.specs.Prelude.{Message, complete_after, ready_after};
 ghost use Rattle.spans.specs.declared.calls.messages.Message.TheVariants as messages;
-ghost use Rattle.spans.specs.declared.calls.messages.Message.{Message};
 ghost use Rattle.replica.specs.Rows.{AreRowsOf, AreKeysWith, IsCountOf};
 ghost use Rattle.replica.specs.Starts.{Start, seeded_start, initial_start, resolved_at, MayBegin, IsSeedFault};
 ghost use Rattle.replica.specs.Replicas.{view_in, span_in, complete_in, through_in, Follows, Takes, IsFaultAt, test_of, fault_in, is_first_in, ready_in, AddsValue};
 ghost use Rattle.replica.specs.declared.fault.Fault.TheVariants.{NoMemory};
-ghost use Rattle.spans.specs.Completeness.{complete_after, ready_after};
 
 use crate::fault::Fault;
 use crate::place::{Place, comes_after, is_of, reaches};
 use crate::seed::{are_inside, rise, table_of};
 use crate::table::Table;
-use spans::calls::Message;
-use spans::kind::Kind;
-use spans::span::Span;
+use spans::{Kind, Message, Span};
 use std::alloc::{AllocError, Global};
 use std::collections::btree_map::Iter;
-use timestamps::key::Key;
-use timestamps::row::Row;
-use timestamps::value::Value;
+use timestamps::{Key, Row, Value};
 
 /// The rows of a replica, lent: pairs of a key and its value, keys rising.
 pub type KeysAndValues<'a> = Iter<'a, Key, Value>;

@@ -5,11 +5,10 @@ ghost use Rattle.replica.specs.Rows.{value_at};
 ghost use Rattle.replica.specs.Starts.{AreInside};
 
 use crate::table::Table;
-use spans::span::Span;
+use spans::Span;
 use std::alloc::{AllocError, Global};
 use std::cmp::Ordering;
-use timestamps::key::Key;
-use timestamps::value::Value;
+use timestamps::{Key, Value};
 
 /// Whether the keys rise.
 pub(crate) fn rise(rows: &[(Key, Value)]) -> bool

@@ -1,7 +1,7 @@
 //! The rows beneath a replica, by key and with an index by value in step.
 ghost use Rattle.std.specs.Prelude.{◌≡◌, ℕ, List, [], None, Some, IsSome, OnOk, OnErr, IfOk, length};
 ghost use Rattle.std.specs.Option.{option_copied};
-ghost use Rattle.spans.specs.Serial.{put};
+ghost use Rattle.replica.specs.Prelude.{put};
 ghost use Rattle.replica.specs.Rows.{value_at, AreRowsOf, AreKeysWith, IsIndexOf};
 
 use crate::index::Index;
@@ -9,8 +9,7 @@ use std::alloc::{AllocError, Global};
 use std::collections::BTreeMap;
 use std::collections::btree_map::Iter;
 use std::marker::Model;
-use timestamps::key::Key;
-use timestamps::value::Value;
+use timestamps::{Key, Value};
 
 /// The value of each key that has one, and the keys of each value.
 #[derive(Debug, Drop)]

@@ -29,7 +29,7 @@ ghost use Rattle.report_lines.specs.Lines.{report_text};
 
 use crate::lines::{put_database, put_feeds, put_protections, put_transactions};
 use json_lines::buffer::or_undo;
-use spans::report::Report;
+use spans::Report;
 use std::alloc::AllocError;
 
 /// Writes a report at the end.

@@ -1,14 +1,15 @@
 //! The lines of a report.
 ghost use Rattle.std.specs.Prelude.{◌≡◌, ◌++◌, codes, option_map, OnOk, OnErr};
 ghost use Rattle.std.specs.List.{flat_map};
-ghost use Rattle.report_lines.specs.Prelude.{Keeps, VersionName};
+ghost use Rattle.json_lines.specs.Messages.{Keeps};
+ghost use Rattle.spans.specs.Collection.{VersionName};
 ghost use Rattle.spans.specs.Report.{limit_in};
 ghost use Rattle.report_lines.specs.Lines.{holder_word, holder_number, member, number_or_null, oldest_members, database_line, transaction_line, protection_line, feed_line};
 
 use crate::members::Member::{Bytes, Number, NumberIfAny, Truth, Word};
 use crate::members::{Written, put_line};
-use spans::bound::Bound;
-use spans::report::{FeedReport, Holder, ProtectionReport, Report, ToldRow, TransactionReport};
+use spans::report::Holder;
+use spans::{Bound, FeedReport, ProtectionReport, Report, ToldRow, TransactionReport};
 
 /// The word for what holds a collection, and its number.
 #[tactic(auto, unfolding(crate::specs::Lines::holder_word, crate::specs::Lines::holder_number))]

@@ -1,10 +1,8 @@
 -- What the calls whose answer is to find room tell the program (this project's own).
 use Rattle.std.specs.Prelude.{ℕ, zero, suc, List, [], ◌∷◌, ◌≡◌, ◌⊎◌, nat_le, ◌&&◌, if◌then◌else◌, length, Option, Some, None, Result, Ok, Err}
 use Rattle.spans.specs.declared.span.Span.{Span}
-use Rattle.embedded.specs.Typed.{command_within}
-use Rattle.ripsawbean.specs.Prelude.{Bounded, Database, Event, HasBulk, HasStepped, StandsFor, last_of}
+use Rattle.ripsawbean.specs.Prelude.{command_within, Bounded, Database, Event, HasBulk, HasStepped, StandsFor, last_of, Unfit}
 use Rattle.ripsawbean.specs.TypedExports.{◌or◌, IsSpent, IsUnspent, OfHandle, seat_fault, number_of}
-use Rattle.ripsawbean.specs.declared.typed.Unfit.{Unfit}
 use Rattle.ripsawbean.specs.declared.typed.Unfit.TheVariants.{NoMemory}
 
 -- no bytes are no low bound

@@ -1,8 +1,7 @@
 -- What each typed call tells the program, and what it does to the handle's database (this project's own).
 use Rattle.std.specs.Prelude.{ℕ, zero, suc, List, ◌≡◌, ◌==◌, ◌<◌, ◌⊎◌, nat_le, nat_lt, Bool, true, false, ◌&&◌, ◌||◌, if◌then◌else◌, length, Option, Some, None, Result, Ok, Err}
 use Rattle.embedded.specs.declared.typed.Answer.{Answer}
-use Rattle.ripsawbean.specs.Prelude.{Cmd, Copied, Database, Event, HasBulk, HasStepped, StandsFor, answer_of, bytes_of, last_of, numbers}
-use Rattle.ripsawbean.specs.declared.typed.Unfit.{Unfit}
+use Rattle.ripsawbean.specs.Prelude.{Cmd, Copied, Database, Event, HasBulk, HasStepped, StandsFor, answer_of, bytes_of, last_of, numbers, Unfit}
 use Rattle.ripsawbean.specs.declared.typed.Unfit.TheVariants.{KeyLength, ValueLength, NoMemory}
 
 -- why no command can be made of a part: its number

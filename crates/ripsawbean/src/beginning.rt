@@ -9,7 +9,7 @@
 //! ```
 
 ghost use Rattle.std.specs.Prelude.{◌≡◌};
-ghost use Rattle.embedded_replica.specs.Consumers.{IsUnseeded};
+ghost use Rattle.ripsawbean.specs.Prelude.{IsUnseeded};
 ghost use Rattle.embedded_replica.specs.declared.consumer.SeedingError.TheVariants.{NoMemory};
 ghost use Rattle.ripsawbean.specs.ReplicaExports.{Begun, begin_number};
 

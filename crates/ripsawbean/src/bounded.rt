@@ -27,8 +27,8 @@ use crate::handle::Handle;
 use crate::typed::{Unfit, bytes, no_answer, number};
 use crate::{NO_MEMORY, SESSION, SPENT};
 use embedded::{Answer, Bounded, BoundedError, Database};
-use spans::bound::{Bound, MAX_BOUND_BYTES};
-use spans::span::Span;
+use spans::bound::MAX_BOUND_BYTES;
+use spans::{Bound, Span};
 use std::alloc::Global;
 
 /// Reads the keys of a span in a transaction, as far as their rows find room: at most `rows` rows, of at most `bytes`

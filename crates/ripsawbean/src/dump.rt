@@ -1,7 +1,7 @@
 //! A dump of the database, piece by piece, as C asks for it.
 
 ghost use Rattle.std.specs.Prelude.{◌≡◌, ◌≤◌, None, Some, IfOk, length, take};
-ghost use Rattle.embedded.specs.declared.dumping.DumpPiece.{DumpPiece};
+ghost use Rattle.ripsawbean.specs.Prelude.{DumpPiece};
 ghost use Rattle.ripsawbean.specs.Dumps.{HasKeyRoom, IsShownOrNot, IsTold, ToldDump, dump_fault, in_front, key_bytes, key_of, next_key, place_record};
 
 use crate::handle::Handle;
@@ -9,8 +9,8 @@ use crate::{KEY_LENGTH, NO_MEMORY, NUMBER, UNWRITTEN};
 use embedded::{Database, DumpPiece, DumpPlace};
 use json_lines::buffer::copy_front;
 use std::alloc::Global;
-use timestamps::key::{Key, KeyError, MAX_KEY_BYTES};
 use timestamps::ts::MAX;
+use timestamps::{Key, KeyError, MAX_KEY_BYTES};
 
 /// A place in a dump. A dump begins at a place that is all 0.
 #[repr(C)]

@@ -1,7 +1,7 @@
 //! What a program holds of its database.
 ghost use Rattle.std.specs.Prelude.{◌≡◌, Option, Some, None, is_some, option_map};
 ghost use Rattle.std.specs.Coded.{coded_option};
-ghost use Rattle.embedded.specs.declared.database.Database.{Database};
+ghost use Rattle.ripsawbean.specs.Prelude.{Database};
 ghost use Rattle.embedded.specs.contracts.database.Database.{the_row};
 ghost use Rattle.ripsawbean.specs.Handles.{flagged};
 

@@ -50,10 +50,10 @@
 #![tactic(auto)]
 
 ghost use Rattle.std.specs.Prelude.{◌≡◌, None, IfSome, IfNone};
+ghost use Rattle.ripsawbean.specs.Prelude.{NoMemory};
 ghost use Rattle.text_format.specs.declared.Format.TheVariants.{Two};
-ghost use Rattle.word_lines.specs.Reading.{WantsMemory, byte_words_at};
+ghost use Rattle.word_lines.specs.Reading.{byte_words_at, WantsMemory};
 ghost use Rattle.word_lines.specs.Table.{table};
-ghost use Rattle.embedded.specs.declared.database.CallError.TheVariants.{NoMemory};
 ghost use Rattle.ripsawbean.specs.Exports.{refusal_of, Opened, Numbered, Called, Asked, Rewritten, Told, ToldOf, number_of};
 
 /// The number that is made of what an open handle keeps, which is put back behind it; a closed one tells that it is closed.

@@ -1,7 +1,7 @@
 //! What a program holds of its consumer.
 ghost use Rattle.std.specs.Prelude.{◌≡◌, Option, Some, None, is_some, option_map};
 ghost use Rattle.std.specs.Coded.{coded_option};
-ghost use Rattle.embedded_replica.specs.declared.consumer.Consumer.{Consumer};
+ghost use Rattle.ripsawbean.specs.Prelude.{Consumer};
 ghost use Rattle.embedded_replica.specs.contracts.consumer.Consumer.{the_row};
 ghost use Rattle.ripsawbean.specs.Handles.{flagged};
 

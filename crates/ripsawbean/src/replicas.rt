@@ -16,7 +16,7 @@
 //! ```
 
 ghost use Rattle.std.specs.Prelude.{◌≡◌, None};
-ghost use Rattle.embedded_replica.specs.Consumers.{IsUnopened};
+ghost use Rattle.ripsawbean.specs.Prelude.{IsUnopened};
 ghost use Rattle.embedded_replica.specs.declared.consumer.BeginError.TheVariants.{NoMemory};
 ghost use Rattle.ripsawbean.specs.ReplicaExports.{Opened, Taken, Told, NoTime, Hidden, ReadyBy, CompleteBy, GotBy, RowsBy, number_or_none, open_number, line_number, take_number};
 
@@ -26,7 +26,7 @@ use embedded_replica::{BeginError, Consumer, TakeError};
 use json_lines::MessageFault;
 use replica::Fault;
 use std::alloc::Global;
-use timestamps::key::KeyError;
+use timestamps::KeyError;
 
 /// The line is no message of a feed, or the text has a line that is none of a row.
 pub(crate) const NO_MESSAGE: u8 = 18;

@@ -30,10 +30,9 @@ ghost use Rattle.ripsawbean.specs.TypedExports.{◌or◌, key_fault, value_fault
 use crate::handle::Handle;
 use crate::{KEY_LENGTH, NO_MEMORY, SESSION, SPENT, UNWRITTEN, VALUE_LENGTH};
 use embedded::{Answer, Database, NoPosition};
-use spans::calls::Cmd;
+use spans::Cmd;
 use std::alloc::Global;
-use timestamps::key::{Key, KeyError};
-use timestamps::value::{MAX_VALUE_BYTES, Value, ValueError};
+use timestamps::{Key, KeyError, MAX_VALUE_BYTES, Value, ValueError};
 
 /// Why parts make no command.
 #[derive(Clone, Copy)]

@@ -9,11 +9,9 @@ use Rattle.word_lines.specs.Reading.{◌>>=◌}
 use Rattle.spans.specs.declared.calls.messages.Message.TheVariants as message
 use Rattle.spelled_words.specs.declared.fault.ReadError.TheVariants as errors
 use Rattle.json_lines.specs.declared.fault.MessageFault.TheVariants as message_faults
-use Rattle.script.specs.Prelude.{Format, Message, key_limit, list_all, message_line, slice_split, value_limit, Follow, LineFault, ReadError, WordCount, arguments_at, key_at, number_at, row_at, session_at, table, text_at, value_at, word_at, words_at, byte_words, is_long, list_any}
+use Rattle.script.specs.Prelude.{Format, Message, key_limit, list_all, message_line, slice_split, value_limit, Follow, LineFault, ReadError, WordCount, arguments_at, key_at, number_at, row_at, session_at, table, text_at, value_at, word_at, words_at, byte_words, is_long, list_any, Shape, Kind}
 use Rattle.script.specs.declared.headings.Heading.{Heading}
 use Rattle.script.specs.ReplyReading.{told_as, to_the_end, reply_at, replies, kind_of}
-use Rattle.script.specs.declared.reply_reading.Shape.{Shape}
-use Rattle.script.specs.declared.reply_table.Kind.{Kind}
 use Rattle.script.specs.declared.reply_reading.Shape.TheVariants as shape
 use Rattle.script.specs.declared.reply_table.Kind.TheVariants as kind
 

@@ -6,10 +6,8 @@ use Rattle.word_lines.specs.Reading.{◌>>=◌}
 use Rattle.spans.specs.declared.calls.replies.Reply.TheVariants as reply
 use Rattle.spans.specs.declared.calls.replies.Refusal.TheVariants as refusal
 use Rattle.spelled_words.specs.declared.fault.LineFault.TheVariants as fault
-use Rattle.script.specs.declared.reply_table.Kind.{Kind}
-use Rattle.script.specs.Prelude.{Format, LineFault, Reply, number_at, value_at, word_at}
+use Rattle.script.specs.Prelude.{Kind, Format, LineFault, Reply, number_at, value_at, word_at, Shape}
 use Rattle.script.specs.declared.reply_table.Reason.{Reason}
-use Rattle.script.specs.declared.reply_reading.Shape.{Shape}
 use Rattle.script.specs.declared.reply_table.Kind.TheVariants as kind
 use Rattle.script.specs.declared.reply_table.Reason.TheVariants as reason
 use Rattle.script.specs.declared.reply_reading.Shape.TheVariants as shape

@@ -1,10 +1,8 @@
 -- The commands of a whole script, up to its first faulty line.
 use Rattle.std.specs.Prelude.{◌≡◌, ◌≢◌, ◌⊎◌, ℕ, ◌+◌, ◌<◌, length, List, [], ◌∷◌, ◌++◌, Option, Some, None, Result, Ok, Err}
-use Rattle.script.specs.Prelude.{Format, IsCommand, LineFault, WantsMemory, byte_words_at, command_at, flat_map, table}
+use Rattle.script.specs.Prelude.{Format, IsCommand, LineFault, WantsMemory, byte_words_at, command_at, flat_map, table, TranscriptError, command_line}
 use Rattle.spans.specs.declared.calls.commands.Cmd.{Cmd}
-use Rattle.script.specs.declared.fault.TranscriptError.{TranscriptError}
 use Rattle.script.specs.declared.fault.TranscriptError.TheVariants as errors
-use Rattle.word_lines.specs.Events.{command_line}
 use Rattle.script.specs.EventLines.{lines_of}
 use Rattle.script.specs.Transcripts.{Fault}
 

@@ -1,14 +1,11 @@
 -- Reading transcripts from the first line to the last: the events, or the first fault with the number of its line.
 use Rattle.word_lines.specs.Reading.{◌>>=◌}
 use Rattle.std.specs.Prelude.{◌≡◌, ◌≢◌, ◌⊎◌, Bool, true, ℕ, zero, suc, ◌+◌, ◌==◌, if◌then◌else◌, List, [], ◌∷◌, ◌++◌, length, take, drop, bytes_eq, Option, Some, None, Result, Ok, Err}
-use Rattle.script.specs.Prelude.{Event, Follow, Format, LineFault, ReadError, Reply, WordCount, flat_map, header, header_lines, list_any}
+use Rattle.script.specs.Prelude.{Event, Follow, Format, LineFault, ReadError, Reply, WordCount, flat_map, header, header_lines, list_any, TranscriptError, Shape, event_text}
 use Rattle.spans.specs.declared.calls.replies.Reply.TheVariants as reply
 use Rattle.spelled_words.specs.declared.fault.ReadError.TheVariants as read_error
-use Rattle.script.specs.declared.fault.TranscriptError.{TranscriptError}
 use Rattle.script.specs.declared.fault.TranscriptError.TheVariants as errors
-use Rattle.script.specs.declared.reply_reading.Shape.{Shape}
 use Rattle.script.specs.declared.reply_reading.Shape.TheVariants as shape
-use Rattle.word_lines.specs.Events.{event_text}
 use Rattle.script.specs.EventLines.{Place, lines_of, heading_at, row_line_at, message_line_at, wants_at}
 
 -- the texts of events, one after the other

@@ -15,7 +15,7 @@ use crate::fault::{Traced, TranscriptError};
 use crate::following::take_following;
 use crate::headings::{Heading, read_heading};
 use crate::lines::Lines;
-use spans::calls::Event;
+use spans::Event;
 use std::alloc::Global;
 use std::marker::Model;
 use text_format::Format;

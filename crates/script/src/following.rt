@@ -1,6 +1,6 @@
 //! The lines that follow an event's first line: the rows or the messages of its reply.
 ghost use Rattle.std.specs.Prelude.{◌≡◌, ◌<◌, true, length, IfErr};
-ghost use Rattle.word_lines.specs.Reading.{Gives};
+ghost use Rattle.script.specs.Prelude.{Gives};
 ghost use Rattle.script.specs.EventLines.{pair_at, pair_of, row_line_at, message_line_at, read_error_of, has_lines};
 ghost use Rattle.script.specs.Transcripts.{TakesLines, next_at, many_at, following_at};
 ghost use Rattle.script.specs.declared.fault.TranscriptError.TheVariants.{NoMemory};
@@ -9,11 +9,10 @@ use crate::fault::{Traced, TranscriptError};
 use crate::lines::Lines;
 use crate::reply_reading::Shape;
 use json_lines::{MessageFault, read_message};
-use spans::calls::{Message, Messages, Reply, Rows};
+use spans::{Message, Messages, Reply, Rows};
 use std::alloc::Global;
 use text_format::Format;
-use timestamps::key::Key;
-use timestamps::value::Value;
+use timestamps::{Key, Value};
 use word_lines::arguments::{take_key, take_value};
 use word_lines::fault::{LineFault, Parsed, ReadError};
 use word_lines::words::{Words, text_of, words_of};

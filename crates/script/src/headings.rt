@@ -5,7 +5,7 @@ ghost use Rattle.script.specs.EventLines.{behind_arrow, heading_of, heading_at, 
 ghost use Rattle.std.specs.List.{list_any};
 
 use crate::reply_reading::{Shape, read_reply};
-use spans::calls::Cmd;
+use spans::Cmd;
 use spans::limits::MAX_SEATS;
 use std::alloc::Global;
 use text_format::Format;

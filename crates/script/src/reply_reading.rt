@@ -7,7 +7,7 @@ ghost use Rattle.script.specs.ReplyReading.{stats_at, refusal_at, shape_at, name
 ghost use Rattle.script.specs.declared.reply_table.Kind.TheVariants.{Value};
 
 use crate::reply_table::{Kind, REPLIES, Reason, kind_of};
-use spans::calls::{Refusal, Reply};
+use spans::{Refusal, Reply};
 use std::alloc::Global;
 use text_format::Format;
 use word_lines::arguments::{take_number, take_value};

@@ -16,7 +16,7 @@ ghost use Rattle.script.specs.declared.fault.TranscriptError.TheVariants.{NoMemo
 
 use crate::fault::{Traced, TranscriptError};
 use crate::lines::Lines;
-use spans::calls::Cmd;
+use spans::Cmd;
 use std::alloc::Global;
 use text_format::Format;
 use word_lines::commands::read_command;
@@ -44,7 +44,13 @@ pub fn read_script(alloc: Global, text: &[u8], seats: u8, format: Format) -> Tra
 }
 
 /// Reads the line of this number.
-fn read_call(alloc: Global, number: u64, line: &[u8], seats: u8, format: Format) -> Traced<(u8, Cmd)>
+fn read_call(
+    alloc: Global,
+    number: u64,
+    line: &[u8],
+    seats: u8,
+    format: Format,
+) -> Traced<(u8, Cmd)>
     ensures exact { Tells (λ x. x) result (at_line number (command_at format table seats line.now)) }
     ensures memory { IfErr result (λ e. e ≡ NoMemory → WantsMemory (byte_words_at format table seats line.now)) }
 {

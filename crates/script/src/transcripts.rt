@@ -10,13 +10,13 @@
 //! The place of `=>` is known from the number of the command's arguments, so a value may be spelled so.
 ghost use Rattle.std.specs.Prelude.{◌≡◌, ◌≢◌, ◌⊎◌, [], IfOk, IfErr};
 ghost use Rattle.std.specs.List.{All};
-ghost use Rattle.word_lines.specs.Limits.{IsEvent};
+ghost use Rattle.script.specs.Prelude.{IsEvent};
 ghost use Rattle.script.specs.Transcripts.{Tells, TranscriptWants, WantsNext, outcome, transcript_at, transcript_text};
 ghost use Rattle.script.specs.declared.fault.TranscriptError.TheVariants.{NoMemory};
 
 use crate::events::Events;
 use crate::fault::Traced;
-use spans::calls::Event;
+use spans::Event;
 use std::alloc::Global;
 use text_format::Format;
 

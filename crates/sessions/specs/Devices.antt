@@ -1,11 +1,10 @@
 -- What proofs know of a source of bytes and of a sink, and what one read or one write does to that (this project's own).
 use Rattle.std.specs.Prelude.{◌≡◌, ℕ, ◌+◌, ◌-◌, ◌==◌, Bool, true, List, ◌++◌, length, [], Result, Ok, Err, Vec}
 use Rattle.std.specs.Global.{Global}
+use Rattle.sessions.specs.Prelude.{Output, ServeEnd}
 use Rattle.sessions.specs.declared.devices.Reading.{Reading}
 use Rattle.sessions.specs.declared.devices.Writing.{Writing}
-use Rattle.sessions.specs.declared.output.Output.{Output}
 use Rattle.sessions.specs.declared.devices.WriteFailed.{WriteFailed}
-use Rattle.sessions.specs.declared.ending.ServeEnd.{ServeEnd}
 use Rattle.sessions.specs.declared.ending.ServeEnd.TheVariants as end
 
 -- the bytes that reads have given, whether the latest that succeeded found the end, and how many found it or failed

@@ -1,7 +1,6 @@
 -- A run between two lines, and where it stops.
 use Rattle.std.specs.Prelude.{◌≡◌, ℕ, ◌+◌, true, false, List, [], ◌∷◌, ◌++◌, length, vec_len, Result, Ok, Err}
-use Rattle.sessions.specs.Prelude.{All, Config, Event, IsCall, IsReason, RingInRange, SeatsInRange, first_of, header, most, script_text, transcript_text}
-use Rattle.sessions.specs.declared.ending.ServeEnd.{ServeEnd}
+use Rattle.sessions.specs.Prelude.{All, Config, Event, IsCall, IsReason, RingInRange, SeatsInRange, first_of, header, most, script_text, transcript_text, ServeEnd}
 use Rattle.sessions.specs.declared.ending.ServeEnd.TheVariants as end
 use Rattle.sessions.specs.declared.callers.Callers.{Callers}
 use Rattle.sessions.specs.declared.serving.Run.{Run}

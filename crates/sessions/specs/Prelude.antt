@@ -1,8 +1,10 @@
--- The words that the specifications take from below.
+-- The words that clauses and specifications take from below.
 pub use Rattle.script.specs.EventLines.{is_newline}
 pub use Rattle.script.specs.Scripts.{IsCall, script_at, script_text}
 pub use Rattle.script.specs.Transcripts.{transcript_text}
-pub use Rattle.shared_db.specs.Seats.{IsReason, RingInRange, SeatsInRange, IsOf, first_of, seat_count}
+pub use Rattle.sessions.specs.declared.ending.ServeEnd.{ServeEnd}
+pub use Rattle.sessions.specs.declared.output.Output.{Output}
+pub use Rattle.shared_db.specs.Seats.{IsOf, IsReason, RingInRange, SeatsInRange, first_of, seat_count}
 pub use Rattle.shared_db.specs.declared.config.Config.{Config}
 pub use Rattle.shared_db.specs.declared.served.Served.{Served}
 pub use Rattle.spans.specs.declared.calls.events.Event.{Event}

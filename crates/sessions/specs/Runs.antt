@@ -5,11 +5,10 @@ use lib.ListN.{get_elem?}
 use Rattle.spans.specs.Legal.{IsLegal, IsGapless}
 use Rattle.spans.specs.declared.calls.commands.Cmd.{Cmd}
 use Rattle.spelled_words.specs.declared.fault.LineFault.{LineFault}
-use Rattle.word_lines.specs.Reading.{WantsMemory, byte_words_at}
+use Rattle.word_lines.specs.Reading.{byte_words_at, WantsMemory}
 use Rattle.word_lines.specs.Table.{table}
-use Rattle.sessions.specs.Prelude.{Event, Ghosts, Seat, Served, flat_map, met_spent, mine, seen, Config, Format, IsReason, RingInRange, SeatsInRange, StartsWith, fault_line, is_newline, most, script_at, script_text, spent_line, transcript_text}
+use Rattle.sessions.specs.Prelude.{Event, Ghosts, Seat, Served, flat_map, met_spent, mine, seen, Config, Format, IsReason, RingInRange, SeatsInRange, StartsWith, fault_line, is_newline, most, script_at, script_text, spent_line, transcript_text, ServeEnd}
 use Rattle.sessions.specs.Devices.{Reads, Writes}
-use Rattle.sessions.specs.declared.ending.ServeEnd.{ServeEnd}
 use Rattle.sessions.specs.declared.ending.ServeEnd.TheVariants as end
 
 -- events, each behind those that came between it and the one before it

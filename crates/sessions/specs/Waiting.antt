@@ -1,10 +1,8 @@
 -- The bytes of an input that were read and not yet taken, and what comes next in them.
 use Rattle.std.specs.Prelude.{◌≡◌, ℕ, ◌+◌, ◌-◌, ◌<◌, ◌≤◌, ◌⊎◌, Bool, true, false, List, ◌++◌, length, take, drop, position, Some, None, [], Option, Result, Ok, Err}
-use Rattle.sessions.specs.Prelude.{Format, is_newline, line_limit}
+use Rattle.sessions.specs.Prelude.{Format, is_newline, line_limit, ServeEnd, Output}
 use Rattle.sessions.specs.Devices.{Reads, with_failed_read, Writes, pending_of, HasTaken, HasBegun}
 use Rattle.sessions.specs.declared.lines.Lines.{Lines}
-use Rattle.sessions.specs.declared.ending.ServeEnd.{ServeEnd}
-use Rattle.sessions.specs.declared.output.Output.{Output}
 use Rattle.sessions.specs.declared.ending.ServeEnd.TheVariants as end
 
 -- the bytes that wait

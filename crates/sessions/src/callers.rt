@@ -6,7 +6,7 @@ ghost use Rattle.sessions.specs.Runs.{HasMade, HasMadeMore, HasMadeNone, HasSpen
 
 use engine::Engine;
 use shared_db::{Config, Db, OpenError, Seat};
-use spans::calls::Event;
+use spans::Event;
 use std::alloc::Global;
 use std::sync::Wait;
 use ticket_lock::Spent;

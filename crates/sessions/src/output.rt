@@ -14,7 +14,7 @@ ghost use Rattle.sessions.specs.Devices.{pending_of, HasWritten};
 
 use crate::devices::{Sink, WriteFailed};
 use crate::whole::write_whole;
-use spans::calls::Event;
+use spans::Event;
 use std::alloc::{AllocError, Global};
 use word_lines::events::{write_echo, write_event};
 

@@ -1,6 +1,6 @@
 //! Serving a script: its calls are made in their order, and what happened is written.
 ghost use Rattle.std.specs.Prelude.{◌≡◌, ◌<◌, ◌≤◌, Some, vec_len, length, take, IfOk, IfErr, OnOk};
-ghost use Rattle.word_lines.specs.Events.{command_line};
+ghost use Rattle.sessions.specs.Prelude.{command_line};
 ghost use Rattle.word_lines.specs.Limits.{IsCommand};
 ghost use Rattle.sessions.specs.Runs.{IsServed};
 ghost use Rattle.sessions.specs.Waiting.{IsNextLine, waiting};
@@ -13,7 +13,7 @@ use crate::last_line::LastLine;
 use crate::lines::Lines;
 use crate::output::Output;
 use shared_db::Config;
-use spans::calls::{Cmd, Event, Reply};
+use spans::{Cmd, Event, Reply};
 use std::alloc::Global;
 use std::sync::Wait;
 use text_format::Format;

@@ -1,12 +1,12 @@
 //! Whole inputs and whole outputs, for a program that answers once it has read everything.
 ghost use Rattle.std.specs.Prelude.{[]};
-ghost use Rattle.script.specs.Transcripts.{transcript_text};
+ghost use Rattle.sessions.specs.Prelude.{transcript_text};
 ghost use Rattle.sessions.specs.Devices.{HasWritten, IsReadWhole, IsWrittenWhole};
 
 use crate::devices::{Sink, Source, WriteFailed};
 use crate::ending::ServeEnd;
 use crate::output::{BLOCK, Output};
-use spans::calls::Event;
+use spans::Event;
 use std::alloc::Global;
 use text_format::Format;
 

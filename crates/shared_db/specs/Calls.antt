@@ -1,7 +1,6 @@
 -- How a call ends.
 use Rattle.std.specs.Prelude.{◌≡◌, ◌≢◌, ℕ, ◌+◌, ◌≤◌, List, [], ◌∷◌, ◌++◌, reverse, length, Some, false}
-use Rattle.shared_db.specs.Prelude.{All, Cmd, Event, Ghosts, IsBusy, IsGapless, IsLegal, IsSpent, Seat, found, known, met_spent, mine, number, of_seat, raised, seen, ticket}
-use Rattle.shared_db.specs.declared.served.Served.{Served}
+use Rattle.shared_db.specs.Prelude.{All, Cmd, Event, Ghosts, IsBusy, IsGapless, IsLegal, IsSpent, Seat, found, known, met_spent, mine, number, of_seat, raised, seen, ticket, Served}
 use Rattle.shared_db.specs.declared.calls.CallDenied.{CallDenied}
 use Rattle.shared_db.specs.declared.calls.CallDenied.TheVariants.{Busy, Spent}
 use Rattle.shared_db.specs.History.{StandsFor, closed_after}

@@ -4,11 +4,8 @@ use mathlib.Core.Option.{some}
 use lib.ListN.{get_elem?}
 use Rattle.timestamps.specs.declared.oracle.OraclePass.{OraclePass}
 use Rattle.timestamps.specs.Passes.{IsNew as IsNewPass}
-use Rattle.ticket_lock.specs.Seats.{IsPartOf}
 use Rattle.ticket_lock.specs.Seats as locks
-use Rattle.shared_db.specs.Prelude.{Event, Ghosts, Seat, known, met_spent, mine, number, seen, ticket, All, Engine, IsGapless, IsLegal, StandsFor, closed_timestamp, steps_of}
-use Rattle.shared_db.specs.declared.served.Served.{Served}
-use Rattle.shared_db.specs.declared.db.Db.{Db}
+use Rattle.shared_db.specs.Prelude.{IsPartOf, Event, Ghosts, Seat, known, met_spent, mine, number, seen, ticket, All, Engine, IsGapless, IsLegal, StandsFor, closed_timestamp, steps_of, Served, Db}
 use Rattle.shared_db.specs.declared.config.Config.{Config}
 use Rattle.shared_db.specs.declared.config.OpenError.{OpenError}
 use Rattle.shared_db.specs.declared.config.OpenError.TheVariants.{SeatCount, RingSize, NoMemory}

@@ -6,7 +6,7 @@ ghost use Rattle.shared_db.specs.Calls.{IsAnswered, IsDenied, IsReady, IsMade};
 
 use crate::db::{Db, Seat};
 use crate::served::Served;
-use spans::calls::{Cmd, Event, Reply};
+use spans::{Cmd, Event, Reply};
 use std::sync::Wait;
 use ticket_lock::{Denied, Held};
 

@@ -1,10 +1,8 @@
 //! The law of seats: what the calls of a shared database leave is lawful, as the contract of one function.
 ghost use Rattle.std.specs.Prelude.{ℕ, List, reverse};
-ghost use Rattle.shared_db.specs.Prelude.{Cmd, Engine, Event, Seat, seen};
+ghost use Rattle.shared_db.specs.Prelude.{Cmd, Engine, Event, Seat, seen, Served, Db};
 ghost use Rattle.spans.specs.Law.{IsLawful};
 ghost use Rattle.shared_db.specs.contracts.served.ServedChronicle.TheImpl.{ghosts};
-ghost use Rattle.shared_db.specs.declared.served.Served.{Served};
-ghost use Rattle.shared_db.specs.declared.db.Db.{Db};
 ghost use Rattle.shared_db.specs.Calls.{IsAnswered};
 ghost use Rattle.shared_db.specs.Seats.{IsWhole};
 

@@ -1,11 +1,11 @@
 //! The engine as the lock keeps it.
 
-ghost use Rattle.engine.specs.Engine.{closed_timestamp};
+ghost use Rattle.shared_db.specs.Prelude.{closed_timestamp};
 ghost use Rattle.shared_db.specs.History.{StandsFor};
 ghost use Rattle.shared_db.specs.Standing.{closed_rises};
 
 use engine::Engine;
-use spans::calls::Event;
+use spans::Event;
 use ticket_lock::Chronicle;
 
 /// An engine that stands for a history, whose floor is its closed timestamp. It is boxed, so that a

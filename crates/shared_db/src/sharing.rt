@@ -1,7 +1,7 @@
 //! What seats and passes do beside calls, none of which waits or takes memory.
 ghost use Rattle.std.specs.Prelude.{◌≡◌, ◌<◌, ◌≤◌, ◌+◌, ◌++◌, [], ◌∷◌, ℕ, max, IfOk, IfErr, OnOk, OnErr};
 ghost use Rattle.std.specs.List.Sorted.{IsStrictlyIncreasing};
-ghost use Rattle.ticket_lock.specs.Lists.{of_seat, longer, StartsWith};
+ghost use Rattle.shared_db.specs.Prelude.{of_seat, longer, StartsWith};
 ghost use Rattle.ticket_lock.specs.Seats.{number, seen, mine, known, met_spent, IsSame, looks as seat_looks};
 ghost use Rattle.ticket_lock.specs.declared.rule.Look.TheVariants.{Serving, Floor, Ignored};
 ghost use Rattle.timestamps.specs.Blocks.{timestamps_of, AreApart};

@@ -1,7 +1,8 @@
 -- Feeds: what was opened, what was told, and what comes next (CockroachDB's changefeeds, their initial scan, and their least
 -- gap between resolved messages; the exact order and the complete resolved messages are this project's).
 use Rattle.std.specs.Prelude.{ℕ, suc, List, [], ◌∷◌, ◌++◌, map, filter, filter_map, take, Bool, false, not, ◌&&◌, ◌||◌, ◌==◌, ◌-◌, nat_lt, nat_le, max, if◌then◌else◌, Option, Some, None, bytes_eq}
-use Rattle.spans.specs.Prelude.{Row, list_any}
+use Rattle.timestamps.specs.declared.row.Row.{Row}
+use Rattle.std.specs.List.{list_any}
 use Rattle.spans.specs.declared.span.Span.{Span}
 use Rattle.spans.specs.declared.calls.messages.Message.{Message}
 use Rattle.spans.specs.declared.calls.messages.Message.TheVariants as messages

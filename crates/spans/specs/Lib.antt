@@ -1,4 +1,3 @@
-pub mod Prelude
 pub mod Keys
 pub mod Effects
 pub mod KeyOrder

@@ -10,8 +10,7 @@ ghost use Rattle.spans.specs.declared.bound.BoundError.TheVariants.{BoundLength,
 use std::alloc::{AllocError, Global};
 use std::marker::Model;
 use std::ops;
-use timestamps::key::{Key, MAX_KEY_BYTES};
-use timestamps::small_bytes::SmallBytes;
+use timestamps::{Key, MAX_KEY_BYTES, SmallBytes};
 
 /// The most bytes that a bound has: one more than a key.
 pub const MAX_BOUND_BYTES: usize = 257;

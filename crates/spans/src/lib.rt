@@ -41,3 +41,10 @@ pub mod limits;
 pub mod report;
 pub mod span;
 pub mod state;
+
+pub use bound::{Bound, BoundError};
+pub use calls::{Cmd, Event, Message, Messages, Refusal, Reply, Rows};
+pub use kind::Kind;
+pub use report::{FeedReport, ProtectionReport, Report, ToldRow, TransactionReport};
+pub use span::Span;
+pub use state::State;

@@ -18,7 +18,7 @@ ghost use Rattle.spans.specs.Legal.{IsLegal};
 use crate::kind::Kind;
 use crate::span::Span;
 use std::marker::Model;
-use timestamps::key::Key;
+use timestamps::Key;
 
 /// An undecided transaction. A closing stops below the first of them.
 #[derive(Clone, Copy, Debug, PartialEq, Eq)]

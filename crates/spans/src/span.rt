@@ -7,7 +7,7 @@ ghost use Rattle.spans.specs.Keys.{in_span, is_among, is_held, NoneOverlap};
 use crate::bound::{Bound, copy_bound, is_below, is_from};
 use std::alloc::{AllocError, Global};
 use std::mem;
-use timestamps::key::Key;
+use timestamps::Key;
 
 /// The keys at or above `lo` and below `hi`; none means no bound. Where `lo` is at or above `hi` it holds no key.
 #[derive(Debug, PartialEq, Eq)]

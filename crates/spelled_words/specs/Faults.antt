@@ -1,6 +1,6 @@
 -- The faults by number and name.
 use Rattle.std.specs.Prelude.{ℕ, List, codes}
-use Rattle.spelled_words.specs.declared.fault.LineFault.{LineFault}
+use Rattle.spelled_words.specs.Prelude.{LineFault}
 use Rattle.spelled_words.specs.declared.fault.LineFault.TheVariants as fault
 
 abbrev pub code_of : LineFault → ℕ

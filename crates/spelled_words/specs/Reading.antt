@@ -2,9 +2,7 @@
 use Rattle.std.specs.Prelude.{◌≡◌, ℕ, nat_le, ◌&&◌, if◌then◌else◌, List, [], ◌∷◌, length, codes, Option, Some, None, Result, Ok, Err, ok_or, bytes_eq, nat_lt, Bool, take}
 use Rattle.std.specs.List.{list_any}
 use Rattle.spans.specs.declared.span.Span.{Span}
-use Rattle.spelled_words.specs.Prelude.{Format, bound_limit, key_limit, number_of, value_limit}
-use Rattle.spelled_words.specs.declared.fault.LineFault.{LineFault}
-use Rattle.spelled_words.specs.declared.fault.LineFault.TheVariants.{WordCount, Number, KeyLength, ValueLength, BadByte}
+use Rattle.spelled_words.specs.Prelude.{Format, bound_limit, key_limit, number_of, value_limit, LineFault, WordCount, Number, KeyLength, ValueLength, BadByte}
 use Rattle.spelled_words.specs.declared.fault.ReadError.{ReadError}
 use Rattle.spelled_words.specs.Words.{bytes_of}
 use Rattle.spelled_words.specs.declared.fault.ReadError.TheVariants as errors

@@ -3,9 +3,7 @@
 use Rattle.std.specs.Prelude.{ℕ, ◌-◌, ◌==◌, nat_lt, nat_le, Bool, not, ◌&&◌, if◌then◌else◌, List, [], length, take, slice_index, Option, Some, None, Result, Ok, Err, ◌<◌, ◌+◌, ◌*◌, ◌/◌, ◌%◌, ◌∷◌, drop, codes, bytes_eq, option_and_then}
 use Rattle.std.specs.Borrow.{Bor}
 use Rattle.std.specs.List.{flat_map, AllByRecursion}
-use Rattle.spelled_words.specs.Prelude.{Format, line_limit, list_all, list_any, slice_split}
-use Rattle.spelled_words.specs.declared.fault.LineFault.{LineFault}
-use Rattle.spelled_words.specs.declared.fault.LineFault.TheVariants.{WordCount, NoNewline, LineTooLong, BadByte}
+use Rattle.spelled_words.specs.Prelude.{Format, line_limit, list_all, list_any, slice_split, LineFault, WordCount, NoNewline, LineTooLong, BadByte}
 use Rattle.spelled_words.specs.declared.spelling.Spelled.{Spelled}
 use Rattle.spelled_words.specs.declared.spelling.Spelled.TheVariants.{Plain, Escaped}
 

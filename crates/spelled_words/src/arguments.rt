@@ -7,12 +7,10 @@ use crate::fault::{LineFault, Parsed, ReadError};
 use crate::spelling::bytes_of;
 use crate::words::Words;
 use json_lines::numbers::number_of;
-use spans::bound::{Bound, BoundError};
-use spans::span::Span;
+use spans::{Bound, BoundError, Span};
 use std::alloc::Global;
 use text_format::Format;
-use timestamps::key::{Key, KeyError};
-use timestamps::value::{Value, ValueError};
+use timestamps::{Key, KeyError, Value, ValueError};
 
 /// A number.
 #[inline(always)]

@@ -24,8 +24,7 @@ ghost use Rattle.timestamps.specs.declared.value.TheConstants.{MAX_VALUE_BYTES};
 ghost use Rattle.spans.specs.declared.bound.TheConstants.{MAX_BOUND_BYTES};
 ghost use Rattle.text_format.specs.Limits.{key_limit, value_limit, bound_limit, line_limit, header, header_lines, format_of};
 
-use timestamps::key::MAX_KEY_BYTES;
-use timestamps::value::MAX_VALUE_BYTES;
+use timestamps::{MAX_KEY_BYTES, MAX_VALUE_BYTES};
 
 /// The format of a text.
 #[derive(Clone, Copy, Debug, PartialEq, Eq)]

@@ -33,3 +33,10 @@ pub mod small_bytes;
 pub mod ts;
 pub mod ts_key;
 pub mod value;
+
+pub use key::{Key, KeyError, MAX_KEY_BYTES};
+pub use row::Row;
+pub use small_bytes::SmallBytes;
+pub use ts::Ts;
+pub use ts_key::TsKey;
+pub use value::{MAX_VALUE_BYTES, Value, ValueError};

@@ -1,5 +1,9 @@
 -- Which lists of events, the oldest first, one database can have given, and where another list first goes wrong.
 use Rattle.std.specs.Prelude.{ℕ, List, [], ◌∷◌, ◌++◌, ◌≡◌, ◌<◌, ◌↔◌, ◌+◌, Bool, true, Option, Some, None, length, reverse}
+use Rattle.spans.specs.declared.calls.events.Event.{Event}
+use Rattle.spans.specs.Legal.{IsGapless, IsLegal, IsRightEvent, is_accepted, may_lack_memory}
+use Rattle.spans.specs.Answer.{answer_of}
+use Rattle.spans.specs.Effects.{effects_of}
 use Rattle.plain_database.specs.declared.database.PlainDatabase.{PlainDatabase}
 use Rattle.spans.specs.declared.report.Report.{Report}
 use Rattle.spans.specs.Report.{IsReport, limit_in, limit_of}
@@ -7,7 +11,6 @@ use Rattle.restarts.specs.Dump.{mark_of}
 use Rattle.plain_database.specs.declared.dump.Dump.{Dump}
 use Rattle.plain_database.specs.Streams.{IsDump}
 use Rattle.plain_database.specs.Tied as plain
-use Rattle.trace_check.specs.Prelude.{Event, IsGapless, IsLegal, IsRightEvent, answer_of, effects_of, is_accepted, may_lack_memory}
 use Rattle.trace_check.specs.declared.checker.Checker.{Checker}
 
 -- where the first event stands

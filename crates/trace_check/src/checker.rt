@@ -6,8 +6,7 @@ ghost use Rattle.trace_check.specs.Traces.{Dumps, StandsFor, JudgesNext, MayLack
 use crate::taking::take_in;
 use plain_database::database::PlainDatabase;
 use plain_database::dump::Dump;
-use spans::calls::Event;
-use spans::report::Report;
+use spans::{Event, Report};
 use std::alloc::{AllocError, Global};
 
 /// The events that were taken so far are legal and have no gap. It holds what they left, and not the events.

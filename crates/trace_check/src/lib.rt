@@ -42,7 +42,7 @@ ghost use Rattle.trace_check.specs.declared.Verdict.TheVariants.{Yes, No};
 ghost use Rattle.trace_check.specs.Traces.{IsTrace, IsFirstWrong, MayLackIn};
 
 use crate::checker::Checker;
-use spans::calls::Event;
+use spans::Event;
 use std::alloc::{AllocError, Global};
 
 /// The verdict on a list of events.

@@ -6,7 +6,7 @@ ghost use Rattle.spans.specs.Legal.{is_accepted, may_lack_memory};
 ghost use Rattle.trace_check.specs.Traces.{Judges, MayLack, TakesIn};
 
 use plain_database::database::PlainDatabase;
-use spans::calls::{Cmd, Event, Messages, Refusal, Reply, Rows};
+use spans::{Cmd, Event, Messages, Refusal, Reply, Rows};
 use std::alloc::AllocError;
 
 /// Whether an event is right after those that the database took in. Where it is, it is taken in too.

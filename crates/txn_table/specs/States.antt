@@ -3,9 +3,10 @@ use Rattle.std.specs.Prelude.{None, Option, Some, option_map, unwrap_or, ℕ, Li
 use Rattle.std.specs.BTreeMap.{is_at}
 use Rattle.std.specs.Map.{lookup}
 use Rattle.std.specs.Ordering.{nat_cmp}
+use Rattle.spans.specs.Kept.{Transaction}
+use Rattle.kept.specs.Finding.{new_transaction}
 use Rattle.spans.specs.declared.state.State.{State}
 use Rattle.spans.specs.declared.state.State.TheVariants as states
-use Rattle.txn_table.specs.Prelude.{Transaction, new_transaction}
 use Rattle.txn_table.specs.declared.ending.Outcome.{Outcome}
 use Rattle.txn_table.specs.declared.ending.Ending.{Ending}
 use Rattle.txn_table.specs.declared.ending.Outcome.TheVariants as outcomes

@@ -1,19 +1,18 @@
 //! The table of transactions, by timestamp: who began, how each stands, and which are undecided.
 ghost use Rattle.std.specs.Prelude.{◌≡◌, ◌&&◌, ℕ, None, IfOk, OnOk, OnErr, nat_le, nat_lt, option_map, is_none, if◌then◌else◌, length, ◌<◌, ◌^◌};
 ghost use Rattle.std.specs.List.Sorted.{IsStrictlyIncreasing};
-ghost use Rattle.txn_table.specs.Prelude.{IsOldest, Transaction, is_open};
-ghost use Rattle.kept.specs.Finding.{AreThose, IsNumberOf};
+ghost use Rattle.spans.specs.Kept.{Transaction};
+ghost use Rattle.kept.specs.Finding.{IsOldest, is_open, AreThose, IsNumberOf};
 ghost use Rattle.txn_table.specs.States.{begun, decided, found, transaction_in, IsGreatest, IsSetAt, Table, AreUndecided};
 
 use crate::ending::{Ending, Outcome};
 use crate::undecided::Undecided;
-use spans::state::State;
+use spans::State;
 use std::alloc::{AllocError, Global};
 use std::collections::BTreeMap;
 use std::collections::btree_map::Entry;
 use std::marker::Model;
-use timestamps::ts::Ts;
-use timestamps::ts_key::TsKey;
+use timestamps::{Ts, TsKey};
 
 /// The transactions, of which the undecided ones stand apart.
 #[derive(Drop)]

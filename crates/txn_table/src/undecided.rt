@@ -7,7 +7,7 @@ ghost use Rattle.std.specs.Map.{keys_of};
 use std::collections::btree_map::Range;
 use std::iter::Iterator;
 use std::marker::Model;
-use timestamps::ts_key::TsKey;
+use timestamps::TsKey;
 
 /// Undecided timestamps, rising, each as it is asked for.
 #[derive(Drop)]

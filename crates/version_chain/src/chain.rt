@@ -13,9 +13,7 @@ use crate::versions::Versions;
 use std::alloc::{AllocError, Global};
 use std::marker::Model;
 use timestamps::binary_search::BinarySearch;
-use timestamps::key::Key;
-use timestamps::ts::Ts;
-use timestamps::value::Value;
+use timestamps::{Key, Ts, Value};
 
 /// A transaction's version of a key.
 #[derive(Debug, Drop)]

@@ -18,12 +18,10 @@ use crate::steps::Steps;
 use key_set::Keys;
 use key_table::KeyTable;
 use read_marks::{Readers, SpanMarks};
-use spans::span::Span;
+use spans::Span;
 use std::alloc::{AllocError, Global};
 use std::iter::Iterator;
-use timestamps::key::Key;
-use timestamps::ts::Ts;
-use timestamps::value::Value;
+use timestamps::{Key, Ts, Value};
 
 // Fewer records that came or lost their last version since the last sweep bring no other. So many take up to 2 MB.
 const LEAST_SWEEP: usize = 16_384;

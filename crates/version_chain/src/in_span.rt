@@ -13,13 +13,13 @@ ghost use Rattle.key_table.specs.Numbers.{Numbered};
 use crate::chain::Chain;
 use crate::record::Record;
 use key_table::KeyTable;
-use spans::bound::{Bound, is_below};
-use spans::span::Span;
+use spans::bound::is_below;
+use spans::{Bound, Span};
 use std::collections::btree_map::Range;
 use std::iter::Iterator;
 use std::marker::Model;
 use std::ops;
-use timestamps::key::Key;
+use timestamps::Key;
 
 /// The keys of a span that have a number, rising, each with its number. A step goes to the next key, and ends at the first
 /// one above the span.

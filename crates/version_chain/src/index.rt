@@ -13,8 +13,7 @@ use std::collections::BTreeMap;
 use std::collections::btree_map::{Entry, Range};
 use std::mem;
 use std::ops::Bound;
-use timestamps::key::Key;
-use timestamps::ts_key::TsKey;
+use timestamps::{Key, TsKey};
 
 /// The keys of each timestamp at which there are some.
 #[derive(Drop)]

@@ -18,12 +18,10 @@ use crate::index::Index;
 use crate::steps::Steps;
 use crate::versions_after::VersionsAfter;
 use key_set::Keys;
-use spans::span::Span;
+use spans::Span;
 use std::alloc::{AllocError, Global};
 use std::marker::Model;
-use timestamps::key::Key;
-use timestamps::ts::Ts;
-use timestamps::value::Value;
+use timestamps::{Key, Ts, Value};
 
 /// What became of a write.
 #[derive(Drop)]

@@ -8,8 +8,7 @@ use key_set::{KeySet, Keys};
 use std::collections::btree_map::Range;
 use std::iter::Iterator;
 use std::marker::Model;
-use timestamps::key::Key;
-use timestamps::ts_key::TsKey;
+use timestamps::{Key, TsKey};
 
 /// The places of versions after a place and at or below a timestamp, by timestamp and then by key. The place is that of
 /// the version that was told last. The index alone is read: whether a version is committed, `Store::committed_at` tells.

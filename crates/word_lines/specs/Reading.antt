@@ -4,9 +4,7 @@ use Rattle.std.specs.Prelude.{◌≡◌, ℕ, ◌==◌, nat_lt, if◌then◌else
 use Rattle.spelled_words.specs.declared.fault.LineFault.TheVariants.{WordCount, UnknownCommand, Session}
 pub use Rattle.spelled_words.specs.Reading.{◌>>=◌, Fails, Gives, Takes, word_at, bytes_at}
 unfoldable pub use Rattle.spelled_words.specs.Reading.{number_at, key_at, value_at, bound_at, span_at, number_and_key_at, number_and_span_at, opening_at, opening_every_at}
-use Rattle.word_lines.specs.Prelude.{Cmd, Format, LineFault, is_long, list_any}
-use Rattle.word_lines.specs.declared.table.Verb.{Verb}
-use Rattle.word_lines.specs.declared.table.Form.{Form}
+use Rattle.word_lines.specs.Prelude.{Cmd, Format, LineFault, is_long, list_any, Verb, Form}
 use Rattle.word_lines.specs.Meaning.{number_of}
 use Rattle.word_lines.specs.Words.{text_at, words_at, words}
 use Rattle.word_lines.specs.Table.{Signature, Nothing, Number, Numbers, NumberKey, NumberKeyValue, NumberSpan, SpanNumber, SpanNumbers, Parts, Layout, Row, layout_of, row_of}

@@ -1,11 +1,9 @@
 -- The table of commands: the name of each, what stands behind it, and which command this makes.
 use Rattle.std.specs.Prelude.{ℕ, List, [], ◌∷◌, map, codes, if◌then◌else◌, bytes_eq, Option, Some, None}
 use Rattle.std.specs.Borrow.{Bor}
-use Rattle.word_lines.specs.Prelude.{Cmd, Span}
+use Rattle.word_lines.specs.Prelude.{Cmd, Span, Verb, Form}
 use Rattle.spans.specs.declared.calls.commands.Cmd.TheVariants as cmd
-use Rattle.word_lines.specs.declared.table.Verb.{Verb}
 use Rattle.word_lines.specs.declared.table.Verb.TheVariants as verb
-use Rattle.word_lines.specs.declared.table.Form.{Form}
 
 -- What stands behind a name, from left to right: a span is two words, and all else is one. Texts, limits and readers go by
 -- this, and not by the command.

@@ -1,8 +1,8 @@
 //! Commands as lines: the session's number, the command's name and its arguments.
 ghost use Rattle.std.specs.Prelude.{◌≡◌, ◌++◌, ◌∷◌, [], ◌<◌, decimal, true, IfOk, IfErr, OnOk, OnErr};
+ghost use Rattle.word_lines.specs.Prelude.{is_long};
 ghost use Rattle.word_lines.specs.Reading.{Gives, Takes, TakesFree, session_at, row_at, arguments_at, counted_at, taken_of, command_at, WantsMemory, byte_words, byte_words_of, byte_words_at};
 ghost use Rattle.std.specs.List.{list_any};
-ghost use Rattle.spelled_words.specs.Reading.{is_long};
 ghost use Rattle.spelled_words.specs.declared.fault.ReadError.TheVariants.{NoMemory};
 ghost use Rattle.word_lines.specs.Table.{table};
 ghost use Rattle.word_lines.specs.Words.{words, spelling};
@@ -20,12 +20,10 @@ use crate::numbers::{number_of, put_number};
 use crate::spelling::put_spelling;
 use crate::table::{Form, Verb, form_of};
 use crate::words::{Words, check_words, text_of, words_in};
-use spans::bound::Bound;
-use spans::calls::Cmd;
-use spans::span::Span;
+use spans::{Bound, Cmd, Span};
 use std::alloc::{AllocError, Global};
 use text_format::Format;
-use timestamps::key::Key;
+use timestamps::Key;
 
 /// A writer's result.
 pub(crate) type Written = Result<(), AllocError>;

@@ -8,7 +8,7 @@ use crate::commands::{Written, put_words};
 use crate::fault::LineFault;
 use crate::numbers::put_number;
 use crate::replies::put_reply;
-use spans::calls::Event;
+use spans::Event;
 use std::alloc::AllocError;
 
 /// With room for so many bytes the line of a fault, and that of spent positions, want no memory.

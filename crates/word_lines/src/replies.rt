@@ -7,10 +7,9 @@ ghost use Rattle.std.specs.List.{flat_map};
 use crate::buffer::or_undo;
 use crate::commands::{Written, put_named, put_pair, put_word};
 use json_lines::write_message_line;
-use spans::calls::{Message, Refusal, Reply};
+use spans::{Message, Refusal, Reply};
 use std::alloc::AllocError;
-use timestamps::key::Key;
-use timestamps::value::Value;
+use timestamps::{Key, Value};
 
 /// Writes a reply at the end: its words, a newline and the lines that follow.
 /// After an error it is as it was.

@@ -4,7 +4,7 @@ ghost use Rattle.feed.specs.Prelude.{complete_at, feed_report, resolved_at};
 
 use crate::live::{LiveFeed, told_through};
 use crate::place::RowName;
-use spans::report::{FeedReport, ToldRow};
+use spans::{FeedReport, ToldRow};
 use std::alloc::AllocError;
 
 impl LiveFeed {

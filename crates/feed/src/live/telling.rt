@@ -6,10 +6,9 @@ ghost use Rattle.feed.specs.Firsts.{IsTold};
 
 use crate::live::LiveFeed;
 use crate::place::{Arrival, place_behind};
-use spans::calls::Message;
+use spans::Message;
 use std::alloc::{AllocError, Global};
-use timestamps::row::Row;
-use timestamps::ts::Ts;
+use timestamps::{Row, Ts};
 use version_chain::Store;
 
 /// Messages, and the place of a feed that has told them.

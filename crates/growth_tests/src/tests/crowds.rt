@@ -1,7 +1,7 @@
 //! Reads of so many keys that no transcript is made of them.
 use super::playing::made;
 use engine::Engine;
-use spans::calls::Reply;
+use spans::Reply;
 use std::alloc::Global;
 use text_format::Format;
 use word_lines::commands::read_command;

@@ -1,7 +1,7 @@
 //! A feed that is followed while a growth may be refused: one of its lines, of the replica, or of what is told.
 use follow::{FollowEnd, FollowOptions, Shown, Start, follow_io};
 use sessions::{Reading, Writing};
-use spans::span::Span;
+use spans::Span;
 use std::alloc::Global;
 use std::io::Cursor;
 use text_format::Format;

@@ -1,6 +1,6 @@
 //! Lines that are made from forms.
 use script::transcripts::read_transcript;
-use spans::calls::Event;
+use spans::Event;
 use std::alloc::{AllocError, Global};
 use text_format::Format;
 

@@ -1,7 +1,7 @@
 //! A transcript, played while a growth may be refused.
 use engine::Engine;
 use script::transcripts::read_transcript;
-use spans::calls::{Cmd, Event, Refusal, Reply};
+use spans::{Cmd, Event, Refusal, Reply};
 use std::alloc::Global;
 use text_format::Format;
 use word_lines::replies::write_reply;

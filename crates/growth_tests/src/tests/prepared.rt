@@ -4,7 +4,7 @@ use super::growths::{are_granted, may_be_refused};
 use super::made::Lines;
 use super::playing::{is_wanting, make, step, text_of};
 use engine::Engine;
-use spans::calls::Event;
+use spans::Event;
 use std::alloc::Global;
 
 /// A history in parts, which are made one after the other.

@@ -1,7 +1,7 @@
 //! Sessions that race while a growth may be refused: one of the database's, of its oracle, of a thread, or of an event.
 use races::{Open, race_calls};
 use script::scripts::read_script;
-use spans::calls::{Cmd, Event, Refusal, Reply};
+use spans::{Cmd, Event, Refusal, Reply};
 use std::alloc::Global;
 use std::sync::Wait;
 use std::thread::Threads;

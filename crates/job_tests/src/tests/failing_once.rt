@@ -3,7 +3,7 @@ use follow::{FollowEnd, FollowOptions, Shown, Start, follow_io};
 use jobs::{DEFAULTS, End, RaceOptions, check_io, race_io, run_io};
 use races::Open;
 use sessions::{ReadFailed, Reading, Source, Writing};
-use spans::span::Span;
+use spans::Span;
 use std::io::{Error, ErrorKind, Read, Result};
 use std::test::Fail;
 use text_format::Format;

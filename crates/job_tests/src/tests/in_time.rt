@@ -2,7 +2,7 @@
 use follow::{FollowEnd, FollowOptions, Shown, Start, follow_io};
 use jobs::{DEFAULTS, End, run_io};
 use sessions::{Reading, Writing};
-use spans::span::Span;
+use spans::Span;
 use std::alloc::Global;
 use std::io::{Read, Result, Write};
 use std::sync::atomic::Ordering::SeqCst;

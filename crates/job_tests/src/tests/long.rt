@@ -5,7 +5,7 @@ use super::playing::{check, follow, is_yes, ran, run};
 use super::random::{Shape, script};
 use follow::{FollowEnd, FollowOptions, Shown, Start};
 use jobs::{DEFAULTS, End};
-use spans::span::Span;
+use spans::Span;
 use std::alloc::{AllocError, Global};
 use std::sync::Wait;
 use text_format::Format;

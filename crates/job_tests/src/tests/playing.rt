@@ -9,7 +9,7 @@ use std::alloc::{AllocError, Global};
 use std::sync::Wait;
 use std::thread::Threads;
 use text_format::Format;
-use timestamps::ts::Ts;
+use timestamps::Ts;
 
 /// How what a case asks for ended.
 #[derive(Clone, Copy)]

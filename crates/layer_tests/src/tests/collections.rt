@@ -3,8 +3,7 @@ use super::rules::{put_reply, reply_to};
 use super::script::{Asked, Words, put_number};
 use feed::Feeds;
 use mvto_rules::Rules;
-use spans::kind::Kind;
-use spans::span::Span;
+use spans::{Kind, Span};
 use std::alloc::Global;
 
 /// Transactions, hard closings, protections, feeds from a cursor (`open`, `shut`), how far a collection can go (`limit`),

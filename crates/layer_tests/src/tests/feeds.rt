@@ -2,9 +2,7 @@
 use super::script::{Asked, Words, put_number};
 use super::versions::change;
 use feed::Feeds;
-use spans::calls::Message;
-use spans::kind::Kind;
-use spans::span::Span;
+use spans::{Kind, Message, Span};
 use std::alloc::Global;
 use version_chain::Store;
 

@@ -3,11 +3,10 @@ ghost use Rattle.std.specs.Prelude.{◌<◌};
 
 use super::script::{Asked, Words, put_number};
 use read_marks::{Readers, SpanMarks};
-use spans::bound::Bound;
-use spans::span::Span;
+use spans::{Bound, Span};
 use std::alloc::Global;
 use std::collections::BTreeMap;
-use timestamps::key::Key;
+use timestamps::Key;
 
 /// Scripts of spans. `raise` marks one by a reader, `of` has the latest reader of a key, and `starts` says how many there
 /// are.

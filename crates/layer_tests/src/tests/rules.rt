@@ -1,10 +1,9 @@
 //! The read and write rules in worked histories: who is blocked, who comes too late, which spans are marked.
 use super::script::{Asked, Words, put_number};
 use mvto_rules::Rules;
-use spans::calls::{Refusal, Reply};
+use spans::{Refusal, Reply};
 use std::alloc::Global;
-use timestamps::key::Key;
-use timestamps::value::Value;
+use timestamps::{Key, Value};
 
 /// Scripts, each of rules whose transactions are of seat 0. `x` has the timestamps where a write of a key comes too late, of
 /// those that are neither closed nor of a transaction that has ended. `transactions` are those that are undecided, each with how many keys it wrote. `forget` closes and `hard`

@@ -1,10 +1,8 @@
 //! Scripts of calls, a line each, with what each call is answered behind `=`.
-use spans::bound::Bound;
-use spans::span::Span;
+use spans::{Bound, Span};
 use std::alloc::Global;
 use std::process::Abort;
-use timestamps::key::Key;
-use timestamps::ts::Ts;
+use timestamps::{Key, Ts};
 
 /// Calls that lines ask for.
 pub(super) trait Asked {

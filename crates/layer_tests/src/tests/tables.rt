@@ -3,7 +3,7 @@ use super::script::{Asked, Words, put_number};
 use key_table::KeyTable;
 use std::alloc::Global;
 use std::ops::Bound;
-use timestamps::key::Key;
+use timestamps::Key;
 
 /// `add` tells the number of a new key, which has to be at most the number behind it, and `number` that of any key. `again`
 /// asks for it once more, after the number behind it, or `-`.

@@ -1,8 +1,8 @@
 //! The table of transactions: which stand and how, and which are undecided.
 use super::script::{Asked, Words, put_number};
-use spans::state::State;
+use spans::State;
 use std::alloc::Global;
-use timestamps::ts_key::TsKey;
+use timestamps::TsKey;
 use txn_table::{Outcome, Txns};
 
 /// `begin` has a timestamp and a seat, and says whether the timestamp was free. `stands` has the seat of a transaction, and

@@ -1,9 +1,7 @@
 //! Versions of keys: what a write, a commit, an abort and a collection leave, and what a search finds.
 use super::script::{Asked, Words, put_number};
 use std::alloc::Global;
-use timestamps::key::Key;
-use timestamps::ts::Ts;
-use timestamps::value::Value;
+use timestamps::{Key, Ts, Value};
 use version_chain::{Store, Wrote};
 
 /// Scripts, each of a store. A `write` is of a delete. `commit` and `abort` are of all versions at a

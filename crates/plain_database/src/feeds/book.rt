@@ -7,9 +7,7 @@ ghost use Rattle.plain_database.specs.declared.feeds.record.FeedRecord.{FeedReco
 ghost use Rattle.plain_database.specs.FeedTie.{floor_in, telling_in, FeedsTied, IsRecordOf, Says, LeadsTo, refusal_of_poll, refusal_of_cancel, Book};
 
 use crate::feeds::record::{FeedRecord, Told};
-use spans::calls::{Message, Messages, Refusal};
-use spans::kind::Kind;
-use spans::span::Span;
+use spans::{Kind, Message, Messages, Refusal, Span};
 use std::alloc::{AllocError, Global};
 use std::marker::Model;
 

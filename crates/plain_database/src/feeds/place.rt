@@ -4,8 +4,8 @@ ghost use Rattle.std.specs.Option.{option_copied};
 ghost use Rattle.plain_database.specs.Streams.{IsPlace, key_above, row_ts, tells_snapshot};
 
 use crate::feeds::record::FeedRecord;
-use spans::report::ToldRow;
-use timestamps::key::Key;
+use spans::ToldRow;
+use timestamps::Key;
 
 /// The place behind which a feed was told nothing. An initial feed's rows begin in the snapshot at its cursor.
 pub enum Place<'a> {

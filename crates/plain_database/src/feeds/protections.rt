@@ -4,7 +4,7 @@ ghost use Rattle.std.specs.List.{fold, list_any};
 ghost use Rattle.plain_database.specs.Prelude.{Protection, Protects, Releases, is_protected, least_of, protection_report, protections_made, protections_of};
 ghost use Rattle.plain_database.specs.ProtectionTie.{ProtectionsTied, Says, LeadsTo, timestamps_of, Standing};
 
-use spans::report::ProtectionReport;
+use spans::ProtectionReport;
 use std::alloc::{AllocError, Global};
 use std::marker::Model;
 

@@ -1,17 +1,13 @@
 //! One of the checker's feeds: whose it is, what it watches, what it was told, its next messages, and its report.
 ghost use Rattle.std.specs.Prelude.{◌≡◌, ◌≤◌, ◌++◌, length, map, IfOk, OnErr, OnOk};
 ghost use Rattle.std.specs.Option.{option_to_list};
-ghost use Rattle.timestamps.specs.declared.ts.TheConstants.{MAX};
+ghost use Rattle.plain_database.specs.Prelude.{MAX};
 ghost use Rattle.plain_database.specs.FeedTie.{record_report, due_in, floor_in, fresh_told, told_more, AreNext};
 
 use crate::Allocated;
-use spans::calls::{Message, Messages};
-use spans::kind::Kind;
-use spans::report::{FeedReport, ToldRow};
-use spans::span::Span;
+use spans::{FeedReport, Kind, Message, Messages, Span, ToldRow};
 use std::alloc::{AllocError, Global};
-use timestamps::row::Row;
-use timestamps::ts::Ts;
+use timestamps::{Row, Ts};
 
 /// The record of a feed that lives.
 #[derive(Drop)]

@@ -4,7 +4,7 @@ ghost use Rattle.plain_database.specs.Table.{new_begun};
 
 use crate::versions::reads::ReadList;
 use crate::versions::writes::Writes;
-use spans::state::State;
+use spans::State;
 use std::alloc::Global;
 
 /// A transaction that began: whose it is, how far it is, what it wrote and what it read.

@@ -7,11 +7,11 @@ ghost use Rattle.std.specs.List.{list_any};
 ghost use Rattle.plain_database.specs.declared.versions.reads.Read.{Read};
 ghost use Rattle.plain_database.specs.Table.{is_across, source_found};
 
-use spans::span::Span;
+use spans::Span;
 use std::alloc::{AllocError, Global};
 use std::collections::BTreeMap;
 use std::marker::Model;
-use timestamps::key::Key;
+use timestamps::Key;
 
 /// A read, with the timestamp of the version that it was given.
 #[derive(Drop)]

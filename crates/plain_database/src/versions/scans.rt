@@ -1,11 +1,7 @@
 //! What the checker's store says of a span: who stops a scan, what one finds, and the committed rows behind a place.
 ghost use Rattle.std.specs.Prelude.{◌≡◌, ◌≤◌, ◌&&◌, ◌++◌, ◌∷◌, [], ℕ, List, IfOk, OnOk, length, option_map, take, true};
 ghost use Rattle.std.specs.Option.{option_copied};
-ghost use Rattle.spans.specs.Answer.{first_refusal};
-ghost use Rattle.spans.specs.Keys.{in_span, with_value};
-ghost use Rattle.spans.specs.Versions.{newest, is_blocked, visible};
-ghost use Rattle.spans.specs.Streams.{stream_of};
-ghost use Rattle.spans.specs.declared.calls.replies.Refusal.TheVariants.{Blocked};
+ghost use Rattle.plain_database.specs.Prelude.{first_refusal, in_span, with_value, newest, is_blocked, visible, stream_of, Blocked};
 ghost use Rattle.plain_database.specs.Replies.{beside, is_past, filled, write_rows, block_tests, rows_past};
 ghost use Rattle.plain_database.specs.Table.{source_found};
 ghost use Rattle.plain_database.specs.VersionsTied.{Says, version_in};
@@ -13,17 +9,13 @@ ghost use Rattle.plain_database.specs.VersionsTied.{Says, version_in};
 use crate::Allocated;
 use crate::versions::reads::FoundKeys;
 use crate::versions::store::VersionStore;
-use spans::bound::{Bound, copy_bound, is_from};
-use spans::span::Span;
-use spans::state::State;
+use spans::bound::{copy_bound, is_from};
+use spans::{Bound, Span, State};
 use std::alloc::{AllocError, Global};
 use std::collections::btree_map::Range;
 use std::ops;
-use timestamps::key::Key;
-use timestamps::row::{Row, copy_after};
-use timestamps::ts::Ts;
-use timestamps::ts_key::TsKey;
-use timestamps::value::Value;
+use timestamps::row::copy_after;
+use timestamps::{Key, Row, Ts, TsKey, Value};
 
 impl VersionStore {
     /// The writer that stops a transaction from reading a span. Its version stands at the least of the keys

@@ -2,7 +2,7 @@
 //! where its state says so, or where it is undecided at or below closed, because a hard closing ended it.
 ghost use Rattle.std.specs.Prelude.{◌≡◌, ◌++◌, ◌∷◌, [], OnErr, OnOk, Some};
 ghost use Rattle.std.specs.Option.{option_copied};
-ghost use Rattle.spans.specs.Versions.{newest};
+ghost use Rattle.plain_database.specs.Prelude.{newest};
 ghost use Rattle.plain_database.specs.Table.{begun_at, changed, committed_at, ended, gone_in, is_crossed, reading, with_begun, writing, IsIndexed};
 ghost use Rattle.plain_database.specs.VersionsTied.{Held, VersionsTied, place_of, version_in};
 
@@ -10,11 +10,10 @@ use crate::versions::begun::Begun;
 use crate::versions::reads::Read;
 use crate::versions::time_table::TimeTable;
 use crate::versions::writers::Writers;
-use spans::state::State;
+use spans::State;
 use std::alloc::{AllocError, Global};
 use std::marker::Model;
-use timestamps::key::Key;
-use timestamps::value::Value;
+use timestamps::{Key, Value};
 
 /// A transaction's version of a key, lent.
 #[derive(Clone, Copy)]

@@ -5,14 +5,12 @@ ghost use Rattle.plain_database.specs.Table.{begun_at, changed, ended, is_crosse
 
 use crate::versions::begun::Begun;
 use crate::versions::reads::Read;
-use spans::state::State;
+use spans::State;
 use std::alloc::{AllocError, Global};
 use std::collections::BTreeMap;
 use std::marker::Model;
 use std::ops::Bound;
-use timestamps::key::Key;
-use timestamps::ts_key::TsKey;
-use timestamps::value::Value;
+use timestamps::{Key, TsKey, Value};
 
 /// The transactions by timestamp.
 #[derive(Drop)]

@@ -3,23 +3,17 @@
 //! A delete is dead as soon as a horizon reaches it, and a value as soon as one reaches the next version of its
 //! key. So only the versions between the old horizon and the new one are looked at, and the one below each.
 ghost use Rattle.std.specs.Prelude.{◌≡◌, ◌-◌, ◌<◌, ◌^◌, ◌≤◌, IfOk, Some, filter, is_some, length, max, min, nat_le, ℕ};
-ghost use Rattle.restarts.specs.Dump.{greatest_of};
-ghost use Rattle.spans.specs.Collection.{horizon_of};
-ghost use Rattle.spans.specs.Versions.{newest};
-ghost use Rattle.spans.specs.Report.{AreUndecided};
-ghost use Rattle.spans.specs.Transactions.{begun_of, closed_of, decided_through, undecided_timestamps};
+ghost use Rattle.plain_database.specs.Prelude.{greatest_of, horizon_of, newest, AreUndecided, begun_of, closed_of, decided_through, undecided_timestamps};
 ghost use Rattle.plain_database.specs.VersionsTied.{deaths_by, newly_dead, standing, versions_between, IsRising, above_closed, is_open, stopped, Says, version_in};
 
 use crate::versions::begun::Begun;
 use crate::versions::store::VersionStore;
-use spans::report::TransactionReport;
-use spans::state::State;
+use spans::{State, TransactionReport};
 use std::alloc::{AllocError, Global};
 use std::collections::btree_map::Range;
 use std::iter::Iterator;
 use std::ops::Bound;
-use timestamps::key::Key;
-use timestamps::ts_key::TsKey;
+use timestamps::{Key, TsKey};
 
 impl VersionStore {
     /// How far a closing to `to` goes: the timestamp `to`, or the one just below the oldest undecided transaction

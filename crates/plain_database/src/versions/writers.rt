@@ -5,22 +5,19 @@ ghost use Rattle.std.specs.Iterator.{at_most};
 ghost use Rattle.std.specs.Map.{keys_of};
 ghost use Rattle.std.specs.Map.Iter.{TakesFirst, deref};
 ghost use Rattle.std.specs.Range.Bound.{bound_map};
-ghost use Rattle.spans.proofs.Keyed.{RisingKeys};
-ghost use Rattle.spans.specs.Keys.{in_span};
-ghost use Rattle.spans.specs.KeyOrder.{start_of};
+ghost use Rattle.plain_database.specs.Prelude.{RisingKeys, in_span, start_of};
 ghost use Rattle.plain_database.specs.Table.{IsLast, is_listed, Listed};
 ghost use Rattle.plain_database.specs.Replies.{AreAhead};
 
-use spans::bound::{Bound, is_below};
-use spans::span::Span;
+use spans::bound::is_below;
+use spans::{Bound, Span};
 use std::alloc::{AllocError, Global};
 use std::collections::btree_map::Range;
 use std::collections::{BTreeMap, BTreeSet};
 use std::iter::{DoubleEndedIterator, Iterator};
 use std::marker::Model;
 use std::ops;
-use timestamps::key::{Key, MAX_KEY_BYTES};
-use timestamps::ts_key::TsKey;
+use timestamps::{Key, MAX_KEY_BYTES, TsKey};
 
 /// Each key that a transaction may have written, with the timestamps of these.
 #[derive(Drop)]

@@ -3,14 +3,12 @@ ghost use Rattle.std.specs.Prelude.{◌≡◌, [], OnErr, OnOk, length, ℕ, Lis
 ghost use Rattle.std.specs.BTreeMap.{insert_entry, is_at};
 ghost use Rattle.std.specs.Map.{lookup};
 ghost use Rattle.std.specs.Option.{option_copied};
-ghost use Rattle.timestamps.specs.Words.{key_cmp};
-ghost use Rattle.spans.specs.Effects.{After};
+ghost use Rattle.plain_database.specs.Prelude.{key_cmp, After};
 
 use std::alloc::{AllocError, Global};
 use std::collections::BTreeMap;
 use std::marker::Model;
-use timestamps::key::Key;
-use timestamps::value::Value;
+use timestamps::{Key, Value};
 
 /// Each key that a transaction wrote, with the value that it wrote last, or `None` for a delete.
 #[derive(Drop)]

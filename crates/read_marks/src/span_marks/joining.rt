@@ -6,7 +6,7 @@ ghost use Rattle.read_marks.specs.Spans.{KeepsLatest, latest_below};
 
 use super::SpanMarks;
 use std::ops::Bound;
-use timestamps::small_bytes::SmallBytes;
+use timestamps::SmallBytes;
 
 impl SpanMarks {
     /// The latest reader just below a start, or 0.

@@ -2,7 +2,7 @@
 use super::texts::{Lines, text_of, transcript_of};
 use races::{Gate, race_calls};
 use script::scripts::read_script;
-use spans::calls::Event;
+use spans::Event;
 use std::alloc::Global;
 use std::sync::Wait;
 use std::sync::atomic::Ordering::SeqCst;

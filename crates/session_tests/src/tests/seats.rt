@@ -3,7 +3,7 @@ ghost use Rattle.session_tests.specs.Prelude.{AllNew, IsIdle, IsOf};
 ghost use Rattle.timestamps.specs.Passes.{IsOf as IsPassOf};
 
 use shared_db::{Config, Db, Seat};
-use spans::calls::Cmd;
+use spans::Cmd;
 use std::process::Abort;
 use std::test::Fail;
 use timestamps::oracle::OraclePass;

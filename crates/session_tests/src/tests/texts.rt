@@ -1,6 +1,6 @@
 //! Scripts and transcripts that are written line by line, so that long ones are short here.
 use script::scripts::read_script;
-use spans::calls::{Cmd, Event};
+use spans::{Cmd, Event};
 use std::alloc::{AllocError, Global};
 use std::test::Fail;
 use text_format::Format;

@@ -6,7 +6,7 @@ use super::racing::{Holds, Place};
 use super::texts::{Lines, commands_of, text_of};
 use races::{Ended, Gate, Open, RaceError, race};
 use shared_db::{Config, Db, Seat};
-use spans::calls::{Cmd, Reply};
+use spans::{Cmd, Reply};
 use std::alloc::Global;
 use std::sync::Wait;
 use std::test::Fail;

@@ -3,8 +3,7 @@ ghost use Rattle.std.specs.Prelude.{◌≡◌};
 ghost use Rattle.spans.specs.Parts.{asked_span};
 
 use crate::span::Span;
-use timestamps::key::Key;
-use timestamps::value::Value;
+use timestamps::{Key, Value};
 
 /// A command. The database answers a number that it can't take with a [`Refusal`](crate::calls::Refusal).
 #[derive(Debug, PartialEq, Eq)]

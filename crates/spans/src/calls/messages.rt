@@ -3,8 +3,7 @@ ghost use Rattle.std.specs.Prelude.{◌≡◌, List};
 ghost use Rattle.spans.specs.declared.calls.messages.Message.{Message};
 
 use std::marker::Model;
-use timestamps::row::Row;
-use timestamps::ts::Ts;
+use timestamps::{Row, Ts};
 
 /// A message of a feed.
 #[derive(Debug, Drop, PartialEq, Eq)]

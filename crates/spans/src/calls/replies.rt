@@ -4,8 +4,7 @@ ghost use Rattle.spans.specs.Parts.{answered_rows};
 
 use crate::calls::messages::Messages;
 use std::marker::Model;
-use timestamps::key::Key;
-use timestamps::value::Value;
+use timestamps::{Key, Value};
 
 /// The answer to a command.
 #[derive(Debug)]

@@ -2,8 +2,7 @@
 use super::running::play;
 use engine::Engine;
 use std::alloc::Global;
-use timestamps::key::Key;
-use timestamps::row::Row;
+use timestamps::{Key, Row};
 
 /// Histories. Behind each `@` stands what happens next, and behind `told` rows of a place, a timestamp through which
 /// rows are wanted, and the first row that is then left: its timestamp, its key and its value. `-` is no key, no value

@@ -2,7 +2,7 @@
 use super::running::play;
 use engine::Engine;
 use script::scripts::read_script;
-use spans::calls::Cmd;
+use spans::Cmd;
 use std::alloc::Global;
 use text_format::Format;
 

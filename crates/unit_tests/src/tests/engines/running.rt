@@ -2,7 +2,7 @@
 use engine::Engine;
 use script::scripts::read_script;
 use script::transcripts::read_transcript;
-use spans::calls::{Cmd, Event};
+use spans::{Cmd, Event};
 use std::alloc::{AllocError, Global};
 use text_format::Format;
 use word_lines::events::write_event;

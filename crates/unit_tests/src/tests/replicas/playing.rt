@@ -1,13 +1,8 @@
 //! The calls of a script's lines.
 use replica::{Fault, Replica};
-use spans::bound::Bound;
-use spans::calls::Message;
-use spans::span::Span;
+use spans::{Bound, Message, Span};
 use std::alloc::Global;
-use timestamps::key::Key;
-use timestamps::row::Row;
-use timestamps::ts::Ts;
-use timestamps::value::Value;
+use timestamps::{Key, Row, Ts, Value};
 
 /// Whether the call of a line is answered as it says.
 pub(super) fn is_answered(

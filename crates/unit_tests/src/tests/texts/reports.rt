@@ -1,12 +1,9 @@
 //! Reports, as an operator reads them.
 use report_lines::write_report;
-use spans::bound::Bound;
-use spans::kind::Kind;
-use spans::report::{FeedReport, ProtectionReport, Report, ToldRow, TransactionReport};
-use spans::span::Span;
+use spans::{Bound, FeedReport, Kind, ProtectionReport, Report, Span, ToldRow, TransactionReport};
 use std::alloc::{AllocError, Global};
 use std::test::Fail;
-use timestamps::key::Key;
+use timestamps::Key;
 
 /// Two undecided transactions; protections and feeds that hold at one timestamp; an initial feed in its snapshot.
 pub(super) const REPORTS: &str =

@@ -3,13 +3,12 @@ ghost use Rattle.std.specs.Prelude.{IfOk};
 ghost use Rattle.std.specs.List.Sorted.{IsStrictlySortedBy};
 ghost use Rattle.timestamps.specs.Words.{key_cmp};
 
-use spans::bound::Bound;
 use spans::law::law_of_histories;
-use spans::span::Span;
+use spans::{Bound, Span};
 use std::alloc::Global;
 use std::cmp::Ordering;
 use std::test::Fail;
-use timestamps::key::Key;
+use timestamps::Key;
 
 /// The span between two bounds; no letter makes no bound.
 fn span_of(alloc: Global, lo: &str, hi: &str) -> Span {

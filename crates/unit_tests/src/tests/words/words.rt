@@ -1,12 +1,9 @@
 //! Timestamps, keys, values, rows and bounds: what is taken, and how keys are ordered.
-use spans::bound::{Bound, BoundError};
+use spans::{Bound, BoundError};
 use std::alloc::{AllocError, Global};
 use std::test::Fail;
-use timestamps::key::{Key, KeyError};
-use timestamps::row::Row;
-use timestamps::ts::{MAX, Ts};
-use timestamps::ts_key::TsKey;
-use timestamps::value::{Value, ValueError};
+use timestamps::ts::MAX;
+use timestamps::{Key, KeyError, Row, Ts, TsKey, Value, ValueError};
 
 /// So many bytes, each a 7.
 fn sevens(alloc: Global, length: u64) -> Result<Vec<u8>, AllocError> {
