@@ -189,7 +189,7 @@ fn job_of(alloc: Global, matches: &ArgMatches) -> Result<Job, Error> {
     })
 }
 
-/// The job of `mvfeed run`.
+/// The options of `mvfeed run`.
 fn config_of(run: &ArgMatches) -> Config {
     Config {
         seats: run.get_one("seats").unwrap_or(DEFAULTS.seats),
@@ -198,7 +198,7 @@ fn config_of(run: &ArgMatches) -> Config {
     }
 }
 
-/// The job of `mvfeed race`.
+/// The options of `mvfeed race`.
 fn race_options_of(race: &ArgMatches) -> RaceOptions {
     RaceOptions {
         sessions: race.get_one("sessions").unwrap_or(1),

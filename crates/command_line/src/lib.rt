@@ -23,8 +23,8 @@
 //! 0 0 begin 10 => started        a transcript's line isn't a script's: leave out its position, and `=>` with what ..
 //! ```
 //!
-//! 1. Each job is done on its devices, and the status is its end's: `Did` in `specs/Doing.antt`, which [`done`] ensures.
-//!    `specs/Doing.antt` has the status of each end.
+//! 1. Each job is done on its devices, and the status is its end's: `Did` in `specs/Doing.antt`, which [`done`]
+//!    ensures, and which has the status of each end.
 //! 2. `specs/Sentences.antt` has the sentence of each end, byte for byte.
 //! 3. [`status::refused`] leaves 1 for words that clap refuses.
 //! 4. No clause says what a command line asks for, which text a hint has, or that standard error was told. Tests in

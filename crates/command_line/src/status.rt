@@ -11,10 +11,13 @@ use follow::{FollowEnd, SeedError};
 use jobs::End;
 use std::process::ExitCode;
 
+/// The exit status where the program failed.
 const FAILED: u8 = 1;
 
+/// The exit status where a line is faulty.
 const FAULTY: u8 = 2;
 
+/// The exit status where what was checked is not right.
 pub(crate) const NO: u8 = 3;
 
 /// The exit status of a job's end: 0 where all was done, 2 for a faulty line, 3 for what is not right, else 1.

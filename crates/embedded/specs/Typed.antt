@@ -1,4 +1,5 @@
--- Calls whose command is given in parts, and answers in numbers and bytes (this project's own).
+-- Calls whose command is given in parts, answers in numbers and bytes, and calls whose answer is to find room: the
+-- command is made of what a look at the history tells (this project's own).
 use Rattle.std.specs.Prelude.{ℕ, List, [], ◌∷◌, ◌++◌, ◌≡◌, ◌⊎◌, length, is_some, Bool, true, false, Option, Some, None, Result, Ok, Err}
 use Rattle.spans.specs.declared.calls.messages.Message.{Message}
 use Rattle.spans.specs.declared.calls.replies.Refusal.{Refusal}

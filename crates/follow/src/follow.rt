@@ -21,11 +21,14 @@ use word_lines::events::write_spent;
 /// Rows to begin with whose keys don't rise, or lie outside the span, are a fault of line 0.
 ///
 /// A line that doesn't begin with `{` is passed over. A faulty line, and a message that the replica refuses,
-/// ends the output with its fault; what was told before it stands. The output is written in large blocks, at the end, and
-/// before each read.
+/// ends the output with its fault; what was told before it stands. The output is written in large blocks, at the
+/// end, and before each read, since a read may wait.
 ///
 /// It ends out of memory only before it reads, for a line that is one to take or at fault, or where no further line can
 /// be counted. Then all that is told of the messages before stands, and nothing of that line.
+///
+/// `IsFollowed` in `specs/Ends.antt` says how each end comes, and `CouldBegin` there that rows which a replica can't
+/// begin with are a fault.
 pub fn follow_io<S: Source, K: Sink>(
     alloc: Global,
     options: FollowOptions,

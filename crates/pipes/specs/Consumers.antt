@@ -1,4 +1,5 @@
--- Which consumers take the lines of a feed's polls (this project's own).
+-- Which consumers take the lines of a feed's polls, and what is kept of a replica for one that goes on with its rows
+-- (this project's own).
 use Rattle.std.specs.Prelude.{ℕ, List, ◌∷◌, ◌++◌, ◌≡◌, Some, reverse, [], Ok}
 use Rattle.embedded_replica.specs.Consumers.{HasTaken, IsRefused}
 use Rattle.embedded_replica.specs.declared.consumer.TakeError.{TakeError}

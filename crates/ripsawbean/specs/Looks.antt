@@ -57,6 +57,8 @@ ToldHeld (Some d) seat zero out out' count =
 ToldHeld (Some d) seat (suc n) out out' count = (suc n ≡ 12) × (count ≡ 0) × (out' ≡ out)
 ToldHeld None seat number out out' count = (number ≡ 16) × (count ≡ 0) × (out' ≡ out)
 
+-- ---- its state
+
 -- done, or no memory for the text; of a closed handle that it is closed
 abbrev pub IsStateNumber : Option Database → ℕ → Type 0
 IsStateNumber (Some d) number = (number ≡ 0) ⊎ (number ≡ 14)
@@ -67,6 +69,8 @@ abbrev pub ToldState : ℕ → Option Database → (before after : List ℕ) →
 ToldState zero (Some d) before after length = (h : List Event) → StandsFor d h → (text : List ℕ) × IsStateText h text × Copied text before after length
 ToldState zero None before after length = ⊥
 ToldState (suc n) d before after length = (length ≡ 0) × (after ≡ before)
+
+-- ---- its last event
 
 -- the last event of a handle's database in numbers; all 0 where there is none, or the handle is closed
 abbrev pub ToldLast : Option Database → ℕ → EventRecord → Type 0

@@ -142,7 +142,7 @@ fn has_fault(low: &[u8], has_high: u8, high: &[u8]) -> bool
         || has_high != 0 && (high.is_empty() || high.len() > MAX_BOUND_BYTES)
 }
 
-/// The bound of bytes, of which there are not too many; none of no bytes.
+/// The bound of bytes; none of no bytes. `has_fault` has looked at their length, so only memory can be wanting.
 fn bound_of(alloc: Global, bytes: &[u8]) -> Result<Option<Bound>, Unfit>
     ensures ok { IfOk result (λ bound. bound ≡ low_of bytes.now) }
     ensures err { IfErr result (λ unfit. number_of unfit ≡ 12) }

@@ -48,6 +48,7 @@ impl Handle {
         if is_open {
             Some(loose.into_box(alloc))
         } else {
+            // it holds no box, and nothing drops it
             let Loose { at: _ } = loose;
             None
         }

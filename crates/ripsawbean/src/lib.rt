@@ -25,6 +25,29 @@
 //! ripsawbean_call   "0 begin 20\n"   room 64  16       0        (as before)      none
 //! ```
 //!
+//! | Number | What it says |
+//! |---|---|
+//! | 0 | done |
+//! | 1 to 9 | the line's fault by its code; 3 to 6 also of a number, a key, a value or a seat without a line |
+//! | 12 | no memory for a line, a key, a value or what is asked for |
+//! | 13 | no position is left |
+//! | 14 | no room or no memory for a text, or for an answer's bytes |
+//! | 15 | the ring is out of range |
+//! | 16 | the handle is closed |
+//! | 17 | the handle is open |
+//! | 18 | the line is no message's, or the text isn't lines of rows |
+//! | 19 | a row comes too early, or the keys of rows don't rise |
+//! | 20 | a row lies outside the span |
+//! | 21 | a resolved timestamp comes too early |
+//! | 22 | the line's command opens no feed, one above the greatest timestamp, or an initial one where rows are given |
+//! | 23 | the key has no value |
+//! | 24 | the timestamp is below the horizon |
+//! | 25 | in a note of `ripsawbean_calls`: the line's answer would be too long |
+//!
+//! At a number from 1 on nothing was done, with two exceptions. At 14 a call that was made stands, and
+//! `ripsawbean_text` or `ripsawbean_bytes` shows what it told. What `ripsawbean_calls` took and
+//! `ripsawbean_versions_at` told before the number stands too. Each function tells its own numbers.
+//!
 //! A program owes pointers that aren't null, also to no bytes, and slices that don't overlap. Its handle is all zero
 //! bytes or was left by these functions, isn't copied while it is open, and is used by one call at a time.
 //!
@@ -57,6 +80,7 @@ ghost use Rattle.word_lines.specs.Table.{table};
 ghost use Rattle.ripsawbean.specs.Exports.{refusal_of, Opened, Numbered, Called, Asked, Rewritten, Told, ToldOf, number_of};
 
 /// The number that is made of what an open handle keeps, which is put back behind it; a closed one tells that it is closed.
+/// `$number` may not return, since the handle would stay closed.
 macro_rules! with_open {
     ($handle:ident, $alloc:ident, $kept:ident => $number:expr) => {
         match $handle.take($alloc) {

@@ -14,6 +14,8 @@
 //! ripsawbean_replica_complete                                                0        through 9, at none
 //! ripsawbean_replica_rows                                                    0        row a 1
 //! ```
+//!
+//! The table of numbers stands at the crate's head.
 
 ghost use Rattle.std.specs.Prelude.{◌≡◌, None};
 ghost use Rattle.ripsawbean.specs.Prelude.{IsUnopened};

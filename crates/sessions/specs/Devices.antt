@@ -1,4 +1,5 @@
--- What proofs know of a source of bytes and of a sink, and what one read or one write does to that (this project's own).
+-- What proofs know of a source of bytes and of a sink, what one read or one write does to that, and how reading or
+-- writing a whole ends (this project's own).
 use Rattle.std.specs.Prelude.{◌≡◌, ℕ, ◌+◌, ◌-◌, ◌==◌, Bool, true, List, ◌++◌, length, [], Result, Ok, Err, Vec}
 use Rattle.std.specs.Global.{Global}
 use Rattle.sessions.specs.Prelude.{Output, ServeEnd}
@@ -7,7 +8,7 @@ use Rattle.sessions.specs.declared.devices.Writing.{Writing}
 use Rattle.sessions.specs.declared.devices.WriteFailed.{WriteFailed}
 use Rattle.sessions.specs.declared.ending.ServeEnd.TheVariants as end
 
--- the bytes that reads have given, whether the latest that succeeded found the end, and how many found it or failed
+-- the bytes that reads gave, whether the latest that succeeded found the end, how many found it, and how many failed
 pub record Reads : Type 0 where
   pub given : List ℕ
   pub ended : Bool

@@ -1,4 +1,5 @@
-//! The line that ends an output, with its room made before any line is read.
+//! The line that ends an output, with its room made before any line is read. So a faulty line, or spent positions, are
+//! told without wanting memory.
 ghost use Rattle.std.specs.Prelude.{◌≡◌, ◌+◌, ◌++◌, ◌<◌, ◌≤◌, [], vec_len, vec_capacity, OnOk, OnErr};
 ghost use Rattle.sessions.specs.Runs.{last_line};
 

@@ -24,8 +24,8 @@ use word_lines::fault::ReadError;
 /// database is open the output begins with the format's header.
 ///
 /// A line is the call of the seat that it names. A faulty line ends the transcript with its fault, and so does one for
-/// which no position is left; what was answered before it stands. What waits is written before each read, since a read
-/// may wait.
+/// which no position is left; what was answered before it stands. The output is written in large blocks, at the end,
+/// and before each read, since a read may wait.
 pub fn serve<S: Source, K: Sink, T: Wait>(
     rt: &T,
     alloc: Global,

@@ -63,7 +63,8 @@ impl Db {
         Ok((Db { lock, oracle }, seats, passes))
     }
 
-    /// The engine, once all seats are back, in any order. It waits for nobody, and passes may be dropped before or after.
+    /// The engine, once all seats are back, in any order. It is refused exactly where a seat is missing. It waits for
+    /// nobody, and passes may be dropped before or after.
     pub fn finish(self, seats: Vec<Seat>) -> Result<Engine, SeatsMissing>
         requires own { AllOf self seats.items }
         ensures ok { IfOk result (λ engine. IsWhole self seats.items engine × (length seats.items ≡ seat_count self)) }

@@ -2,7 +2,7 @@
 
 ghost use Rattle.shared_db.specs.Prelude.{closed_timestamp};
 ghost use Rattle.shared_db.specs.History.{StandsFor};
-ghost use Rattle.shared_db.specs.Standing.{closed_rises};
+ghost use Rattle.shared_db.specs.Closing.{closed_rises};
 
 use engine::Engine;
 use spans::Event;
