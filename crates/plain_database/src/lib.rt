@@ -40,6 +40,9 @@
 //!   of all its rows
 //! - `dump`: P for each committed version, and a copy of each
 //!
+//! So a transcript is slow to check that has many reads above a transaction which writes on, many aborted writers of
+//! one key, or a long tail that is never closed.
+//!
 //! `answer` takes memory for rows, values, spans and messages, and `report` and `dump` for their lists. `record` takes
 //! it for a begin, get, scan, put, del, protect, opening or poll that is accepted, and none for other commands.
 //!

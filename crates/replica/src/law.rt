@@ -7,10 +7,13 @@ ghost use Rattle.replica.specs.Starts.{Pairs, seeded_by, initial_start, MayBegin
 ghost use Rattle.replica.specs.Right.{ReplicasAreRight};
 
 /// Of a feed that was opened in a legal history, newest event first: a replica that began as its consumer is to
-/// begin refuses none of the feed's messages, unless it is out of memory. After each resolved message it is complete,
-/// and wherever it is, or is ready for the next row, it has the span's part of the map. All that is told later is above
-/// what it says that it was told all through. All this holds also of a replica that goes on with its rows, of a feed
-/// that was opened there. (The first messages may repeat what it has, so it is ready only above where it goes on from.)
+/// begin refuses none of the feed's messages, unless it is out of memory. After each resolved message it is complete at
+/// its timestamp, and where it is complete there or before the first message, or is ready for the next row, it has the
+/// span's part of the map at that timestamp. All that is told later is above what it says that it was told all through.
+///
+/// A replica that goes on with its rows, of a feed that was opened there, refuses none either, is complete at each
+/// resolved timestamp, and was told all through what it says. (The first messages may repeat what it has, so where it
+/// goes on from is no timestamp at which it is ready, or complete.)
 ///
 /// A consumer of an initial feed is to begin empty, and any other with the rows of a scan at the cursor, which no
 /// replica refuses. The function does nothing: its contract is the theorem.

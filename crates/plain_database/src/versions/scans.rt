@@ -55,7 +55,8 @@ impl VersionStore {
         Ok(sources)
     }
 
-    /// The first `max` keys of a span above `after` that have a value at or below `ts`, each with it, by rising key.
+    /// The first `max` keys of a span above `after` whose version at or below `ts` has a value, each with it, by rising
+    /// key.
     pub fn pairs(
         &self,
         alloc: Global,
