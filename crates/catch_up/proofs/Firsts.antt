@@ -3,7 +3,7 @@ use Rattle.catch_up.proofs.Common.{After, Entry, IsIn, IsNewestOf, IsNoneUpTo, I
 use Rattle.std.proofs.Common.{append_assoc, Bool, Bor, List, None, Option, Some, [], ap, arith, false, length, refl, subst, sym, true, ◌&&◌, ℕ, ◌<◌, ◌≤◌, ◌≡◌, ◌++◌, ◌∷◌, ◌∙◌}
 use Rattle.std.specs.Prelude.{MatchOption, IfSome, filter, is_some}
 use Rattle.spans.specs.Versions.{newest}
-use Rattle.catch_up.specs.Left.{AreFirstsIn, IsFirstIn, is_past, one_in, value_in}
+use Rattle.catch_up.specs.Rows.{AreFirstsIn, IsFirstIn, is_past, one_in, value_in}
 
 -- what the store has of a key
 abbrev pub found_at : Stored → ℕ → List ℕ → After

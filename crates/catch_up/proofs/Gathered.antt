@@ -5,7 +5,7 @@ use Rattle.std.proofs.Common.{rules}
 use Rattle.std.proofs.Common.{Bool, List, None, Option, Some, [], ap, inl, inr, refl, subst, sym, true, ℕ, ◌&&◌, ◌≡◌, ◌∷◌, ◌∙◌}
 use Rattle.std.specs.Prelude.{if◌then◌else◌, nat_le}
 use Rattle.spans.proofs.Members.{Has}
-use Rattle.catch_up.specs.Left.{AreLeftIn}
+use Rattle.catch_up.specs.Rows.{AreLeftIn}
 use Rattle.catch_up.proofs.Order.{put_in, put_only, put_rises, put_row, put_stays}
 
 -- a key and a timestamp

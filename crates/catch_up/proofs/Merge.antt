@@ -10,9 +10,9 @@ use Rattle.std.specs.declared.cmp.Ordering.{Ordering}
 use Rattle.std.specs.declared.cmp.Ordering.TheVariants.{Less, Equal, Greater}
 use Rattle.std.proofs.lemmas.Bool.Decides.{nat_tests}
 use Rattle.std.proofs.lemmas.Map.Keys.{sorted_head, sorted_tail}
-use Rattle.timestamps.specs.Words.{key_cmp}
+use Rattle.timestamps.specs.Bytes.{key_cmp}
 use Rattle.spans.specs.KeyOrder.{key_lt}
-use Rattle.catch_up.specs.Left.{AllHeads, AreBefore, AreHeads, Found, HasHead, IsDue, IsFirstDue, IsHead, IsNoneDue, Spot, spot_cmp, AreNextIn, IsLeftIn}
+use Rattle.catch_up.specs.Rows.{AllHeads, AreBefore, AreHeads, Found, HasHead, IsDue, IsFirstDue, IsHead, IsNoneDue, Spot, spot_cmp, AreNextIn, IsLeftIn}
 use Rattle.catch_up.proofs.Firsts.{key_found, AreChained, chained, passed_in}
 use Rattle.catch_up.proofs.Walk.{IsNext, IsWalked, row_of, walk_begins, walk_ends, walk_full, walk_takes}
 

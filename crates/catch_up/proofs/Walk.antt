@@ -4,7 +4,7 @@ use Rattle.std.proofs.Common.{append_assoc, Bor, List, None, Option, Some, [], a
 use Rattle.std.specs.Prelude.{is_some}
 use Rattle.std.specs.Map.Iter.{TakesFirst, deref_pair}
 use Rattle.std.proofs.Math.Seq.{take-append-add}
-use Rattle.catch_up.specs.Left.{AreLeftIn, AreNextIn, IsAdded, IsLeftIn, IsPast, IsRowAt, IsTold, IsToldOf}
+use Rattle.catch_up.specs.Rows.{AreLeftIn, AreNextIn, IsAdded, IsLeftIn, IsNoneAfter, IsRowAt, IsTold, IsToldOf}
 use Rattle.catch_up.proofs.Gathered.{are_left}
 
 -- rows are those before a place, and some are missing
@@ -147,7 +147,7 @@ walk_joins s span ts key through n t x missing rows rows' more walked next joine
 -- ---- where nothing can be left
 
 -- no version is both later and low
-pub none_past : (s : Stored) (span : Span) (ts : ℕ) (key : Option (List ℕ)) (through n : ℕ) (rows : List Row) → IsPast ts key through → rows ≡ [] → AreNextIn s span ts key through n rows
+pub none_past : (s : Stored) (span : Span) (ts : ℕ) (key : Option (List ℕ)) (through n : ℕ) (rows : List Row) → IsNoneAfter ts key through → rows ≡ [] → AreNextIn s span ts key through n rows
 none_past s span ts key through n rows past empty = grind (arith, common_steps)
 
 -- ---- along the store's versions

@@ -1,6 +1,6 @@
 //! The next rows after a place of a span with few keys, read off their chains.
 ghost use Rattle.std.specs.Prelude.{◌≡◌, ◌≤◌, ◌+◌, ℕ, [], IfOk, MatchOption, OnOk, Some, length, nat_lt};
-ghost use Rattle.catch_up.specs.Left.{AreNextIn, AreHeads, IsCut, IsFirstDue, IsHeadAdded, IsNoneDue};
+ghost use Rattle.catch_up.specs.Rows.{AreNextIn, AreHeads, IsCut, IsFirstDue, IsHeadAdded, IsNoneDue};
 ghost use Rattle.version_chain.specs.Walking.{is_before};
 
 use crate::rows::row_of;

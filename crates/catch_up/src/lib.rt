@@ -31,8 +31,9 @@
 //!   the span's end where fewer are found than are wanted
 //! - a version of the span that isn't committed: one more, where it is passed
 //!
-//! Both calls take memory for the rows told. Where `next_rows` turns to the chains, it also takes it for a place in them for
-//! each row that it still wants, and for one more. `next_snapshot` also takes it for a copy of the span.
+//! Both calls take memory for the rows told. Where `next_rows` turns to the chains, it also takes memory for a place in
+//! them for each row that it still wants, and for one more. `next_snapshot` also takes memory for a copy of the span.
+//! They change nothing, so a refusal leaves no trace.
 //!
 //! Tests: `unit_tests`, `job_tests`.
 #![tactic(auto)]

@@ -2,7 +2,7 @@
 ghost use Rattle.std.specs.Prelude.{◌≡◌, ◌++◌, ℕ, List, true, ◌≤◌, IfOk, IfSome, OnOk};
 ghost use Rattle.std.specs.Option.{option_copied};
 ghost use Rattle.spans.specs.Keys.{in_span};
-ghost use Rattle.catch_up.specs.Left.{AreNextFirsts, is_past, one_in, value_in};
+ghost use Rattle.catch_up.specs.Rows.{AreNextFirsts, is_past, one_in, value_in};
 
 use spans::{Bound, Span};
 use std::alloc::{AllocError, Global};

@@ -61,7 +61,8 @@ impl Closing {
         self.made
     }
 
-    /// Closes through `to`, or to just below the oldest undecided transaction where that is lower, and answers closed.
+    /// Closes through `to`, or to just below the oldest undecided transaction where that is lower, and answers where
+    /// closed then stands.
     pub fn close(&mut self, to: u64, oldest: Option<u64>) -> u64
         ensures answer { result ≡ closed_in self.new }
         ensures closed { closed_in self.new ≡ max (closed_in self.old) (reach to oldest) }
@@ -72,7 +73,7 @@ impl Closing {
         self.close_hard(oldest.map_or(to, |oldest| to.min(oldest.saturating_sub(1))))
     }
 
-    /// Closes through `to` whatever is undecided, and answers closed.
+    /// Closes through `to` whatever is undecided, and answers where closed then stands.
     pub fn close_hard(&mut self, to: u64) -> u64
         ensures answer { result ≡ closed_in self.new }
         ensures closed { closed_in self.new ≡ max (closed_in self.old) to }

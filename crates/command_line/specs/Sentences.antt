@@ -12,7 +12,7 @@ use Rattle.follow.specs.declared.fault.FollowFault.{FollowFault}
 use Rattle.follow.specs.declared.fault.FollowFault.TheVariants as follow_faults
 use Rattle.command_line.specs.declared.sentences.Sentence.{Sentence}
 use Rattle.command_line.specs.declared.sentences.Sentence.TheVariants as sentences
-use Rattle.command_line.specs.declared.sentences.TheConstants.{INPUT, MEMORY, NO_EVENT, NO_MESSAGE, OUTPUT, RING, SEATS, SPENT, THREAD, WANTED}
+use Rattle.command_line.specs.declared.sentences.TheConstants.{INPUT, MEMORY, NO_EVENT, NO_MESSAGE, OUTPUT, RING, SEATS, SPENT, THREAD}
 
 -- the words for a fault of a script or of a transcript
 abbrev pub words_of_line : LineFault → List ℕ
@@ -57,7 +57,7 @@ text_of (sentences.Words words) = words.now
 text_of (sentences.Line number words) = line_text number words.now
 text_of (sentences.Event position) = event_text position
 text_of (sentences.Right events) = right_text events
-text_of (sentences.Count events wanted) = right_text events ++ (codes ", " ++ (WANTED.now ++ (codes " " ++ decimal wanted)))
+text_of (sentences.Count events wanted) = right_text events ++ (codes ", and wanted: " ++ decimal wanted)
 
 -- the word for a database that was not opened
 abbrev pub word_of_reason : OpenError → List ℕ

@@ -33,8 +33,6 @@ const NO_MESSAGE: &str = "the input has no message to follow";
 
 const NO_EVENT: &str = "events checked: 0, because the input has none";
 
-const WANTED: &str = "and wanted:";
-
 /// A sentence for standard error.
 #[derive(Clone, Copy)]
 pub enum Sentence {
@@ -63,7 +61,7 @@ impl fmt::Display for Sentence {
             ),
             Sentence::Right { events } => write!(f, "events checked: {events}"),
             Sentence::Count { events, wanted } => {
-                write!(f, "events checked: {events}, {WANTED} {wanted}")
+                write!(f, "events checked: {events}, and wanted: {wanted}")
             }
         }
     }

@@ -2,7 +2,7 @@
 pub use Rattle.closing.specs.Standing.{Standing, closed_in, protections_in}
 pub use Rattle.feed.proofs.Serving.{is_moved, is_opened, uncut}
 pub use Rattle.feed.specs.Standing.{cut_at_max, opened_at, IsPolledBy, IsPut, opened_in, place_in}
-pub use Rattle.feed.specs.Firsts.{IsFeedCount, count_or}
+pub use Rattle.feed.specs.Left.{IsFeedCount, count_or}
 pub use Rattle.kept.proofs.Floors.{least_floor_is, place_floor_is, placed_by}
 pub use Rattle.kept.proofs.Refusals.{refusal_is, used_is}
 pub use Rattle.kept.specs.Answered.{IsAnswered, IsReplyOf, IsStep, IsWanting}

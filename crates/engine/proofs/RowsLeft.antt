@@ -9,7 +9,7 @@ use Rattle.kept.specs.StandsFor as keeping
 use Rattle.restarts.specs.Dump.{all_keys, is_left}
 use Rattle.restarts.proofs.Alike.{committed_begun}
 use Rattle.version_chain.specs.Walking.{is_after_place}
-use Rattle.catch_up.specs.Left.{AreLeftIn, AreNextIn}
+use Rattle.catch_up.specs.Rows.{AreLeftIn, AreNextIn}
 use Rattle.engine.specs.Looking.{IsLeftBehind, IsNextRow, first_row, next_left}
 use Rattle.engine.specs.Layers.{kept_of}
 use Rattle.engine.specs.declared.layers.Layers.{Layers}

@@ -24,7 +24,7 @@ pub record StandsFor (e : Layers) (steps : ℕ) (h : List Event) : Type 0 where
 abbrev pub HasHistory : Layers → ℕ → Type 0
 HasHistory e steps = (h : List Event) × StandsFor e steps h
 
--- by what each layer holds
+-- how far the layers have come, by what each holds
 pub record HavePlaces (e : Layers) (places : Places) : Type 0 where
   pub closed : places.closed ≡ closed_in (closing_of e.rules)
   pub horizon : places.horizon ≡ horizon_of e.rules

@@ -5,7 +5,7 @@ use Rattle.spans.specs.Streams.{row_lt}
 use Rattle.restarts.specs.Dump.{all_keys, left_rows}
 use Rattle.version_chain.specs.Walking.{is_after_place}
 use Rattle.version_chain.specs.Stores.{Stored}
-use Rattle.catch_up.specs.Left.{IsLeftIn}
+use Rattle.catch_up.specs.Rows.{IsLeftIn}
 use Rattle.engine.specs.Prelude.{newest, Effect, Feed, closed_of, committed_version_of, feed_of, floor_of, horizon_of, is_cancelled, is_undecided, limit_of, live_feed, owner_of, Places}
 
 -- ---- versions

@@ -1,7 +1,7 @@
 -- The words that clauses and specifications take from below.
 pub use Rattle.closing.specs.Standing.{closed_in}
 pub use Rattle.engine.specs.declared.looking.Places.{Places}
-pub use Rattle.feed.specs.Firsts.{count_or}
+pub use Rattle.feed.specs.Left.{count_or}
 pub use Rattle.feed.specs.Standing.{Standing, opened_in, place_in}
 pub use Rattle.kept.specs.Answered.{IsStep}
 pub use Rattle.kept.specs.Replies.{feed_refusal, kept_opening_tests}

@@ -36,7 +36,7 @@ impl Engine {
     {
         let store = self.layers.rules.versions();
         let all = Span { lo: None, hi: None };
-        // the store has none that is dead
+        // no version in the store is dead
         let rows = next_rows(alloc, store, &all, ts, key, through, 1)?;
         Ok(rows.into_iter().next())
     }

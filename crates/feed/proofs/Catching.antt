@@ -5,7 +5,7 @@ use Rattle.feed.proofs.Common.{AreNextFirsts, AreNextIn, Kept, Place, Row, Store
 use Rattle.spans.specs.KeyOrder.{key_lt}
 use Rattle.kept.proofs.LeftRows.{parts_left}
 use Rattle.version_chain.specs.Walking.{is_after_place}
-use Rattle.feed.specs.Firsts.{AreNextFirstsAt, AreNextStoredAt, IsLeftAt, IsNoneLeft, is_row_above, key_at}
+use Rattle.feed.specs.Left.{AreNextFirstsAt, AreNextStoredAt, IsLeftAt, IsNoneLeft, is_row_above, key_at}
 use Rattle.feed.specs.Standing.{AreNextAt}
 
 -- the stored rows after a place's last row, from the cursor on, are those that are left for the feed

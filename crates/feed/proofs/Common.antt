@@ -1,5 +1,5 @@
 -- The words that the proofs take from below.
-pub use Rattle.catch_up.specs.Left.{AreNextFirsts, is_past, AreNextIn}
+pub use Rattle.catch_up.specs.Rows.{AreNextFirsts, is_past, AreNextIn}
 pub use Rattle.indexmap.specs.IndexMap.{get}
 pub use Rattle.kept.specs.Places.{IsLeastFloor, moved, place_floor}
 pub use Rattle.kept.specs.Reports.{AreLive, feed_report}

@@ -3,7 +3,7 @@ use Rattle.std.proofs.lemmas.Grind.{common_steps}
 use Rattle.std.proofs.Common.{List, [], ap, arith, length, refl, suc, take, zero, ℕ, ◌-◌, ◌<◌, ◌∙◌, ◌∷◌, ◌≡◌, ◌≤◌}
 use Rattle.feed.proofs.Common.{Message, Place, Stored, nat_tests}
 use Rattle.kept.specs.Replies.{messages_left}
-use Rattle.feed.specs.Firsts.{IsCountLeft, count_or, count_within, message_weight, IsTold}
+use Rattle.feed.specs.Left.{IsCountLeft, count_or, count_within, message_weight, IsTold}
 use Rattle.feed.specs.declared.live.telling.Told.{Told}
 
 -- where not all of the first find room, no more are counted behind them

@@ -4,7 +4,7 @@ use Rattle.feed.proofs.Common.{Message, Place, Row, Stored, VersionName, last_na
 use Rattle.spans.specs.declared.calls.messages.Message.TheVariants as messages
 use Rattle.spans.proofs.Feeding.{last_join, resolved_join}
 use Rattle.feed.specs.Standing.{arrived_at, due_at, due_in, row_or, AreNextAt, IsPolledBy, IsPut, Standing, place_in}
-use Rattle.feed.specs.Firsts.{IsTold}
+use Rattle.feed.specs.Left.{IsTold}
 use Rattle.feed.specs.declared.live.telling.Told.{Told}
 
 -- the last row of some messages, or else that of before

@@ -1,3 +1,3 @@
 pub mod Prelude
 pub mod Standing
-pub mod Firsts
+pub mod Left

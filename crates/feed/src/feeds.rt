@@ -3,7 +3,7 @@ ghost use Rattle.std.specs.Prelude.{true, ◌≡◌, ◌<◌, ℕ, None, Some, i
 ghost use Rattle.std.specs.BTreeSet.{contains};
 ghost use Rattle.feed.specs.Prelude.{AreLive, IsLeastFloor, place_floor};
 ghost use Rattle.feed.specs.Standing.{cut_at_max, opened_at, opened_in, place_in, seat_in, IsPut, IsPolledBy, IsUnpolled, IsCountOf, IsFloorMoved, pair_cmp, Standing, AreTied};
-ghost use Rattle.feed.specs.Firsts.{IsFeedCount};
+ghost use Rattle.feed.specs.Left.{IsFeedCount};
 
 use crate::live::LiveFeed;
 use crate::live::telling::Told;

@@ -5,8 +5,9 @@
 //! beyond the place in the store, and moves the place behind what it tells.
 //!
 //! 1. A place has the timestamp through which all was told, and the row that was told last.
-//! 2. The floor of a feed is the timestamp below which it needs no older version. The floors stand in an order, with the
-//!    numbers of their feeds. A feed that is cancelled is gone, and its floor too.
+//! 2. The floor of a feed is the timestamp below which it needs no older version. The floors stand in an order, each
+//!    with the number of its feed, so the least is at hand.
+//! 3. A number is given once. A feed that is cancelled is gone, and its floor too.
 //!
 //! ```text
 //!                                 feed 1: span - -            feed 2: span b c            floors

@@ -4,7 +4,7 @@ ghost use Rattle.feed.specs.Prelude.{MAX, Row, is_after_name, place_floor, row_f
 ghost use Rattle.std.specs.Option.{option_copied};
 ghost use Rattle.version_chain.specs.Walking.{is_after_place};
 ghost use Rattle.feed.specs.Standing.{AreNextAt, opened_at, arrived_at, due_in, due_at, row_or};
-ghost use Rattle.feed.specs.Firsts.{AreNextFirstsAt, AreNextStoredAt, IsLeftAt, IsNoneLeft, is_row_above, key_at};
+ghost use Rattle.feed.specs.Left.{AreNextFirstsAt, AreNextStoredAt, IsLeftAt, IsNoneLeft, is_row_above, key_at};
 
 mod report;
 pub(crate) mod telling;
@@ -182,7 +182,7 @@ fn is_above(row: &Option<RowName>, ts: u64) -> bool
     }
 }
 
-/// Up to where all is told behind `row`, the last one, where all is through `after`.
+/// Up to where all is told, where all is through `after` and `row` is the last row.
 fn told_through(after: u64, row: &Option<RowName>) -> u64
     ensures { result ≡ max after (row_floor row.now) }
 {

@@ -11,7 +11,7 @@
 
 ghost use Rattle.std.specs.Prelude.{◌≡◌, ◌<◌, ◌≤◌, None, IfOk, IfSome};
 ghost use Rattle.timestamps.specs.declared.ts.TheConstants.{MAX};
-ghost use Rattle.feed.specs.Firsts.{IsCountLeft, count_within, message_weight, value_weight};
+ghost use Rattle.feed.specs.Left.{IsCountLeft, count_within, message_weight, value_weight};
 
 use crate::live::LiveFeed;
 use crate::live::telling::Told;

@@ -2,7 +2,7 @@
 use Rattle.std.proofs.Common.{◌≡◌, ℕ, inl, inr, List, [], ◌∷◌, ◌++◌, Option, Some, None, refl, sym, ap, ◌∙◌, subst, append-nil, append_assoc}
 use Rattle.std.specs.Prelude.{◌↔◌}
 use Rattle.std.specs.declared.cmp.Ordering.TheVariants.{Less}
-use Rattle.timestamps.specs.Words.{key_cmp}
+use Rattle.timestamps.specs.Bytes.{key_cmp}
 use Rattle.follow.proofs.Common.{AreRowsOf, IsPairIn, KeysRise, Map, Message, resolved_at}
 use Rattle.spans.specs.declared.calls.messages.Message.TheVariants as messages
 use Rattle.spans.proofs.Keyed.{key_clash}

@@ -4,8 +4,7 @@ use Rattle.follow.proofs.Common.{AreRowsOf, IsCountOf, Map, flat_map, row_line}
 use Rattle.follow.specs.declared.options.Shown.{Shown}
 use Rattle.follow.specs.declared.options.Shown.TheVariants as shown
 use Rattle.follow.specs.declared.telling.Telling.{Telling}
-use Rattle.follow.specs.Following.{count_line}
-use Rattle.follow.specs.Reports.{shown_lines, unless_told, named_in, ShowsRows, TellsAt}
+use Rattle.follow.specs.Reports.{count_line, shown_lines, unless_told, named_in, ShowsRows, TellsAt}
 use Rattle.follow.proofs.Reports.{only_rows}
 
 -- the rows of a map are the same ones, however they were listed

@@ -1,4 +1,5 @@
--- Which lines of an input a follower takes as messages, up to the first that it can't follow (this project).
+-- Which lines of an input a follower takes as messages, up to the first that it can't follow, with what a replica
+-- begins, and the faults by number, name and line (this project).
 use Rattle.std.specs.Prelude.{ℕ, ◌==◌, Bool, false, if◌then◌else◌, List, [], ◌∷◌, Option, Some, None, Result, Ok, Err, bytes_eq, codes, ◌≡◌, ◌&&◌, ◌++◌, decimal, ◌+◌, is_none}
 use Rattle.json_lines.specs.Meaning.{number_of}
 use Rattle.replica.specs.declared.fault.Fault.{Fault}
@@ -8,7 +9,7 @@ use Rattle.json_lines.specs.declared.fault.MessageFault.TheVariants as message
 use Rattle.spelled_words.specs.declared.fault.LineFault.TheVariants as line_faults
 use Rattle.replica.specs.declared.fault.Fault.TheVariants as replica_faults
 use Rattle.spans.specs.Consumer as consumer
-use Rattle.follow.specs.Prelude.{spelling, joined, LineFault, words_at, IsSeedFault, MayBegin, MessageFault, Span, initial_start, seeded_start, ApplyFault, Format, Message, apply_fault, lines_of, text_at, FollowFault, FollowError, FollowOptions}
+use Rattle.follow.specs.Prelude.{joined, LineFault, words_at, IsSeedFault, MayBegin, MessageFault, Span, initial_start, seeded_start, ApplyFault, Format, Message, apply_fault, lines_of, text_at, FollowFault, FollowError, FollowOptions}
 use Rattle.follow.specs.declared.options.Start.{Start}
 use Rattle.follow.specs.declared.options.Start.TheVariants as starts
 use Rattle.follow.specs.declared.fault.FollowFault.TheVariants as faults
@@ -80,14 +81,6 @@ IsUnbegun span start (errors.Fault f) = ⊥
 abbrev pub MayStart : Span → Start → Type 0
 MayStart span (starts.Seed cursor rows) = MayBegin span rows.items
 MayStart span start = Unit {0}
-
--- by a word, that the rows are complete at a timestamp, and how many there are
-abbrev pub count_line : List ℕ → ℕ → ℕ → List ℕ
-count_line word at rows = joined (word ∷ decimal at ∷ decimal rows ∷ []) ++ 10 ∷ []
-
--- that a key has no value any more
-abbrev pub gone_line : List ℕ → List ℕ
-gone_line key = joined (codes "gone" ∷ spelling key ∷ []) ++ 10 ∷ []
 
 -- the faults by number and name
 abbrev pub code_of : FollowFault → ℕ

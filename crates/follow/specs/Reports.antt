@@ -1,12 +1,20 @@
 -- What a follower tells of the messages that it took (this project).
-use Rattle.std.specs.Prelude.{ℕ, ◌≡◌, if◌then◌else◌, List, [], ◌∷◌, ◌++◌, length, codes, Option, Some, None, is_some}
+use Rattle.std.specs.Prelude.{ℕ, ◌≡◌, if◌then◌else◌, List, [], ◌∷◌, ◌++◌, length, codes, decimal, Option, Some, None, is_some}
 use Rattle.std.specs.List.{flat_map}
 use Rattle.spans.specs.declared.calls.messages.Message.TheVariants as messages
-use Rattle.follow.specs.Prelude.{AreRowsOf, Map, Message, insert_key, ready_after, row_line, view_of, FollowOptions}
+use Rattle.follow.specs.Prelude.{AreRowsOf, Map, Message, insert_key, ready_after, row_line, view_of, joined, spelling, FollowOptions}
 use Rattle.follow.specs.declared.options.Shown.{Shown}
-use Rattle.follow.specs.Following.{start_of, count_line, gone_line}
+use Rattle.follow.specs.Following.{start_of}
 use Rattle.follow.specs.declared.telling.Telling.{Telling}
 use Rattle.follow.specs.declared.options.Shown.TheVariants as shown
+
+-- by a word, that the rows are complete at a timestamp, and how many there are
+abbrev pub count_line : List ℕ → ℕ → ℕ → List ℕ
+count_line word at rows = joined (word ∷ decimal at ∷ decimal rows ∷ []) ++ 10 ∷ []
+
+-- that a key has no value any more
+abbrev pub gone_line : List ℕ → List ℕ
+gone_line key = joined (codes "gone" ∷ spelling key ∷ []) ++ 10 ∷ []
 
 -- a key's line: its value, or that it has none any more
 abbrev pub change_line : List ℕ → Option (List ℕ) → List ℕ

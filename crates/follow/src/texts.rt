@@ -3,8 +3,8 @@ ghost use Rattle.std.specs.Prelude.{◌≡◌, ◌++◌, OnOk};
 ghost use Rattle.std.specs.List.{flat_map};
 ghost use Rattle.std.specs.Option.{option_copied};
 ghost use Rattle.follow.specs.Prelude.{row_line, view_in};
-ghost use Rattle.follow.specs.Following.{count_line, fault_line};
-ghost use Rattle.follow.specs.Reports.{change_line};
+ghost use Rattle.follow.specs.Following.{fault_line};
+ghost use Rattle.follow.specs.Reports.{change_line, count_line};
 
 use crate::fault::FollowFault;
 use json_lines::numbers::put_number;

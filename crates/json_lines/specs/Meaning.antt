@@ -1,4 +1,4 @@
--- The texts of a message's members, and the message that they mean, or what is wrong with them.
+-- Number words, the texts of a message's members, and the message that they mean, or what is wrong with them.
 use Rattle.std.specs.Prelude.{ℕ, ◌^◌, ◌==◌, nat_lt, Bool, not, ◌&&◌, ◌||◌, if◌then◌else◌, List, length, slice_index, Option, Some, None, ◌≡◌, ◌≢◌, Result, Ok, Err, decimal, option_map, nat_le, ok_or}
 use Rattle.std.specs.Str.{all_ascii_digits}
 use Rattle.std.specs.Str.Parse.{digits_value}
@@ -9,6 +9,7 @@ use Rattle.json_lines.specs.declared.texts.Texts.{Texts as Lent}
 use Rattle.json_lines.specs.Prelude.{MessageFault, NoMemory, Number, Base64, Length, Format, Message, decoded_of, key_limit, standard, value_limit}
 use Rattle.json_lines.specs.declared.texts.Texts.TheVariants as lent
 
+-- decimal digits without a leading zero, `0` alone for nought
 abbrev pub is_number_word : List ℕ → Bool
 is_number_word word = nat_lt 0 (length word) && all_ascii_digits word && (length word == 1 || not (slice_index word 0 == 48))
 
@@ -16,6 +17,7 @@ is_number_word word = nat_lt 0 (length word) && all_ascii_digits word && (length
 unfoldable pub number_of : List ℕ → Option ℕ
 number_of word = if is_number_word word && nat_lt (digits_value 10 word) (2 ^ 64) then Some (digits_value 10 word) else None
 
+-- steps of reading: each gives its value, or the fault that ends the reading
 infixl 10 ◌>>=◌
 abbrev pub ◌>>=◌ : {A B : Type 0} → Result A MessageFault → (A → Result B MessageFault) → Result B MessageFault
 (Ok x) >>= f = f x
@@ -41,6 +43,7 @@ abbrev pub texts_of : Message → Texts
 texts_of (message.Row r) = row (option_map base64 r.after) (base64 r.key) (decimal r.ts)
 texts_of (message.Resolved ts) = resolved (decimal ts)
 
+-- what the program's texts are, wherever they lie
 abbrev pub texts_view : Lent → Texts
 texts_view (lent.Resolved ts) = resolved ts.now
 texts_view (lent.Row after key updated) = row (option_map (λ t. t.now) after) key.now updated.now
@@ -79,6 +82,7 @@ row_of format after_text key_text updated = do
   after ← value_of format after_bytes
   Ok (record { ts = ts; key = key; after = after })
 
+-- the order of tests: numbers first, then base64, then lengths
 unfoldable pub message_of : Format → Texts → Result Message MessageFault
 message_of format (resolved text) = do
   ts ← timestamp_of text

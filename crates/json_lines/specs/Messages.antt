@@ -1,4 +1,5 @@
--- The JSON line (RFC 8259) of a message of a feed, with bytes as base64 (RFC 4648).
+-- The JSON line (RFC 8259) of a message of a feed, with bytes as base64 (RFC 4648), and what a writer leaves in the
+-- buffer that it is lent.
 use Rattle.std.specs.Prelude.{ℕ, ◌<◌, ◌≤◌, List, ◌++◌, length, codes, decimal, Option, Some, None, ◌≡◌, take, drop}
 use Rattle.std.specs.List.{AllByRecursion}
 use Rattle.spans.specs.declared.calls.messages.Message.TheVariants as message

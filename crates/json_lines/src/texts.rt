@@ -15,7 +15,8 @@ use std::alloc::Global;
 use text_format::Format;
 use timestamps::{Key, KeyError, Row, Ts, Value, ValueError};
 
-/// The texts of the members, by name, as they stand in the line or in the tree that was read of it.
+/// The texts of the members: of a resolved message its timestamp, of a row `after`, `key` and `updated`, as they stand
+/// in the line or in the tree that was read of it.
 #[derive(Clone, Copy)]
 pub(crate) enum Texts<'a> {
     Resolved(&'a [u8]),

@@ -6,7 +6,7 @@ use Rattle.std.proofs.lemmas.Cmp.{nat_list_cmp_total}
 use Rattle.std.proofs.lemmas.Map.Lookups.{exact_bytes}
 use Rattle.std.specs.Prelude.{bytes_eq, filter, is_some, nat_le, ◌↔◌}
 use Rattle.std.specs.declared.cmp.Ordering.{Ordering}
-use Rattle.timestamps.specs.Words.{key_cmp}
+use Rattle.timestamps.specs.Bytes.{key_cmp}
 use Rattle.spans.proofs.WriteSets.{has, has_in, has_written, write_set_rises}
 use Rattle.kept.specs.Finding.{AreThose, IsNumberOf, is_open}
 use Rattle.kept.specs.Places.{live_feed}

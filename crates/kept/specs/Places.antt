@@ -96,7 +96,8 @@ pub record AreNext (k : Kept) (place : Place) (max : ℕ) (rows : List Row) : Ty
 abbrev pub reached : Kept → ℕ → Option ℕ → Option ℕ → ℕ
 reached k to protection floor = max k.horizon (or_min protection (or_min floor (min to k.closed)))
 
--- with the least protected timestamp and the least floor of a live feed, if any; what is dropped is dead by the horizon
+-- protection is the least protected timestamp and floor the least floor of a live feed, if any; dropped are the kept
+-- versions that are dead by the horizon
 pub record IsCollected (k : Kept) (horizon : ℕ) (protection floor : Option ℕ) (dropped : List VersionName) : Type 0 where
   pub least_protection : (n : ℕ) → or_min protection n ≡ least_of n (map (λ (n : Protection). n.at) k.protections)
   pub lowest_floor : IsLeastFloor k.feed floor

@@ -7,4 +7,4 @@ pub use Rattle.spans.specs.KeyOrder.{key_lt}
 pub use Rattle.spans.specs.Keys.{insert_key}
 pub use Rattle.std.specs.List.Retain.{IsFiltered}
 pub use Rattle.std.specs.Set.{remove_key}
-pub use Rattle.timestamps.specs.Words.{key_cmp}
+pub use Rattle.timestamps.specs.Bytes.{key_cmp}

@@ -9,7 +9,7 @@ ghost use Rattle.std.specs.Set.{remove_key};
 ghost use Rattle.std.specs.declared.cmp.Ordering.TheVariants.{Less};
 ghost use Rattle.spans.proofs.Keyed.{RisingKeys};
 ghost use Rattle.spans.specs.KeyOrder.{key_lt};
-ghost use Rattle.timestamps.specs.Words.{key_cmp};
+ghost use Rattle.timestamps.specs.Bytes.{key_cmp};
 ghost use Rattle.spans.specs.Keys.{insert_key};
 ghost use Rattle.spans.proofs.WriteSets.{has};
 ghost use Rattle.key_set.specs.Sets.{AreInOrder, keys_in};

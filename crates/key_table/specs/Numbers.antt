@@ -1,8 +1,8 @@
--- What a table of keys is seen as.
+-- What a table of keys is seen as, and how numbers by key are tied to keys by number.
 use Rattle.std.specs.Prelude.{ℕ, List, Option, Some, ◌≡◌, if◌then◌else◌, bytes_eq, ◌↔◌}
 use Rattle.std.specs.Map.{lookup}
 use Rattle.std.specs.BTreeMap.{is_at, BTreeMap, get}
-use Rattle.timestamps.specs.Words.{key_cmp}
+use Rattle.timestamps.specs.Bytes.{key_cmp}
 use Rattle.slab.specs.Slab.{Slab}
 use Rattle.slab.specs.Slab as slab
 

@@ -6,7 +6,7 @@ ghost use Rattle.std.specs.List.Sorted.{IsStrictlySortedBy};
 ghost use Rattle.std.specs.Range.Bound.{bound_map};
 ghost use Rattle.std.specs.BTreeMap.Range.{entries_between};
 ghost use Rattle.std.specs.declared.ops.Bound.TheVariants.{Unbounded};
-ghost use Rattle.timestamps.specs.Words.{key_cmp};
+ghost use Rattle.timestamps.specs.Bytes.{key_cmp};
 ghost use Rattle.key_table.specs.Numbers.{number_in, AreApart, IsNumberedAt, IsOwn, Numbered, AreTied};
 
 use crate::hints::{Hints, PLACES, hash_of};
@@ -92,7 +92,10 @@ impl KeyTable {
     fn is_at(&self, key: &Key, number: usize) -> bool
         ensures { result ≡ true → number_in self.now key.now ≡ Some number }
     {
-        self.key_of(number).is_some_and(|own| own == key)
+        match self.keys.get(number) {
+            None => false,
+            Some(own) => own == key,
+        }
     }
 
     /// The key of a number, where it is one.

@@ -1,5 +1,5 @@
--- What a read finds at a key, what a scan reads, and how far a scan finds room. A row has the bytes of its key and its
--- value, and 17 more, as a message in bytes has (this project's own).
+-- What a read finds at a key, what a scan reads, why a timestamp can't be read at, and how far a scan finds room. A row
+-- has the bytes of its key and its value, and 17 more, as a message in bytes has (this project's own).
 use Rattle.std.specs.Prelude.{Bool, None, Option, Some, if◌then◌else◌, not, ℕ, ◌&&◌, ◌==◌, List, [], ◌∷◌, ◌≡◌, nat_lt, false, length, true, ◌+◌, ◌-◌, ◌||◌}
 use Rattle.std.specs.List.{filter}
 use Rattle.std.specs.Map.{keys_of}
@@ -77,7 +77,8 @@ abbrev pub end_at : (rows bytes : ℕ) (x : List ℕ) → After → ((rows bytes
 end_at rows bytes x None on = on rows bytes
 end_at rows bytes x (Some v) on = if is_over rows bytes x v then Some x else on (rows - 1) (bytes - row_weight x v)
 
--- the first key whose row finds no room in `rows` rows and `bytes` bytes, unless what stops the reader comes up to it
+-- the first key whose row finds no room in `rows` rows and `bytes` bytes, unless something stops the reader before it,
+-- or at it
 abbrev pub end_within : (stops : List ℕ → Bool) (value : List ℕ → After) (rows bytes : ℕ) → List (List ℕ) → Option (List ℕ)
 end_within stops value rows bytes [] = None
 end_within stops value rows bytes (x ∷ xs) = if stops x then None else end_at rows bytes x (value x) (λ r b. end_within stops value r b xs)

@@ -1,4 +1,4 @@
-//! What a scan reads of the versions.
+//! What scans read of the versions, in a transaction and at a closed timestamp.
 ghost use Rattle.std.specs.Prelude.{◌≡◌, ◌≤◌, ◌++◌, [], IfOk, IfSome, OnErr, OnOk, None};
 ghost use Rattle.std.specs.Option.{option_copied};
 ghost use Rattle.std.specs.Map.{keys_of};
@@ -109,7 +109,7 @@ pub(crate) fn rows_at(
     Ok(rows)
 }
 
-/// A version's timestamp is never 0.
+/// For the proof: a version's timestamp is never 0.
 pub(crate) fn is_named(newest: Option<&Version>)
     ensures { IfSome (option_copied newest.entry) (λ v. 1 ≤ v.ts) }
 {

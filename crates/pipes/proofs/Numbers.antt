@@ -4,7 +4,7 @@ use Rattle.std.specs.Prelude.{filter, is_some, max, min}
 use Rattle.std.specs.declared.cmp.Ordering.{Ordering}
 use Rattle.std.specs.declared.cmp.Ordering.TheVariants.{Less, Equal, Greater}
 use Rattle.std.proofs.lemmas.List.Sums.{length-filter, count_by-le-length}
-use Rattle.timestamps.specs.Words.{key_cmp}
+use Rattle.timestamps.specs.Bytes.{key_cmp}
 use Rattle.pipes.proofs.Common.{Begins, Cancels, Effect, LiveFeed, Opens, Protection, Writes, begun_of, closed_of, collection_horizon, floor_of, horizon_of, insert_key, insert_where, is_undecided, least_low, live_feeds, pairs_of, protections_of, undecided_timestamps, with_value, write_count, write_of, written_keys}
 
 -- a filter leaves no more than there was

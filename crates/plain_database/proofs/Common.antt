@@ -65,6 +65,6 @@ pub use Rattle.std.specs.Ordering.{is_eq, is_gt, is_lt, match_ordering, nat_cmp,
 pub use Rattle.std.specs.declared.cmp.Ordering.{Ordering}
 pub use Rattle.std.specs.declared.cmp.Ordering.TheVariants.{Equal, Greater, Less}
 pub use Rattle.std.specs.declared.ops.Bound.TheVariants.{Excluded, Included, Unbounded}
-pub use Rattle.timestamps.specs.Words.{key_cmp}
+pub use Rattle.timestamps.specs.Bytes.{key_cmp}
 pub use Rattle.timestamps.specs.declared.row.Row.{Row}
 pub use Rattle.timestamps.specs.declared.ts.TheConstants.{MAX}

@@ -29,6 +29,6 @@ pub use Rattle.spans.specs.declared.state.State.TheVariants.{Aborted, Committed,
 pub use Rattle.std.specs.List.{list_any}
 pub use Rattle.std.specs.Map.{keys_of, lookup}
 pub use Rattle.std.specs.Ordering.{nat_cmp}
-pub use Rattle.timestamps.specs.Words.{key_cmp}
+pub use Rattle.timestamps.specs.Bytes.{key_cmp}
 pub use Rattle.timestamps.specs.declared.row.Row.{Row}
 pub use Rattle.timestamps.specs.declared.ts.TheConstants.{MAX}

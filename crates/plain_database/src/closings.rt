@@ -30,10 +30,8 @@ impl PlainDatabase {
         if to > MAX {
             return Reply::Refused(Refusal::TsRange);
         }
-        let (at, aborted) = (
-            self.versions.closed().max(to),
-            self.versions.open_through(to),
-        );
+        let at = self.versions.closed().max(to);
+        let aborted = self.versions.open_through(to);
         Reply::Closed { at, aborted }
     }
 

@@ -21,14 +21,16 @@ pub struct Dump {
 }
 
 impl PlainDatabase {
-    /// The dump that closes at `at`, or at the greatest of closed and all that began. It changes nothing.
+    /// The dump that closes at `at`, or at the greatest of closed and all that began, where that is above. It changes
+    /// nothing.
     #[tactic(auto, using(spans::proofs::Legal::legal_allowed, restarts::proofs::InRange::has_mark, crate::proofs::Dumping::greatest_more))]
     pub fn dump(&self, at: u64) -> Result<Dump, AllocError>
         requires { at ≤ MAX }
         ensures { IfOk result (λ dump. AfterEach self.now (λ p. IsDump p (mark_of p at) dump)) }
     {
         let to = at.max(self.versions.closed()).max(self.versions.latest());
-        let (rows, horizon) = (self.left_rows(to)?, self.horizon);
+        let rows = self.left_rows(to)?;
+        let horizon = self.horizon;
         Ok(Dump { rows, to, horizon })
     }
 
@@ -40,7 +42,8 @@ impl PlainDatabase {
             // no version lies at 0
             return Ok(Vec::new(self.alloc));
         };
-        let (versions, span) = (&self.versions, Span { lo: None, hi: None });
+        let versions = &self.versions;
+        let span = Span { lo: None, hi: None };
         let mut rows = versions.rows_after(self.alloc, &span, 0, None, through, u64::MAX)?;
         rows.retain(|row| self.is_left(row));
         Ok(rows)

@@ -144,7 +144,8 @@ impl PlainDatabase {
         ensures left { IfOk result (λ rows. AreLeft self.now feed.now max rows.items) }
     {
         let mut rows = self.snapshot_after(feed, after, max)?;
-        let (versions, span) = (&self.versions, &feed.span);
+        let versions = &self.versions;
+        let span = &feed.span;
         let room = max - rows.len() as u64;
         let mut stream = versions.rows_after(self.alloc, span, feed.cursor, None, closed, room)?;
         rows.append(&mut stream)?;

@@ -55,7 +55,7 @@ pub mod dump;
 mod feed_calls;
 pub mod feeds;
 pub mod limit_law;
-mod reads;
+mod reading;
 mod report;
 mod transactions;
 pub mod versions;

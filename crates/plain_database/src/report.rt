@@ -46,8 +46,8 @@ impl PlainDatabase {
     fn kept_versions(&self) -> u64
         ensures { AfterCounted self.now (λ p. result ≡ length (versions_of p) - length (dead_of p)) }
     {
-        let (versions, closed) = (&self.versions, self.versions.closed());
-        let above = versions.count_between(closed, u64::MAX);
+        let closed = self.versions.closed();
+        let above = self.versions.count_between(closed, u64::MAX);
         self.passed.saturating_add(above).saturating_sub(self.dead)
     }
 

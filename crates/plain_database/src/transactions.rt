@@ -8,7 +8,7 @@ ghost use Rattle.plain_database.specs.Replies.{write_answer, write_cmd};
 
 use crate::Allocated;
 use crate::database::PlainDatabase;
-use crate::reads::copied;
+use crate::reading::copied;
 use spans::{Refusal, Reply, State};
 use timestamps::ts::MAX;
 use timestamps::{Key, Value};
@@ -124,8 +124,10 @@ impl PlainDatabase {
     pub(crate) fn refusal(&self, seat: u8, ts: u64) -> Option<Refusal>
         ensures { AfterEach self.now (λ p. result ≡ first_refusal (transaction_tests p seat ts)) }
     {
+        if ts <= self.versions.closed() {
+            return Some(Refusal::Ended);
+        }
         match self.versions.find(ts) {
-            _ if ts <= self.versions.closed() => Some(Refusal::Ended),
             None => Some(Refusal::NoTxn),
             Some(begun) if begun.seat != seat => Some(Refusal::NotOwner),
             Some(begun) if begun.state == State::Undecided => None,

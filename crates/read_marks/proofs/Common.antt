@@ -19,4 +19,4 @@ pub use Rattle.std.specs.Map.{keys_of, lookup, remove_entry, set_value}
 pub use Rattle.std.specs.Ordering.{is_eq, is_le, is_lt, match_ordering, ordering_reverse}
 pub use Rattle.std.specs.declared.cmp.Ordering.{Ordering}
 pub use Rattle.std.specs.declared.cmp.Ordering.TheVariants.{Equal, Greater, Less}
-pub use Rattle.timestamps.specs.Words.{key_cmp}
+pub use Rattle.timestamps.specs.Bytes.{key_cmp}

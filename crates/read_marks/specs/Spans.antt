@@ -9,7 +9,7 @@ use Rattle.std.specs.declared.ops.Bound.TheVariants.{Excluded, Included, Unbound
 use Rattle.std.specs.BTreeMap.Range.{entries_between}
 use Rattle.std.specs.BTreeMap.{get}
 use Rattle.spans.specs.KeyOrder.{below_high}
-use Rattle.timestamps.specs.Words.{key_cmp}
+use Rattle.timestamps.specs.Bytes.{key_cmp}
 pub use Rattle.read_marks.specs.Starts.{reaches, step_at}
 use Rattle.read_marks.specs.declared.span_marks.SpanMarks.{SpanMarks}
 

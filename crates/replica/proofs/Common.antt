@@ -23,5 +23,5 @@ pub use Rattle.std.specs.BTreeSet.{BTreeSet}
 pub use Rattle.std.specs.List.{AllByRecursion, list_all, list_any}
 pub use Rattle.std.specs.Map.{keys_of, lookup}
 pub use Rattle.std.specs.declared.cmp.Ordering.TheVariants.{Less}
-pub use Rattle.timestamps.specs.Words.{key_cmp}
+pub use Rattle.timestamps.specs.Bytes.{key_cmp}
 pub use Rattle.timestamps.specs.declared.row.Row.{Row}

@@ -11,5 +11,5 @@ pub use Rattle.spans.specs.declared.calls.messages.Message.{Message}
 pub use Rattle.spans.specs.declared.span.Span.{Span}
 pub use Rattle.std.specs.BTreeMap.{is_at}
 pub use Rattle.std.specs.Map.{lookup}
-pub use Rattle.timestamps.specs.Words.{key_cmp}
+pub use Rattle.timestamps.specs.Bytes.{key_cmp}
 pub use Rattle.timestamps.specs.declared.row.Row.{Row}

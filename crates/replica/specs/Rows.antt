@@ -1,4 +1,5 @@
--- Rows as a map, lists of rows and of keys that say what a map has, and which keys an index has under each value.
+-- Rows as a map, lists of rows and of keys that say what a map has, which keys an index has under each value, and what
+-- comes after a place among rows.
 use Rattle.std.specs.Prelude.{ℕ, List, Bool, false, Option, Some, None, bytes_eq, ◌≡◌, ◌↔◌, length, [], ◌≢◌, true, ◌&&◌, ◌||◌, ◌==◌, nat_lt, nat_le}
 use Rattle.std.specs.BTreeSet.{BTreeSet, contains}
 use Rattle.replica.specs.Prelude.{IsIn, IsPairIn, KeysRise, Map, RisingKeys, is_at, key_cmp, lookup, Row, key_lt}

@@ -1,4 +1,5 @@
--- The dump of a database: the commands that rebuild it, with the answers that are foreseen (this project).
+-- The dump of a database: the commands that rebuild it, with the answers that are foreseen, and the same row by row, as
+-- a program writes it (this project).
 use Rattle.std.specs.Prelude.{ℕ, zero, suc, List, [], ◌∷◌, ◌++◌, map, filter, length, max, Some, None, is_some, Bool, false, not, ◌==◌, Option, if◌then◌else◌}
 use Rattle.spans.specs.Versions.{write_of, write_set}
 use Rattle.spans.specs.Promises.{left_version_of}

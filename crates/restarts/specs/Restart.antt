@@ -1,4 +1,5 @@
--- Feeds and protections are numbered from 1 on. What the law of restarts is said with.
+-- What the law of restarts is said with. Feeds and protections are numbered from 1 on: after a crash the numbers go on,
+-- and after a dump they begin anew (this project).
 use Rattle.std.specs.Prelude.{ℕ, zero, suc, List, ◌+◌, ◌-◌, length, [], ◌++◌, map, true, ◌≡◌, ◌≤◌, ◌↔◌, is_some}
 use Rattle.spans.specs.Feeds.{feeds_opened}
 use Rattle.timestamps.specs.declared.ts.TheConstants.{MAX}

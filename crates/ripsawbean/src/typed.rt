@@ -229,7 +229,7 @@ fn put(alloc: Global, ts: u64, key: &[u8], value: &[u8]) -> Result<Cmd, Unfit>
     let key = match key_of(alloc, key) {
         // a fault is told before memory is asked for
         Err(Unfit::NoMemory) if value.len() > MAX_VALUE_BYTES => return Err(Unfit::ValueLength),
-        key => key?,
+        made => made?,
     };
     let value = value_of(alloc, value)?;
     Ok(Cmd::Put { ts, key, value })

@@ -1,4 +1,5 @@
--- A text cut into lines, and reading the lines of an event, each alone. Which events may want memory.
+-- A text cut into lines, the message of a line of JSON, reading the lines of an event, each alone, and which events may
+-- want memory (this project).
 use Rattle.std.specs.Prelude.{ℕ, ◌+◌, ◌≡◌, Bool, ◌==◌, if◌then◌else◌, List, [], ◌∷◌, nat_le, nat_lt, true, ◌&&◌, length, Option, Some, None, option_and_then, bytes_eq, drop, slice_index_or, codes, Result, Ok, Err, ok_or, false, ◌||◌, take, ◌++◌}
 use Rattle.std.specs.List.{onto_first}
 use Rattle.base64.specs.Engines.{standard}
@@ -63,6 +64,7 @@ abbrev pub is_lawful : Format → Message → Bool
 is_lawful format (message.Row row) = is_timestamp row.ts && is_key format row.key && is_after format row.after
 is_lawful format (message.Resolved ts) = is_timestamp ts
 
+-- what stands between the quotes, where the line is that of this message
 unfoldable pub message_of : Format → List ℕ → Option Message
 message_of format line = option_and_then (λ m. if is_lawful format m && bytes_eq (message_line m) line then Some m else None) (between (slice_split (λ b. b == 34) line))
 

@@ -11,7 +11,7 @@ ghost use Rattle.script.specs.EventLines.{heading_at, wants_at};
 ghost use Rattle.script.specs.Transcripts.{Fails, HasHeader, TakesLines, TakesEvent, next_at, event_at, left_of, outcome, transcript_at, Transcript, left_at};
 ghost use Rattle.script.specs.declared.fault.TranscriptError.TheVariants.{NoMemory};
 
-use crate::fault::{Traced, TranscriptError};
+use crate::fault::{Taken, TranscriptError};
 use crate::following::take_following;
 use crate::headings::{Heading, read_heading};
 use crate::lines::Lines;
@@ -37,7 +37,7 @@ impl<'a> Model for Events<'a> {
 impl<'a> Events<'a> {
     /// The events of a transcript of a format. A text that doesn't begin with the format's header is faulty in its
     /// first line, by `WordCount`.
-    pub fn new(text: &'a [u8], format: Format) -> Traced<Events<'a>>
+    pub fn new(text: &'a [u8], format: Format) -> Result<Events<'a>, TranscriptError>
         // An event has a byte at least.
         ensures few { IfOk result (λ left. length left.events ≤ length text.now) }
         ensures exact { MatchResult result (λ left. transcript_at format text.now ≡ outcome left) (λ e. Fails e (transcript_at format text.now)) }
@@ -59,7 +59,7 @@ impl<'a> Events<'a> {
     /// Takes the next event, if there is one. What is left after an error isn't said. Memory is wanted only where the
     /// event's first line, read up to `=>`, has a key, a value or a bound of more than 24 bytes, or such an answer,
     /// or where a line follows that it counts. That holds of each event alike, the first or a later one.
-    pub fn next(&mut self, alloc: Global) -> Option<Traced<Event>>
+    pub fn next(&mut self, alloc: Global) -> Option<Result<Event, TranscriptError>>
         ensures { TakesEvent result self.old self.new }
     {
         if self.lines.is_empty() {
@@ -71,7 +71,7 @@ impl<'a> Events<'a> {
 
 /// Takes the lines of one event.
 #[tactic(auto, unfolding(crate::specs::Transcripts::event_at))]
-fn take_event(alloc: Global, lines: &mut Lines, format: Format) -> Traced<Event>
+fn take_event(alloc: Global, lines: &mut Lines, format: Format) -> Taken<Event>
     ensures exact { TakesLines (λ x. x) result lines.new (event_at format lines.old) }
     ensures memory { IfErr result (λ e. e ≡ NoMemory → wants_at format lines.old ≡ true) }
 {
@@ -85,7 +85,7 @@ fn take_event(alloc: Global, lines: &mut Lines, format: Format) -> Traced<Event>
     })
 }
 
-fn take_heading(alloc: Global, lines: &mut Lines, format: Format) -> Traced<Heading>
+fn take_heading(alloc: Global, lines: &mut Lines, format: Format) -> Taken<Heading>
     ensures exact { TakesLines (λ x. x) result lines.new (next_at (heading_at format) lines.old) }
     ensures memory { IfErr result (λ e. e ≡ NoMemory → wants_at format lines.old ≡ true) }
 {

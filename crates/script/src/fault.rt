@@ -18,8 +18,8 @@ pub enum TranscriptError {
     NoMemory,
 }
 
-/// A part of such a text that was read, or why it wasn't.
-pub type Traced<T> = Result<T, TranscriptError>;
+/// A part of such a text that was taken, or why it wasn't.
+pub(crate) type Taken<T> = Result<T, TranscriptError>;
 
 impl TranscriptError {
     /// The fault of the line of this number.

@@ -5,7 +5,7 @@ ghost use Rattle.script.specs.EventLines.{pair_at, pair_of, row_line_at, message
 ghost use Rattle.script.specs.Transcripts.{TakesLines, next_at, many_at, following_at};
 ghost use Rattle.script.specs.declared.fault.TranscriptError.TheVariants.{NoMemory};
 
-use crate::fault::{Traced, TranscriptError};
+use crate::fault::{Taken, TranscriptError};
 use crate::lines::Lines;
 use crate::reply_reading::Shape;
 use json_lines::{MessageFault, read_message};
@@ -24,7 +24,7 @@ pub(crate) fn take_following(
     shape: Shape,
     lines: &mut Lines,
     format: Format,
-) -> Traced<Reply>
+) -> Taken<Reply>
     ensures exact { TakesLines (λ x. x) result lines.new (following_at format shape lines.old) }
     // Memory is wanted only where lines are counted, and one is there.
     ensures memory { IfErr result (λ e. e ≡ NoMemory → (has_lines shape ≡ true) × (0 < length lines.old.lines)) }
@@ -37,7 +37,7 @@ pub(crate) fn take_following(
 }
 
 /// Takes so many rows. Room is made for those alone that came, and a first line is looked for before any is made.
-fn take_rows(alloc: Global, count: u64, lines: &mut Lines, format: Format) -> Traced<Rows>
+fn take_rows(alloc: Global, count: u64, lines: &mut Lines, format: Format) -> Taken<Rows>
     ensures exact { TakesLines (λ rows. rows) result lines.new (many_at (row_line_at format) count lines.old) }
     ensures memory { IfErr result (λ e. e ≡ NoMemory → (0 < count) × (0 < length lines.old.lines)) }
 {
@@ -50,7 +50,7 @@ fn take_rows(alloc: Global, count: u64, lines: &mut Lines, format: Format) -> Tr
 }
 
 /// Takes so many messages. Room is made for those alone that came, and a first line is looked for before any is made.
-fn take_messages(alloc: Global, count: u64, lines: &mut Lines, format: Format) -> Traced<Messages>
+fn take_messages(alloc: Global, count: u64, lines: &mut Lines, format: Format) -> Taken<Messages>
     ensures exact { TakesLines (λ messages. messages) result lines.new (many_at (message_line_at format) count lines.old) }
     ensures memory { IfErr result (λ e. e ≡ NoMemory → (0 < count) × (0 < length lines.old.lines)) }
 {
@@ -62,7 +62,7 @@ fn take_messages(alloc: Global, count: u64, lines: &mut Lines, format: Format) -
     Ok(Messages::from_vec(messages))
 }
 
-fn take_row(alloc: Global, lines: &mut Lines, format: Format) -> Traced<(Key, Value)>
+fn take_row(alloc: Global, lines: &mut Lines, format: Format) -> Taken<(Key, Value)>
     ensures exact { TakesLines (λ x. x) result lines.new (next_at (row_line_at format) lines.old) }
     ensures memory { IfErr result (λ e. e ≡ NoMemory → 0 < length lines.old.lines) }
 {
@@ -73,7 +73,7 @@ fn take_row(alloc: Global, lines: &mut Lines, format: Format) -> Traced<(Key, Va
     read_row(alloc, line, format).map_err(|e| TranscriptError::at_line(number, e))
 }
 
-fn take_message(alloc: Global, lines: &mut Lines, format: Format) -> Traced<Message>
+fn take_message(alloc: Global, lines: &mut Lines, format: Format) -> Taken<Message>
     ensures exact { TakesLines (λ x. x) result lines.new (next_at (message_line_at format) lines.old) }
     ensures memory { IfErr result (λ e. e ≡ NoMemory → 0 < length lines.old.lines) }
 {
@@ -86,7 +86,7 @@ fn take_message(alloc: Global, lines: &mut Lines, format: Format) -> Traced<Mess
 
 /// Reads the line of a row, with its newline.
 #[tactic(auto, unfolding(crate::specs::EventLines::row_line_at))]
-pub fn read_row(alloc: Global, line: &[u8], format: Format) -> Parsed<(Key, Value)>
+pub fn read_row(alloc: Global, line: &[u8], format: Format) -> Result<(Key, Value), ReadError>
     ensures { Gives (λ x. x) result (row_line_at format line.now) }
 {
     let text = text_of(line, format)?;

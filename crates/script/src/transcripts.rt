@@ -8,6 +8,7 @@
 //! ```
 //!
 //! The place of `=>` is known from the number of the command's arguments, so a value may be spelled so.
+//! A number of lines that follow asks for no room by itself: it is made line by line.
 ghost use Rattle.std.specs.Prelude.{◌≡◌, ◌≢◌, ◌⊎◌, [], IfOk, IfErr};
 ghost use Rattle.std.specs.List.{All};
 ghost use Rattle.script.specs.Prelude.{IsEvent};
@@ -15,14 +16,22 @@ ghost use Rattle.script.specs.Transcripts.{Tells, TranscriptWants, WantsNext, ou
 ghost use Rattle.script.specs.declared.fault.TranscriptError.TheVariants.{NoMemory};
 
 use crate::events::Events;
-use crate::fault::Traced;
+use crate::fault::{Taken, TranscriptError};
 use spans::Event;
 use std::alloc::Global;
 use text_format::Format;
 
 /// Reads a transcript of a format: its events, or the first line that is faulty. A text that doesn't begin with the
 /// format's header is faulty in its first line, by `WordCount`.
-pub fn read_transcript(alloc: Global, text: &[u8], format: Format) -> Traced<Vec<Event>>
+///
+/// A number of lines that follow asks for no room by itself. Memory is wanted only to keep an event, or where the first
+/// event's first line, read up to `=>`, has a key, a value or a bound of more than 24 bytes, or such an answer, or
+/// where a line follows that it counts.
+pub fn read_transcript(
+    alloc: Global,
+    text: &[u8],
+    format: Format,
+) -> Result<Vec<Event>, TranscriptError>
     // What is read is the text of these events, byte for byte.
     ensures found { IfOk result (λ events. (text.now ≡ transcript_text format events.items) × All (IsEvent format) events.items) }
     // Which fault it is, and in which line: the first from the top and from the left.
@@ -35,7 +44,7 @@ pub fn read_transcript(alloc: Global, text: &[u8], format: Format) -> Traced<Vec
 }
 
 /// Reads all that is left.
-fn all_of(alloc: Global, mut left: Events) -> Traced<Vec<Event>>
+fn all_of(alloc: Global, mut left: Events) -> Taken<Vec<Event>>
     ensures exact { Tells (λ events. events.items) result (outcome left.entry) }
     ensures memory { IfErr result (λ e. e ≡ NoMemory → (left.entry.events ≢ []) ⊎ WantsNext left.entry) }
 {

@@ -1,5 +1,5 @@
--- What an engine that stands for a history says of it. This file alone looks into what `StandsFor` is
--- made of: all other specs and proofs of this crate go through these three facts.
+-- What an engine that stands for a history says of it. This file alone looks into what `StandsFor` is made of: all other
+-- specs and proofs of this crate go through `legal_of`, `steps_are` and `closed_is`.
 use Rattle.std.specs.Prelude.{◌≡◌, List, length}
 use Rattle.shared_db.specs.Prelude.{Engine, Event, IsLegal, StandsFor, closed_of, closed_timestamp, closed_timestamp_is, effects_of, steps_of}
 

@@ -30,6 +30,7 @@ too_late (Reads j y v ∷ p) x i = (bytes_eq y x && (nat_lt (visible p y j).ts i
 too_late (Scans j span rows ∷ p) x i = (in_span span x && (nat_lt (visible p x j).ts i && nat_lt i j)) || too_late p x i
 too_late (_ ∷ p) x i = too_late p x i
 
--- each read that wasn't given its own transaction's version was given what is for good the newest committed one below it
+-- each read that wasn't given its own transaction's version was given what is for good the newest committed one below
+-- its reader, suc t (timestamps begin at 1)
 abbrev pub ReadNewest : List Effect → Type 0
 ReadNewest p = (t : ℕ) (x : List ℕ) (k : ℕ) (v : After) → IsRead p (suc t) x k v → k ≤ t → IsNewest (committed_version_of p x) t k v

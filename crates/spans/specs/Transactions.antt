@@ -34,8 +34,8 @@ is_undecided p t = is_some (owner_of p t) && (not (is_committed p t) && not (is_
 abbrev pub undecided_timestamps : List Effect → List ℕ
 undecided_timestamps p = filter (is_undecided p) (begun_of p)
 
--- the closed timestamp: what the last closing answered, and 0 at first. (In a legal history nothing at or below it is
--- undecided, or begins later.)
+-- the closed timestamp: the last closing's answer, 0 at first (in a legal history nothing at or below it is undecided,
+-- or begins later)
 abbrev pub closed_of : List Effect → ℕ
 closed_of [] = 0
 closed_of (Closes at ∷ p) = at

@@ -1,7 +1,7 @@
 //! Spans: sets of keys between two bounds.
 ghost use Rattle.std.specs.Prelude.{◌≡◌, ◌≤◌, ◌&&◌, suc, ℕ, List, length, not, IfOk};
 ghost use Rattle.std.specs.List.Sorted.{IsStrictlySortedBy};
-ghost use Rattle.timestamps.specs.Words.{key_cmp};
+ghost use Rattle.timestamps.specs.Bytes.{key_cmp};
 ghost use Rattle.spans.specs.Keys.{in_span, is_among, is_held, NoneOverlap};
 
 use crate::bound::{Bound, copy_bound, is_below, is_from};

@@ -1,4 +1,4 @@
--- Reading from left to right: the value, or the first fault that is met.
+-- Reading from left to right: the value, or the first fault that is met. Which words may want memory.
 use Rattle.std.specs.Prelude.{◌≡◌, ℕ, nat_le, ◌&&◌, if◌then◌else◌, List, [], ◌∷◌, length, codes, Option, Some, None, Result, Ok, Err, ok_or, bytes_eq, nat_lt, Bool, take}
 use Rattle.std.specs.List.{list_any}
 use Rattle.spans.specs.declared.span.Span.{Span}

@@ -1,5 +1,4 @@
--- Lines cut into words, and the spelling of bytes as a word, and back (this project's own; `%` and two digits as in RFC
--- 3986).
+-- Lines cut into words, and bytes spelled as a word, and back (this project's own; `%` and two digits as in RFC 3986).
 use Rattle.std.specs.Prelude.{ℕ, ◌-◌, ◌==◌, nat_lt, nat_le, Bool, not, ◌&&◌, if◌then◌else◌, List, [], length, take, slice_index, Option, Some, None, Result, Ok, Err, ◌<◌, ◌+◌, ◌*◌, ◌/◌, ◌%◌, ◌∷◌, drop, codes, bytes_eq, option_and_then}
 use Rattle.std.specs.Borrow.{Bor}
 use Rattle.std.specs.List.{flat_map, AllByRecursion}
@@ -105,6 +104,7 @@ bytes_of word =
 abbrev pub AreBytes : List ℕ → Type 0
 AreBytes bytes = AllByRecursion (λ b. b < 256) bytes
 
+-- what a word was read as
 abbrev pub spelled_bytes : Spelled → List ℕ
 spelled_bytes (Plain bytes) = bytes.now
 spelled_bytes (Escaped bytes) = bytes.items

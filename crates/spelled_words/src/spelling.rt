@@ -89,7 +89,7 @@ impl Spelled<'_> {
 /// allocates only for a long word with an escaped byte.
 #[inline(always)]
 #[tactic(auto, using(crate::proofs::Spellings::plain_word), unfolding(crate::specs::Words::bytes_of))]
-pub fn bytes_of<'a>(alloc: Global, word: &'a [u8]) -> Parsed<Spelled<'a>>
+pub fn bytes_of<'a>(alloc: Global, word: &'a [u8]) -> Result<Spelled<'a>, ReadError>
     ensures exact { Gives spelled_bytes result (ok_or (bytes_of word.now) LineFault.BadByte) }
     ensures shorter { IfOk result (λ bytes. length (spelled_bytes bytes) ≤ length word.now) }
     ensures memory { IfErr result (λ e. e ≡ NoMemory → is_long word.now ≡ true) }

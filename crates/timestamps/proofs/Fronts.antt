@@ -2,7 +2,7 @@
 use Rattle.std.proofs.lemmas.Bool.Decides.{nat_tests}
 use Rattle.std.proofs.lemmas.Grind.{common_steps}
 use Rattle.std.proofs.Common.{ℕ, zero, suc, List, [], ◌∷◌, ◌≡◌, ◌<◌, ◌≤◌, ◌+◌, ◌*◌, refl, arith, length, get_or, min, ◌++◌, nat_cmp}
-use Rattle.timestamps.specs.Words.{key_cmp, AreBytes, front_from}
+use Rattle.timestamps.specs.Bytes.{key_cmp, AreBytes, front_from}
 
 -- the same before both doesn't count
 pub cmp_on : (a x y : ℕ) → nat_cmp (a + x) (a + y) ≡ nat_cmp x y

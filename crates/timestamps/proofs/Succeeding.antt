@@ -2,7 +2,7 @@
 use Rattle.std.proofs.lemmas.Grind.{common_steps}
 use Rattle.std.proofs.Common.{ℕ, zero, suc, List, [], ◌∷◌, ◌++◌, ◌≡◌, ◌+◌, ◌<◌, refl, sym, ap, ◌∙◌, arith, length, take, drop, get_or, true, false, bytes_eq}
 use Rattle.timestamps.proofs.Common.{bytes_eq-Decides, drop-append_seam, ext_get_or, take-append-drop, take-append_seam, take-suc}
-use Rattle.timestamps.specs.Words.{IsPadded}
+use Rattle.timestamps.specs.Bytes.{IsPadded}
 use Rattle.timestamps.proofs.Fronts.{padded}
 use Rattle.timestamps.proofs.Words.{read_padded}
 

@@ -4,7 +4,7 @@ use Rattle.std.proofs.lemmas.Grind.{common_steps}
 use Rattle.std.proofs.Common.{ℕ, zero, suc, List, [], ◌∷◌, ◌≡◌, ◌≤◌, ◌+◌, ◌*◌, refl, sym, ap, ◌∙◌, arith, get_or, take, drop, nat_cmp, subst}
 use Rattle.std.proofs.Math.Nat.{mul_assoc}
 use Rattle.timestamps.proofs.Common.{drop-nil, get_or-drop, get_or-take, get_or_past, length-take}
-use Rattle.timestamps.specs.Words.{key_cmp, AreBytes, front_from, front_of}
+use Rattle.timestamps.specs.Bytes.{key_cmp, AreBytes, front_from, front_of}
 use Rattle.timestamps.proofs.Fronts.{cmp_on, front_read, fronts_differ}
 
 -- how many numbers n bytes can be

@@ -34,8 +34,8 @@ blocks_with v = v.drawn ++ v.lent
 abbrev pub times_drawn : ℕ → List Draws → ℕ
 times_drawn block views = sum_by (λ v. count_by (λ b. b == block) (blocks_with v)) views
 
--- Each block from the first on that is below the word stands with one view, once, and no other block with any. The word
--- is at least each number that was loaded.
+-- Each block from the first on that is below the word stands with one view, once, and no other with any. The word is at
+-- least each number loaded.
 pub record IsDrawnOnce (first : ℕ) (s : State NoSlot Draws) : Type 0 where
   pub next : ℕ
   pub words : s.words ≡ next ∷ []

@@ -1,12 +1,15 @@
 //! A few bytes, which lie in place.
 ghost use Rattle.std.specs.Prelude.{◌≡◌, ◌<◌, ◌≤◌, ◌*◌, ◌++◌, ◌∷◌, ◌↔◌, [], length, drop, IsTrue, ℕ, List, take};
-ghost use Rattle.timestamps.specs.Words.{key_cmp, AreBytes, front_of, IsPadded};
+ghost use Rattle.timestamps.specs.Bytes.{key_cmp, AreBytes, front_of, IsPadded};
 
 use std::cmp::Ordering;
 use std::marker::Model;
 
 /// The most bytes that lie in place.
 pub(crate) const FEW: usize = 24;
+
+/// The bytes of one word.
+const WORD_BYTES: usize = 8;
 
 /// Up to [`FEW`] bytes, ordered byte by byte, a beginning before what it begins.
 ///
@@ -81,7 +84,7 @@ impl FewBytes {
     pub(crate) fn order(&self, other: &FewBytes) -> Ordering
         ensures { result ≡ key_cmp self.now other.now }
     {
-        for i in 0..FEW / 8 {
+        for i in 0..FEW / WORD_BYTES {
             let word = self.word(i);
             let others = other.word(i);
             if word != others {
@@ -91,7 +94,7 @@ impl FewBytes {
         self.len.cmp(&other.len)
     }
 
-    /// One of their words, of eight bytes each.
+    /// One of their words.
     #[inline]
     fn word(&self, i: usize) -> u64
         requires { i < 3 }
@@ -99,7 +102,7 @@ impl FewBytes {
         ensures bytes { AreBytes self.now }
     {
         // so many bytes are there
-        let bytes = self.bytes[8 * i..].first_chunk().unwrap();
+        let bytes = self.bytes[WORD_BYTES * i..].first_chunk().unwrap();
         u64::from_be_bytes(*bytes)
     }
 }

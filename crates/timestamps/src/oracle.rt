@@ -75,7 +75,8 @@ impl Oracle {
         Ok((Oracle { board }, made))
     }
 
-    /// The next block, by a load and a compare-exchange. After `Spent` each later draw of the pass is `Spent` as well.
+    /// The next block, by a load and a compare-exchange. `Contended` and `Spent` draw nothing; after `Spent` each later
+    /// draw of the pass is `Spent` as well.
     pub fn draw(&self, pass: &mut OraclePass) -> Result<Lease, DrawError>
         requires own { IsOf self.now pass.old }
         ensures same { IsSame pass.old pass.new }

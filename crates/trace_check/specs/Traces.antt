@@ -1,4 +1,5 @@
--- Which lists of events, the oldest first, one database can have given, and where another list first goes wrong.
+-- Which lists of events, the oldest first, one database can have given, and where another list first goes wrong; what a
+-- checker has taken, and what it tells.
 use Rattle.std.specs.Prelude.{ℕ, List, [], ◌∷◌, ◌++◌, ◌≡◌, ◌<◌, ◌↔◌, ◌+◌, Bool, true, Option, Some, None, length, reverse}
 use Rattle.spans.specs.declared.calls.events.Event.{Event}
 use Rattle.spans.specs.Legal.{IsGapless, IsLegal, IsRightEvent, is_accepted, may_lack_memory}

@@ -1,4 +1,5 @@
--- How a transaction begins and how it ends, and what a table of transactions says.
+-- How a transaction begins and how it ends, what a table of transactions says, and how the undecided are tied to the
+-- endings.
 use Rattle.std.specs.Prelude.{None, Option, Some, option_map, unwrap_or, ℕ, List, false, if◌then◌else◌, is_some, true, ◌==◌, ◌≡◌, ◌≤◌}
 use Rattle.std.specs.BTreeMap.{is_at}
 use Rattle.std.specs.Map.{lookup}

@@ -17,5 +17,5 @@ pub use Rattle.std.specs.BTreeMap.{is_at}
 pub use Rattle.std.specs.Borrow.{Bor}
 pub use Rattle.std.specs.List.{filter, list_any}
 pub use Rattle.std.specs.Map.{keys_of, lookup}
-pub use Rattle.timestamps.specs.Words.{key_cmp}
+pub use Rattle.timestamps.specs.Bytes.{key_cmp}
 pub use Rattle.timestamps.specs.declared.key.TheConstants.{MAX_KEY_BYTES}

@@ -1,4 +1,4 @@
--- What a store means: which version each key has at each timestamp, and whether it is committed.
+-- What a store means: which versions and readers each key has, what a read marks, and the keys of a span.
 use Rattle.std.specs.Prelude.{ℕ, List, [], ◌∷◌, Bool, true, false, ◌≡◌, ◌==◌, ◌&&◌, if◌then◌else◌, bytes_eq, Option, unwrap_or, ◌<◌, ◌≤◌, ◌||◌, Some, None, option_map, is_some, length}
 use Rattle.std.specs.BTreeMap.Range.{entries_between}
 use Rattle.std.specs.declared.ops.Bound.{Bound}
@@ -126,7 +126,7 @@ pub record AreDroppedAt (s s' : Stored) (t : ℕ) : Type 0 where
   pub version : (y : List ℕ) (i : ℕ) → version_in s' y i ≡ (if t == i then None else version_in s y i)
   pub committed : (y : List ℕ) (i : ℕ) (b : After) → version_in s' y i ≡ Some b → is_committed_in s' y i ≡ is_committed_in s y i
 
--- ---- with a number
+-- ---- keys of a span, with a number
 
 -- the keys from a start on
 abbrev pub starting_at : Bound (List ℕ) → Numbered → Numbered
@@ -151,7 +151,7 @@ pub record AreFrom (low : Option (List ℕ)) (ns rest : Numbered) : Type 0 where
 abbrev pub numbered_in : Span → Numbered → Numbered
 numbered_in span ns = filter (λ (e : List ℕ × ℕ). in_span span e.0) ns
 
--- ---- with a version
+-- ---- keys of a span, with a version
 
 -- those that have one
 abbrev pub filled : List Entry → List Entry
@@ -163,6 +163,8 @@ pub record AreFound (span : Span) (es found : List Entry) : Type 0 where
   pub those : found ≡ filter (λ (e : Entry). in_span span e.0 && has_versions e.1) es
   pub rising : RisingKeys (keys_of found)
   pub filled : AreFilled found
+
+-- ---- what a read marks
 
 -- the newest version of x at or below t
 abbrev pub newest_in : Stored → ℕ → List ℕ → reads.Version

@@ -5,6 +5,7 @@ use Rattle.version_chain.specs.declared.chain.Version.{Version}
 use Rattle.version_chain.specs.declared.versions.Versions.{Versions}
 use Rattle.version_chain.specs.declared.versions.Versions.TheVariants.{Short, Long}
 
+-- the versions, however they lie in memory
 abbrev pub versions_in : Versions → List Version
 versions_in (Short versions) = versions.items
 versions_in (Long blocks) = blocks

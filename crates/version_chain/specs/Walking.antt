@@ -1,4 +1,4 @@
--- What a walk over versions has ahead: keys of one timestamp, and later timestamps.
+-- The committed versions after a place, and a walk from version to version: what it finds, and what it has ahead.
 use Rattle.std.specs.Prelude.{ℕ, List, Bool, true, false, ◌≡◌, ◌≤◌, ◌==◌, ◌&&◌, ◌||◌, nat_lt, is_some, MatchOption, Option, Some, None, [], ◌∷◌, ◌↔◌, ◌⊎◌}
 use Rattle.version_chain.specs.Prelude.{Bor, key_lt, IsIn, RisingKeys}
 use Rattle.version_chain.specs.Stores.{found_in, Stored, is_committed_in}

@@ -1,6 +1,6 @@
 //! The keys of a span: those with a number, and those with a version.
-ghost use Rattle.version_chain.specs.Prelude.{AreApart, RisingKeys};
-ghost use Rattle.std.specs.Prelude.{◌≡◌, length, List};
+ghost use Rattle.version_chain.specs.Prelude.{AreApart, MAX_KEY_BYTES, RisingKeys, below_high};
+ghost use Rattle.std.specs.Prelude.{◌≡◌, ◌≤◌, length, List};
 ghost use Rattle.std.specs.Map.{keys_of};
 ghost use Rattle.std.specs.Map.Iter.{TakesFirst, deref_pair};
 ghost use Rattle.std.specs.Iterator.{at_most};
@@ -13,8 +13,8 @@ ghost use Rattle.key_table.specs.Numbers.{Numbered};
 use crate::chain::Chain;
 use crate::record::Record;
 use key_table::KeyTable;
-use spans::bound::is_below;
 use spans::{Bound, Span};
+use std::cmp::Ordering;
 use std::collections::btree_map::Range;
 use std::iter::Iterator;
 use std::marker::Model;
@@ -56,8 +56,6 @@ impl<'a> Iterator for NumbersIn<'a> {
 
     fn next(&mut self) -> Option<(&'a Key, &'a usize)> {
         let (key, number) = self.ahead.next()?;
-        // for the proof: no key is longer than a key may be
-        let _ = key.bytes();
         if !is_below(&self.span.hi, key) {
             return None;
         }
@@ -94,6 +92,18 @@ impl<'a> Iterator for InSpan<'a> {
             }
         }
         None
+    }
+}
+
+/// Whether the key is below the bound, where there is one.
+fn is_below(high: &Option<Bound>, key: &Key) -> bool
+    ensures below { result ≡ below_high high.now key.now }
+    ensures in_range { length key.now ≤ MAX_KEY_BYTES }
+{
+    let bytes = key.bytes();
+    match high {
+        None => true,
+        Some(high) => bytes.cmp(high.bytes()) == Ordering::Less,
     }
 }
 

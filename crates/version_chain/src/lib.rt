@@ -30,8 +30,9 @@
 //! no hint of the table leads to it:
 //!
 //! - `newest_at`, `next_above`, `around`, `committed_at`: O(log v log b), and at most as many timestamps as v has binary digits
-//! - `write`: the same, O(log k) for a key that had no record, and O(log n) in the index. The versions above its own in its
-//!   block move, and the starts of the blocks behind it rise. Where a reader is above it, it first searches readers and chain
+//! - `write`: the same, O(log k) for a key that had no record, and O(log n) in the index. It looks at the end of the
+//!   chain first. The versions above its own in its block move, and the starts of the blocks behind it rise. Where a
+//!   reader is above it, it searches readers and chain before that
 //! - `mark`: O(log m) with m readers of the key, and O(log k) for one that had no record. At the spot that `around` gave the
 //!   key is compared once, and not searched
 //! - `mark_all`: O(log k), `around` and `mark` for each record of the span, and O(log s) for each start between its bounds
@@ -48,10 +49,11 @@
 //! that were written. A collection looks at the versions at or below the horizon of the keys that it meets, and at those that
 //! lie in one list or block with them.
 //!
-//! Writes and marks alone take memory, and a write that is crossed takes none. A write that finds none for its place in the
-//! index takes its version out again, and a scan makes room in each record before it notes its read in the first. The list and
-//! the table keep their room for keys that come later. Where as many records as are a quarter of all came or lost their last
-//! version, 16,384 at the least, the next mark goes over all of them and lets those go that may.
+//! Writes and marks alone take memory, and a write that is crossed takes none. A write that finds none for its place in
+//! the index takes its version out again, and a scan makes room in each record before it notes its read in the first.
+//! The memory of a record goes with it, and the list and the table keep their room for keys that come later. Where as
+//! many records as are a quarter of all came or lost their last version, 16,384 at the least, the next mark goes over
+//! all of them and lets those go that may.
 //!
 //! Tests: `layer_tests`.
 #![tactic(auto)]

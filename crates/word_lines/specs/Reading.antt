@@ -1,5 +1,5 @@
 -- Reading a line from left to right: the command, or the first fault that is met. How a word is read as a number, a key, a
--- value or a span is `spelled_words`' own.
+-- value or a span is `spelled_words`' own. Which lines may want memory.
 use Rattle.std.specs.Prelude.{◌≡◌, ℕ, ◌==◌, nat_lt, if◌then◌else◌, List, length, Result, Ok, Err, ok_or, true, [], take, drop, IsOkAnd}
 use Rattle.spelled_words.specs.declared.fault.LineFault.TheVariants.{WordCount, UnknownCommand, Session}
 pub use Rattle.spelled_words.specs.Reading.{◌>>=◌, Fails, Gives, Takes, word_at, bytes_at}

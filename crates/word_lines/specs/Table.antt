@@ -5,8 +5,7 @@ use Rattle.word_lines.specs.Prelude.{Cmd, Span, Verb, Form}
 use Rattle.spans.specs.declared.calls.commands.Cmd.TheVariants as cmd
 use Rattle.word_lines.specs.declared.table.Verb.TheVariants as verb
 
--- What stands behind a name, from left to right: a span is two words, and all else is one. Texts, limits and readers go by
--- this, and not by the command.
+-- What stands behind a name, from left to right (a span is two words): texts, limits and readers go by this alone.
 pub data Signature : Type 0 where
   Nothing : Signature
   Number : Signature

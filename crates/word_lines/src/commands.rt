@@ -35,7 +35,12 @@ pub(crate) type Written = Result<(), AllocError>;
 /// failed, to tell the fault that comes first.
 #[tactic(auto, using(crate::proofs::ReadCommands::counted_right, crate::proofs::ReadCommands::counted_fault), unfolding(crate::specs::Reading::command_at, crate::specs::Reading::byte_words_at))]
 #[inline(always)]
-pub fn read_command(alloc: Global, line: &[u8], seats: u8, format: Format) -> Parsed<(u8, Cmd)>
+pub fn read_command(
+    alloc: Global,
+    line: &[u8],
+    seats: u8,
+    format: Format,
+) -> Result<(u8, Cmd), ReadError>
     // What is read is the text of this command, byte for byte.
     ensures found { IfOk result (λ x. (line.now ≡ command_line x.0 x.1) × (x.0 < seats) × IsCommand format x.1) }
     // Which fault it is: the first from the left.

@@ -2,7 +2,7 @@
 ghost use Rattle.std.specs.Prelude.{◌≡◌, ◌≤◌, ◌++◌, IfOk, length, map, take};
 ghost use Rattle.timestamps.specs.declared.ts.TheConstants.{MAX};
 ghost use Rattle.feed.specs.Standing.{due_at};
-ghost use Rattle.feed.specs.Firsts.{IsTold};
+ghost use Rattle.feed.specs.Left.{IsTold};
 
 use crate::live::LiveFeed;
 use crate::place::{Arrival, place_behind};

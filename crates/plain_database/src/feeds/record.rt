@@ -128,7 +128,8 @@ impl Told {
         }
         // the key is copied before anything changes, so that a refusal leaves what was told
         if let Some(row) = last {
-            let (ts, key) = (row.ts.get(), row.key.copy()?);
+            let ts = row.ts.get();
+            let key = row.key.copy()?;
             self.row = Some(ToldRow { ts, key });
         }
         self.resolved = resolved;
@@ -155,6 +156,6 @@ fn row_copy(row: &Option<ToldRow>) -> Allocated<Option<ToldRow>>
     let Some(row) = row else {
         return Ok(None);
     };
-    let (ts, key) = (row.ts, row.key.copy()?);
-    Ok(Some(ToldRow { ts, key }))
+    let key = row.key.copy()?;
+    Ok(Some(ToldRow { ts: row.ts, key }))
 }

@@ -1,7 +1,4 @@
 //! Walks over the checker's transactions: those above closed, and those between two timestamps.
-//!
-//! A delete is dead as soon as a horizon reaches it, and a value as soon as one reaches the next version of its
-//! key. So only the versions between the old horizon and the new one are looked at, and the one below each.
 ghost use Rattle.std.specs.Prelude.{◌≡◌, ◌-◌, ◌<◌, ◌^◌, ◌≤◌, IfOk, Some, filter, is_some, length, max, min, nat_le, ℕ};
 ghost use Rattle.plain_database.specs.Prelude.{greatest_of, horizon_of, newest, AreUndecided, begun_of, closed_of, decided_through, undecided_timestamps};
 ghost use Rattle.plain_database.specs.VersionsTied.{deaths_by, newly_dead, standing, versions_between, IsRising, above_closed, is_open, stopped, Says, version_in};
@@ -103,7 +100,9 @@ impl VersionStore {
         count
     }
 
-    /// How many versions become dead as the horizon goes from `low` to `high`; at most the greatest `u64`.
+    /// How many versions become dead as the horizon goes from `low` to `high`; at most the greatest `u64`. A delete is
+    /// dead as soon as a horizon reaches it, and a value as soon as one reaches the next version of its key. So only
+    /// the versions between the two are looked at, and the one below each.
     #[tactic(auto, using(crate::proofs::Walked::died, crate::proofs::Dead::none_dies))]
     pub fn died_between(&self, low: u64, high: u64) -> u64
         ensures { Says self.now (λ p. horizon_of p ≡ low → low ≤ high → high ≤ closed_of p

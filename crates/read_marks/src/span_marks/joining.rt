@@ -1,7 +1,7 @@
 //! The joining of starts whose latest reader is that of the start before.
 ghost use Rattle.std.specs.Prelude.{◌≡◌};
 ghost use Rattle.std.specs.BTreeMap.{IsOrdered};
-ghost use Rattle.timestamps.specs.Words.{key_cmp};
+ghost use Rattle.timestamps.specs.Bytes.{key_cmp};
 ghost use Rattle.read_marks.specs.Spans.{KeepsLatest, latest_below};
 
 use super::SpanMarks;

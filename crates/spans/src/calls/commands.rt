@@ -5,7 +5,8 @@ ghost use Rattle.spans.specs.Parts.{asked_span};
 use crate::span::Span;
 use timestamps::{Key, Value};
 
-/// A command. The database answers a number that it can't take with a [`Refusal`](crate::calls::Refusal).
+/// A command. A number may be any `u64`; the database answers one that it can't take with a
+/// [`Refusal`](crate::calls::Refusal).
 #[derive(Debug, PartialEq, Eq)]
 pub enum Cmd {
     /// Begins the transaction of this timestamp.
@@ -42,7 +43,7 @@ pub enum Cmd {
     OpenInitial { span: Span, cursor: u64 },
     /// Opens a feed of the versions of a span above a timestamp, whose resolved messages lie at least a gap apart.
     OpenEvery { span: Span, cursor: u64, gap: u64 },
-    /// Opens such an initial feed, whose resolved messages lie at least a gap apart.
+    /// Opens a feed as `OpenInitial` does, whose resolved messages lie at least a gap apart.
     OpenInitialEvery { span: Span, cursor: u64, gap: u64 },
     /// Takes the next messages of a feed, at most `max`.
     Poll { feed: u64, max: u64 },

@@ -1,6 +1,6 @@
 use Rattle.std.proofs.Common.{Global, Some, Vec, ap, arith, subst, sym, ◌∙◌}
 use Rattle.catch_up.proofs.Common.{Row, Walk}
-use Rattle.catch_up.specs.Left.{AreNextIn}
+use Rattle.catch_up.specs.Rows.{AreNextIn}
 use Rattle.catch_up.proofs.Walk.{IsWalking, begins_at, step_has, step_is, ends_walking, goes_on_walking, keys_shorten, walk_full, walk_joins}
 use Rattle.catch_up.proofs.rows.counted_rows.Goals as goal
 use Rattle.catch_up.proofs.rows.counted_rows.Goals.{else-loop-missing-test, then-loop-missing-test+in_default, then-loop-missing-test+in-Some+in_ok-tell+else-left-gt0+then-is_none+in-Some-newest_at+in_ok-rest+in_ok-append}

@@ -1,5 +1,5 @@
 use Rattle.std.proofs.Common.{ap, arith, ◌∙◌}
-use Rattle.feed.specs.Firsts.{count_within}
+use Rattle.feed.specs.Left.{count_within}
 use Rattle.feed.proofs.Fitting.{left_short}
 use Rattle.feed.proofs.room.count_first.Goals as goal
 

@@ -1,5 +1,5 @@
 use Rattle.std.proofs.Common.{drop, ◌+◌, ◌≡◌}
-use Rattle.feed.specs.Firsts.{count_within}
+use Rattle.feed.specs.Left.{count_within}
 use Rattle.feed.proofs.room.count_within.Given as goal
 
 -- what was counted, and what the rest of the room counts of the rest

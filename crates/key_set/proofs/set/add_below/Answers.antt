@@ -1,6 +1,6 @@
 use Rattle.std.proofs.Common.{◌∷◌, ◌∙◌, ap}
 use Rattle.std.specs.BTreeSet as sets
-use Rattle.timestamps.specs.Words.{key_cmp}
+use Rattle.timestamps.specs.Bytes.{key_cmp}
 use Rattle.key_set.proofs.Sets.{put_first}
 use Rattle.key_set.proofs.set.add_below.Goals as goal
 

@@ -1,7 +1,7 @@
 //! Spans, and the keys that they hold.
 ghost use Rattle.std.specs.Prelude.{IfOk};
 ghost use Rattle.std.specs.List.Sorted.{IsStrictlySortedBy};
-ghost use Rattle.timestamps.specs.Words.{key_cmp};
+ghost use Rattle.timestamps.specs.Bytes.{key_cmp};
 
 use spans::law::law_of_histories;
 use spans::{Bound, Span};

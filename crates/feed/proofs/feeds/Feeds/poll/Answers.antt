@@ -3,7 +3,7 @@ use Rattle.std.specs.Prelude.{is_some, nat_eq}
 use Rattle.feed.proofs.Common.{Place}
 use Rattle.std.proofs.lemmas.Map.Steps.{set_value_same}
 use Rattle.feed.specs.Standing.{arrived_at, cut_at_max, IsPolledBy, IsPut, Lives, Standing, place_in}
-use Rattle.feed.specs.Firsts.{IsTold}
+use Rattle.feed.specs.Left.{IsTold}
 use Rattle.feed.proofs.Telling.{polled_by}
 use Rattle.feed.proofs.Tying.{IsSet, tied_moved}
 use Rattle.feed.proofs.feeds.Feeds.poll.Goals.{After-arrive, In-Some}

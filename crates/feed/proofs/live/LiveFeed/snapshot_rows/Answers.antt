@@ -1,6 +1,6 @@
 use Rattle.std.proofs.Common.{ap, subst, ◌≡◌}
 use Rattle.feed.proofs.Common.{AreNextFirsts, IfOk-weaker, Place, Span, option_copied}
-use Rattle.feed.specs.Firsts.{AreNextFirstsAt}
+use Rattle.feed.specs.Left.{AreNextFirstsAt}
 use Rattle.feed.proofs.Catching.{firsts_next, firsts_none}
 use Rattle.feed.proofs.live.LiveFeed.snapshot_rows.Goals as goal
 

@@ -1,7 +1,7 @@
 use Rattle.std.proofs.Common.{ap, sym, ◌&&◌, ◌∙◌}
 use Rattle.feed.proofs.Common.{AreNextIn, IfOk-weaker, Place, is_after_name, option_copied}
 use Rattle.std.specs.Prelude.{nat_lt}
-use Rattle.feed.specs.Firsts.{AreNextStoredAt}
+use Rattle.feed.specs.Left.{AreNextStoredAt}
 use Rattle.feed.proofs.Catching.{stored_next}
 use Rattle.feed.proofs.live.LiveFeed.stored_rows.Goals as goal
 

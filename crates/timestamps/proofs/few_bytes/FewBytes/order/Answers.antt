@@ -1,6 +1,6 @@
 use Rattle.std.proofs.Common.{◌≡◌, ◌*◌, length, sym, ap, ◌∙◌, subst, arith}
 use Rattle.std.proofs.lemmas.List.{length-take-le}
-use Rattle.timestamps.specs.Words.{AreBytes, front_from}
+use Rattle.timestamps.specs.Bytes.{AreBytes, front_from}
 use Rattle.timestamps.proofs.Fronts.{fronts_same}
 use Rattle.timestamps.proofs.Words.{take_bytes, word_decides, word_goes_on}
 use Rattle.timestamps.proofs.few_bytes.FewBytes.order.Goals as goal

@@ -1,5 +1,5 @@
 use Rattle.std.proofs.Common.{◌≡◌, ◌*◌}
-use Rattle.timestamps.specs.Words.{front_from}
+use Rattle.timestamps.specs.Bytes.{front_from}
 use Rattle.timestamps.proofs.few_bytes.FewBytes.order.Given as goal
 
 abbrev pub invariant-loop-i : goal.invariant-loop-i

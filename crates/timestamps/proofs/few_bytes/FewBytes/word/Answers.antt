@@ -1,7 +1,7 @@
 use Rattle.std.proofs.Common.{◌≡◌, ◌*◌, ◌-◌, length, take, drop, ap, sym, subst, ◌∙◌, Option, Some}
 use Rattle.std.specs.Option.{MatchOption}
 use Rattle.timestamps.proofs.Common.{length-drop, take-length}
-use Rattle.timestamps.specs.Words.{AreBytes, front_of}
+use Rattle.timestamps.specs.Bytes.{AreBytes, front_of}
 use Rattle.timestamps.proofs.Words.{chunk_word, take_bytes, word_padded}
 use Rattle.timestamps.proofs.few_bytes.FewBytes.word.Goals as goal
 
