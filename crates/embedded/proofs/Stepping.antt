@@ -1,5 +1,5 @@
 -- What a database holds after a step of its engine.
-use Rattle.std.proofs.Common.{◌≡◌, ℕ, false, true, List, [], ◌∷◌, reverse, length, Some, Ok, inl, inr, refl, sym, ap, ◌∙◌, subst, arith}
+use Rattle.std.proofs.Common.{◌≡◌, ◌<◌, ℕ, false, true, List, [], ◌∷◌, reverse, length, Some, Ok, inl, inr, refl, sym, ap, ◌∙◌, subst, arith}
 use Rattle.embedded.proofs.Common.{Cmd, Event, IsGapless, Message, Messages, Reply, Scan, ScanAt, Two, command_at, command_line, effects_of, event, length-reverse, reverse-append, table}
 use Rattle.std.proofs.Math.Logic.{∥∥₁_elim}
 use Rattle.std.proofs.Props.{props}
@@ -18,11 +18,12 @@ next_gapless h e gapless at =
     subst (IsGapless 0) (sym (reverse-append (e ∷ []) h)) (gapless_more 0 (reverse h) e gapless (omega (arith, at, length-reverse h)))
 
 -- the event that was kept after the engine's step is the newest of what the database holds
-pub stands_next : (h : List Event) (e : Event) (engine : Engine) (old new : Database) → StandsFor old h → engines.StandsFor engine (e ∷ h) → new.engine ≡ engine → e.position ≡ length h → last_of new ≡ Some e → IsUnwritten new → StandsFor new (e ∷ h)
-stands_next h e engine old new held stands same at last text = record {
+pub stands_next : (h : List Event) (e : Event) (engine : Engine) (old new : Database) → StandsFor old h → engines.StandsFor engine (e ∷ h) → new.engine ≡ engine → e.position ≡ length h → e.position < 18446744073709551615 → last_of new ≡ Some e → IsUnwritten new → StandsFor new (e ∷ h)
+stands_next h e engine old new held stands same at low last text = record {
   stands = subst (λ (kept : Engine). engines.StandsFor kept (e ∷ h)) (sym same) stands;
   legal = stands.kept.legal;
   gapless = next_gapless h e held.gapless at;
+  bounded = omega (arith, at, low);
   last = last;
   text = inr text;
 }

@@ -1,5 +1,5 @@
 -- What an embedded database holds, and what a call of a line does to it (this project's own).
-use Rattle.std.specs.Prelude.{ℕ, List, [], ◌∷◌, ◌≡◌, ◌⊎◌, length, reverse, Option, Some, None, Result, Ok, Err}
+use Rattle.std.specs.Prelude.{ℕ, List, [], ◌∷◌, ◌≡◌, ◌≤◌, ◌⊎◌, length, reverse, Option, Some, None, Result, Ok, Err}
 use Rattle.embedded.specs.Prelude.{Cmd, Event, Two, WantsMemory, byte_words_at, command_at, command_line, table, event_text, Database, CallError}
 use Rattle.spans.specs.Legal.{IsLegal, IsGapless}
 use Rattle.engine.specs.Engine as engines
@@ -48,6 +48,8 @@ pub record StandsFor (d : Database) (h : List Event) : Type 0 where
   pub stands : engines.StandsFor d.engine h
   pub legal : IsLegal h
   pub gapless : IsGapless 0 (reverse h)
+  -- the greatest position is 18446744073709551614
+  pub bounded : length h ≤ 18446744073709551615
   pub last : last_of d ≡ newest h
   pub text : IsWritten d ⊎ IsUnwritten d
 

@@ -51,7 +51,7 @@
 #![tactic(auto)]
 
 ghost use Rattle.std.specs.Prelude.{◌≡◌, ℕ, List, ◌∷◌, [], ◌+◌, ◌<◌, IfOk, false, length};
-ghost use Rattle.engine.specs.Prelude.{Event, IsReport, closed_of, effects_of, event};
+ghost use Rattle.engine.specs.Prelude.{Collect, Event, answer_of, IsReport, closed_of, effects_of, event};
 ghost use Rattle.engine.specs.Layers.{HasHistory};
 
 mod dumping;
@@ -98,10 +98,12 @@ impl Engine {
         }
     }
 
-    /// Answers a seat's command.
+    /// Answers a seat's command. A collection is answered as the definitions say: it never wants memory, though a history
+    /// in which one did would be legal.
     pub fn step(&mut self, seat: u8, cmd: &Cmd) -> Reply
         requires room { steps_of self.old < 18446744073709551615 }
         ensures history { (h : List Event) (n : ℕ) → StandsFor self.old h → StandsFor self.new (event n seat cmd.now result ∷ h) }
+        ensures collects { (h : List Event) (to : ℕ) → StandsFor self.old h → cmd.now ≡ Collect to → result ≡ answer_of (effects_of h) seat cmd.now }
         ensures steps { steps_of self.new ≡ steps_of self.old + 1 }
     {
         let reply = self.layers.step(seat, cmd);

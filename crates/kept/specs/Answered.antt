@@ -99,9 +99,14 @@ abbrev pub IsAccepting : Kept → ℕ → Cmd → Type 0
 IsAccepting k seat (Poll f max) = (place : Place) × (k.feed f ≡ Some place) × (place.seat ≡ seat)
 IsAccepting k seat cmd = (reply : Reply) × IsReplyOf k seat cmd reply × (is_accepted reply ≡ true)
 
+-- the engine takes memory for the command: for all that may want it, but for no collection
+abbrev pub takes_memory : Cmd → Bool
+takes_memory (Collect to) = false
+takes_memory cmd = may_lack_memory cmd
+
 -- memory was wanting in the place of a reply that is no refusal, and nothing has changed
 pub record IsWanting (k k' : Kept) (seat : ℕ) (cmd : Cmd) : Type 0 where
-  pub may : may_lack_memory cmd ≡ true
+  pub may : takes_memory cmd ≡ true
   pub accepting : IsAccepting k seat cmd
   pub alike : IsAlike k k'
 

@@ -15,7 +15,7 @@
 //! collect 10                40*                  40                                      40        none
 //! ```
 ghost use Rattle.std.specs.Prelude.{ℕ, ◌≡◌};
-ghost use Rattle.mvto_rules.specs.Prelude.{or_min, Collect, IsLeastFloor, IsStep};
+ghost use Rattle.mvto_rules.specs.Prelude.{or_min, Collect, IsAnswered, IsLeastFloor};
 ghost use Rattle.mvto_rules.specs.Holding.{IsLimit, Changes, closing_of};
 
 use crate::rules::Rules;
@@ -24,9 +24,9 @@ use timestamps::ts::MAX;
 
 impl Rules {
     /// Collects through `to`, where `floor` is the least floor of the feeds, if any lives. It drops the versions that are
-    /// dead by the horizon that it reaches, and takes no memory.
+    /// dead by the horizon that it reaches. It takes no memory, so it never answers that it is out of it.
     pub fn collect(&mut self, to: u64, floor: Option<u64>) -> Reply
-        ensures step { (seat : ℕ) → Changes self.old self.new (λ k k'. IsLeastFloor k.feed floor → IsStep k k' seat (Collect to) result) }
+        ensures answered { (seat : ℕ) → Changes self.old self.new (λ k k'. IsLeastFloor k.feed floor → IsAnswered k k' seat (Collect to) result) }
     {
         if to > MAX {
             return Reply::Refused(Refusal::TsRange);

@@ -18,7 +18,7 @@ use Rattle.races.specs.Racing.{IsRaceOf, commands_by, commands_of}
 use Rattle.jobs.specs.Races.{IsRaced}
 use Rattle.embedded.specs.Embedded.{StandsFor}
 use Rattle.embedded.specs.declared.database.Database.{Database}
-use Rattle.pipes.specs.Texts.{EndsWhole, IsTranscript, IsWholeAt, IsWritable, KeepsFormat, SaysYes}
+use Rattle.pipes.specs.Texts.{IsTranscript, IsWholeAt, IsWritable, KeepsFormat, SaysYes}
 use Rattle.pipes.proofs.Texts.{writable_says}
 
 -- what holds of two lists, one behind the other, holds of the first
@@ -61,14 +61,13 @@ without_last : (format : Format) (first : ℕ) (before : List Event) (e : Event)
 without_last format first before e w =
     let legal : IsLegal (e ∷ reverse before) = subst IsLegal (turned_more before e) w.history.legal in
     record {
-      history = record { legal = legal.1; gapless = gapless_begins first before (e ∷ []) w.history.gapless };
-      positions = omega (arith, w.positions, length-append before (e ∷ []));
+      history = record { legal = legal.1; gapless = gapless_begins first before (e ∷ []) w.history.gapless; bounded = omega (arith, w.history.bounded, length-append before (e ∷ [])) };
       commands = All-from_recursion (KeepsFormat format) before (of_front (KeepsFormat format) before (e ∷ []) (recursion_from_All (KeepsFormat format) (before ++ e ∷ []) w.commands));
     }
 
 -- nothing is a history
 nothing_writable : IsWritable One 0 []
-nothing_writable = record { history = record { legal = tt; gapless = tt }; positions = omega arith; commands = All-from_recursion (KeepsFormat One) [] tt }
+nothing_writable = record { history = record { legal = tt; gapless = tt; bounded = omega arith }; commands = All-from_recursion (KeepsFormat One) [] tt }
 
 seats_few : (config : Config) (e : ServeEnd) → IsWholeAt e → IsOpenAt config e → config.seats ≤ 64
 seats_few config run.Done whole opened = opened.0.1
@@ -97,19 +96,14 @@ whole_text format used config input ended events output run.Memory w whole wants
 whole_text format used config input ended events output _ w whole ends = absurd whole
 
 pub run_text : (format : Format) (config : Config) (r r' : Reads) (w w' : Writes) (e : ServeEnd) (s : IsServed format config r r' w w' e)
-    → EndsWhole config.first s.events e → IsTranscript s.output
+    → IsWholeAt e → IsTranscript s.output
 run_text format config r r' w w' e s whole =
     let calls = begun_calls format config.seats s.input r'.ended (calls_of s.events) s.begins in
-    let keeps = calls_keep format config.seats s.events (seats_few config e whole.1 s.opened) calls in
+    let keeps = calls_keep format config.seats s.events (seats_few config e whole s.opened) calls in
     whole_text format (config.first + length s.events ≡ 18446744073709551615) config s.input r'.ended s.events s.output e
-    (record { history = s.history; positions = whole.0; commands = All-from_recursion (KeepsFormat format) s.events keeps }) whole.1 s.ends
+    (record { history = s.history; commands = All-from_recursion (KeepsFormat format) s.events keeps }) whole s.ends
 
 -- ---- races
-
--- each event has a byte at least
-texts_some : (es : List Event) → length es ≤ length (events_text es)
-texts_some [] = omega arith
-texts_some (e ∷ es) = omega (arith, texts_some es, length-append (event_text e) (events_text es), length-append (heading_text e) (10 ∷ following_lines e.reply))
 
 from_places : {A : Type 0} (P : A → Type 0) (xs : List A) → ((x : A) → Has x xs → (k : ℕ) → get_elem? xs k ≡ some x → P x) → AllByRecursion P xs
 from_places P [] each = tt
@@ -143,31 +137,29 @@ module _ (format : Format) where
       let own = subst (AllByRecursion (IsCommand format)) (sym (raced.each e.seat seat)) (commands_keep sessions e.seat calls are) in
       (omega arith, own_keeps e.seat es own e i refl))
 
-pub race_text : (format : Format) (sessions : ℕ) (text out : List ℕ) → sessions ≤ 64 → length out ≤ 18446744073709551615 → IsRaced format sessions text out → IsTranscript out
-race_text format sessions text out few short r =
+pub race_text : (format : Format) (sessions : ℕ) (text out : List ℕ) → IsRaced format sessions text out → IsTranscript out
+race_text format sessions text out r =
     let calls : AllByRecursion (IsCall format sessions) r.calls = subst (AllByRecursion (IsCall format sessions)) (ap (λ (s : Script). s.calls) r.script) (script_calls format sessions text) in
-    let size : length out ≡ length (header format ++ events_text r.events) = ap length r.told in record {
+    record {
       format = format;
       first = 0;
       events = r.events;
       writable = record {
-        history = record { legal = r.raced.trace.legal; gapless = r.raced.gapless };
-        positions = omega (arith, size, length-append (header format) (events_text r.events), texts_some r.events);
-        commands = All-from_recursion (KeepsFormat format) r.events (raced_keeps format sessions r.calls r.events few calls r.raced);
+        history = record { legal = r.raced.trace.legal; gapless = r.raced.gapless; bounded = omega (arith, r.raced.bounded) };
+        commands = All-from_recursion (KeepsFormat format) r.events (raced_keeps format sessions r.calls r.events r.raced.few calls r.raced);
       };
       is = r.told;
     }
 
 -- ---- embedded databases
 
-pub kept_text : (d : Database) (h : List Event) → StandsFor d h → All (KeepsFormat Two) h → length h ≤ 18446744073709551615 → IsTranscript (transcript_text Two (reverse h))
-kept_text d h stands keeps few = record {
+pub kept_text : (d : Database) (h : List Event) → StandsFor d h → All (KeepsFormat Two) h → IsTranscript (transcript_text Two (reverse h))
+kept_text d h stands keeps = record {
   format = Two;
   first = 0;
   events = reverse h;
   writable = record {
-    history = record { legal = subst IsLegal (sym (reverse-reverse h)) stands.legal; gapless = stands.gapless };
-    positions = omega (arith, length-reverse h);
+    history = record { legal = subst IsLegal (sym (reverse-reverse h)) stands.legal; gapless = stands.gapless; bounded = omega (arith, stands.bounded, length-reverse h) };
     commands = All-reverse (KeepsFormat Two) h keeps;
   };
   is = refl;

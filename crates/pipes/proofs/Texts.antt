@@ -32,8 +32,8 @@ module _ (format : Format) where
   all_fit : (first : ℕ) (es : List Event) → IsWritable format first es → All Fits es
   all_fit first es w =
       let keeps = recursion_from_All (KeepsFormat format) es w.commands in
-      let suits = replies_suit format (reverse es) w.history.legal (turned (KeepsFormat format) es keeps) (omega (arith, w.positions, length-reverse es)) in
-      All-from_recursion Fits es (events_fit es (positions_low first 18446744073709551615 es w.history.gapless w.positions) keeps (subst (AllByRecursion (HasReply format)) (reverse-reverse es) (turned (HasReply format) (reverse es) suits)))
+      let suits = replies_suit format (reverse es) w.history.legal (turned (KeepsFormat format) es keeps) (omega (arith, w.history.bounded, length-reverse es)) in
+      All-from_recursion Fits es (events_fit es (positions_low first 18446744073709551615 es w.history.gapless w.history.bounded) keeps (subst (AllByRecursion (HasReply format)) (reverse-reverse es) (turned (HasReply format) (reverse es) suits)))
 
   pub events_are : (first : ℕ) (es : List Event) → IsWritable format first es → All (IsEvent format) es
   events_are first es w = All-weaker Fits (IsEvent format) (λ e fits. fits.0) es (all_fit first es w)

@@ -1,5 +1,5 @@
 -- Which histories have a text that is read again (this project's own).
-use Rattle.std.specs.Prelude.{ℕ, List, ◌+◌, ◌<◌, ◌≡◌, ◌≤◌, codes, length, true}
+use Rattle.std.specs.Prelude.{ℕ, List, ◌<◌, ◌≡◌, codes, true}
 use Rattle.pipes.specs.Prelude.{All, Event, Format, IsCommand, ServeEnd, transcript_text}
 use Rattle.sessions.specs.Runs.{IsHistory}
 use Rattle.sessions.specs.declared.ending.ServeEnd.TheVariants as run
@@ -10,15 +10,10 @@ use Rattle.jobs.specs.declared.ending.End.{End}
 abbrev pub KeepsFormat : Format → Event → Type 0
 KeepsFormat format e = (e.seat < 64) × IsCommand format e.cmd
 
--- each event has a position of 64 bits, of which the greatest is never given
-abbrev pub InPositions : ℕ → List Event → Type 0
-InPositions first events = first + length events ≤ 18446744073709551615
-
 -- One history from a position on, the oldest event first, whose commands keep the limits. Its answers are right, and no
 -- more is asked of them: one with a key that no command wrote, or with a count above 64 bits, would contradict the law
 pub record IsWritable (format : Format) (first : ℕ) (events : List Event) : Type 0 where
   pub history : IsHistory first events
-  pub positions : InPositions first events
   pub commands : All (KeepsFormat format) events
 
 -- `check` says `yes` of the text, and nothing else: each line of a text is without fault, and each event is right
@@ -32,10 +27,6 @@ IsWholeAt run.Done = Unit {0}
 IsWholeAt run.Input = Unit {0}
 IsWholeAt run.Memory = Unit {0}
 IsWholeAt _ = ⊥
-
--- a run ended so, after events that have a position each
-abbrev pub EndsWhole : ℕ → List Event → ServeEnd → Type 0
-EndsWhole first events e = InPositions first events × IsWholeAt e
 
 -- the text is that of a history that has one
 pub record IsTranscript (text : List ℕ) : Type 0 where

@@ -1,5 +1,5 @@
 //! What one part writes the next one takes, as the contracts of functions that do nothing.
-ghost use Rattle.std.specs.Prelude.{List, None, Ok, Some, length, reverse, ℕ, ◌≡◌, ◌≤◌};
+ghost use Rattle.std.specs.Prelude.{List, None, Ok, Some, reverse, ℕ, ◌≡◌};
 ghost use Rattle.std.specs.List.{All, flat_map};
 ghost use Rattle.embedded.specs.Embedded.{StandsFor};
 ghost use Rattle.embedded.specs.declared.database.Database.{Database};
@@ -7,7 +7,7 @@ ghost use Rattle.pipes.specs.Prelude.{Event, FollowOptions, Format, IsEvent, IsP
 ghost use Rattle.jobs.specs.Races.{IsRaced};
 ghost use Rattle.pipes.specs.Consumers.{ComesNext, TakesLine, GoOnFrom, IsKept};
 ghost use Rattle.pipes.specs.Followers.{IsFollowing, ReportsAll, TakesAll, TellsMaps, told_in, told_lines};
-ghost use Rattle.pipes.specs.Texts.{EndsWhole, IsTranscript, IsWritable, KeepsFormat, SaysYes};
+ghost use Rattle.pipes.specs.Texts.{IsTranscript, IsWholeAt, IsWritable, KeepsFormat, SaysYes};
 ghost use Rattle.shared_db.specs.declared.config.Config.{Config};
 ghost use Rattle.text_format.specs.Limits.{format_of};
 
@@ -24,16 +24,14 @@ pub fn law_of_texts()
 /// write that failed, or a spent position ended it, and of what a race has written of its calls. So of what an embedded
 /// database gave of its events, behind the header of format two.
 ///
-/// Positions have 64 bits, so the events of a run are no more than positions are left for. A race's text, which begins at
-/// position 0, has them wherever it is itself no longer than 64 bits can count. Each of these texts is the transcript of one
-/// history, of which `law_of_followers` has what a follower takes.
+/// Each of these texts is the transcript of one history, of which `law_of_followers` has what a follower takes.
 pub fn law_of_pipes()
-    ensures served { (f : Format) (c : Config) (q r : Reads) (v w : Writes) (e : ServeEnd) (s : IsServed f c q r v w e) → EndsWhole c.first s.events e → SaysYes s.output }
-    ensures raced { (f : Format) (sessions : ℕ) (text out : List ℕ) → sessions ≤ 64 → length out ≤ 18446744073709551615 → IsRaced f sessions text out → SaysYes out }
-    ensures kept { (d : Database) (h : List Event) → StandsFor d h → All (KeepsFormat Two) h → length h ≤ 18446744073709551615 → SaysYes (transcript_text Two (reverse h)) }
-    ensures run_text { (f : Format) (c : Config) (q r : Reads) (v w : Writes) (e : ServeEnd) (s : IsServed f c q r v w e) → EndsWhole c.first s.events e → IsTranscript s.output }
-    ensures race_text { (f : Format) (sessions : ℕ) (text out : List ℕ) → sessions ≤ 64 → length out ≤ 18446744073709551615 → IsRaced f sessions text out → IsTranscript out }
-    ensures kept_text { (d : Database) (h : List Event) → StandsFor d h → All (KeepsFormat Two) h → length h ≤ 18446744073709551615 → IsTranscript (transcript_text Two (reverse h)) }
+    ensures served { (f : Format) (c : Config) (q r : Reads) (v w : Writes) (e : ServeEnd) (s : IsServed f c q r v w e) → IsWholeAt e → SaysYes s.output }
+    ensures raced { (f : Format) (sessions : ℕ) (text out : List ℕ) → IsRaced f sessions text out → SaysYes out }
+    ensures kept { (d : Database) (h : List Event) → StandsFor d h → All (KeepsFormat Two) h → SaysYes (transcript_text Two (reverse h)) }
+    ensures run_text { (f : Format) (c : Config) (q r : Reads) (v w : Writes) (e : ServeEnd) (s : IsServed f c q r v w e) → IsWholeAt e → IsTranscript s.output }
+    ensures race_text { (f : Format) (sessions : ℕ) (text out : List ℕ) → IsRaced f sessions text out → IsTranscript out }
+    ensures kept_text { (d : Database) (h : List Event) → StandsFor d h → All (KeepsFormat Two) h → IsTranscript (transcript_text Two (reverse h)) }
 {}
 
 /// A follower of a feed takes exactly the messages that the feed told: from the transcript of all events, where it is given

@@ -26,6 +26,8 @@ pub race_of : {Y Z : Type 0} (config : Config) (sessions : ℕ) (db : Db) (seats
 race_of config sessions db seats passes calls lists all engine events first same few long are opened ended settled = record {
   trace = settled.trace;
   gapless = subst (λ (n : ℕ). IsGapless n events) (opened.first ∙ first) settled.gapless;
+  bounded = omega (arith, few);
+  few = omega (arith, same, opened.seats_in_range.1);
   named = λ k e at. let lt = settled.named k e at in omega (arith, lt, same, opened.count);
   each = λ k lt.
       let a = found_at all.items k (omega (arith, lt, same, ended.count, opened.seat_total, long)) in

@@ -1,5 +1,5 @@
 -- What a whole race does, and each of its sessions, and what is known once their seats are back.
-use Rattle.std.specs.Prelude.{◌≡◌, ℕ, List, [], map, Bool, false, Vec, length, vec_len, Result, Ok, All, ◌<◌, ◌==◌, filter, ◌+◌, reverse, flat_map, IsPermutation, true}
+use Rattle.std.specs.Prelude.{◌≡◌, ℕ, List, [], map, Bool, false, Vec, length, vec_len, Result, Ok, All, ◌<◌, ◌≤◌, ◌==◌, filter, ◌+◌, reverse, flat_map, IsPermutation, true}
 use mathlib.Core.Option.{some}
 use lib.ListN.{get_elem?}
 use Rattle.ticket_lock.specs.declared.chronicle.Chronicle.{Ghosts}
@@ -64,10 +64,13 @@ commands_by k calls = map (λ (c : ℕ × Cmd). c.1) (filter (λ (c : ℕ × Cmd
 abbrev pub AreLists : {Z : Type 0} → List (ℕ × Cmd) → List (Vec Cmd Z) → Type 0
 AreLists calls lists = (k : ℕ) (list : Vec Cmd _) → get_elem? lists k ≡ some list → list.items ≡ commands_by k calls
 
--- the events are one right history from position 0 on, of all the calls: each session's in their order
+-- the events are one right history from position 0 to 18446744073709551614 at most, of all the calls of at most 64
+-- sessions: each session's in their order
 pub record IsRaceOf (sessions : ℕ) (calls : List (ℕ × Cmd)) (events : List Event) : Type 0 where
   pub trace : IsTrace events
   pub gapless : IsGapless 0 events
+  pub bounded : length events ≤ most
+  pub few : sessions ≤ 64
   pub named : (k : ℕ) (e : Event) → get_elem? events k ≡ some e → e.seat < sessions
   pub each : (k : ℕ) → k < sessions → commands_of (of_seat (λ (x : Event). x.seat) k events) ≡ commands_by k calls
 

@@ -163,7 +163,7 @@ module _ {C : Ghosts Served Event} where
       starts_whole w.history (seen m.latest) sees (omega arith) ∙ (m.sees ∙ (tight ∙ sym m.events_are))
 
   pub all_legal : (db : Db) (seats : List (Seat Served Event C)) (engine : Engine) (l : ℕ) (events : List Event) → IsWhole db seats engine → HasMade l seats events → IsHistory (first_of db) events
-  all_legal db seats engine l events w m = subst (IsHistory (first_of db)) (made_all db seats engine l events w m) (record { legal = w.legal; gapless = w.gapless })
+  all_legal db seats engine l events w m = subst (IsHistory (first_of db)) (made_all db seats engine l events w m) (record { legal = w.legal; gapless = w.gapless; bounded = w.bounded })
 
   pub all_spent : (db : Db) (seats : List (Seat Served Event C)) (engine : Engine) (l : ℕ) (events : List Event) → IsWhole db seats engine → HasMade l seats events → HasSpent seats → first_of db + length events ≡ most
   all_spent db seats engine l events w m spent = subst (λ (h : List Event). first_of db + length h ≡ most) (made_all db seats engine l events w m) ((w.each spent.0 spent.1 spent.2).spent spent.3)

@@ -41,10 +41,11 @@ module _ {C : Ghosts Served Event} where
   abbrev pub HasSpent : List (Seat Served Event C) → Type 0
   HasSpent seats = (k : ℕ) × (s : Seat Served Event C) × (get_elem? seats k ≡ some s) × (met_spent s ≡ true)
 
--- one legal history, the oldest event first, whose positions run from first on without a gap
+-- one legal history, the oldest event first, whose positions run from first on without a gap to 18446744073709551614 at most
 pub record IsHistory (first : ℕ) (events : List Event) : Type 0 where
   pub legal : IsLegal (reverse events)
   pub gapless : IsGapless first events
+  pub bounded : first + length events ≤ most
 
 -- what a source may hold in all that has given so much: this, and more unless it has ended
 pub record MayHold (given : List ℕ) (ended : Bool) (whole : List ℕ) : Type 0 where

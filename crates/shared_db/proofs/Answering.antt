@@ -32,6 +32,7 @@ module _ {C : Ghosts Served Event} where
         seat = by;
         command = m.command;
         position = m.position ∙ (sym h.place ∙ ap (λ (l : List Event). first + length l) here);
+        bounded = omega (arith, m.position, h.below);
         risen = subst (λ (n : ℕ). n ≤ closed_after (seen new)) h.keeps.known m.risen;
         floor = m.floor;
         unspent = h.unspent;

@@ -16,6 +16,7 @@ module _ {C : Ghosts Served Event} where
     stood = stood;
     legal = legal_of served.engine.value (reverse m.history) stood;
     gapless = m.stood.gapless;
+    bounded = m.bounded;
     steps = steps_are served.engine.value (reverse m.history) stood ∙ length-reverse m.history;
     named = m.named;
     each = m.each;

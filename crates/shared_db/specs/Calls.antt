@@ -1,6 +1,6 @@
 -- How a call ends.
-use Rattle.std.specs.Prelude.{◌≡◌, ◌≢◌, ℕ, ◌+◌, ◌≤◌, List, [], ◌∷◌, ◌++◌, reverse, length, Some, false}
-use Rattle.shared_db.specs.Prelude.{All, Cmd, Event, Ghosts, IsBusy, IsGapless, IsLegal, IsSpent, Seat, found, known, met_spent, mine, number, of_seat, raised, seen, ticket, Served}
+use Rattle.std.specs.Prelude.{◌≡◌, ◌≢◌, ℕ, ◌+◌, ◌<◌, ◌≤◌, List, [], ◌∷◌, ◌++◌, reverse, length, Some, false}
+use Rattle.shared_db.specs.Prelude.{All, Cmd, Event, Ghosts, IsBusy, IsGapless, IsLegal, IsSpent, Seat, found, known, met_spent, mine, most, number, of_seat, raised, seen, ticket, Served}
 use Rattle.shared_db.specs.declared.calls.CallDenied.{CallDenied}
 use Rattle.shared_db.specs.declared.calls.CallDenied.TheVariants.{Busy, Spent}
 use Rattle.shared_db.specs.History.{StandsFor, closed_after}
@@ -18,6 +18,8 @@ pub record IsAnswered {C : Ghosts Served Event} (first : ℕ) (old : Seat Served
   pub seat : event.seat ≡ number old
   pub command : event.cmd ≡ cmd
   pub position : event.position ≡ first + length (seen old ++ between)
+  -- the greatest position is 18446744073709551614
+  pub bounded : event.position < most
   -- no floor that the seat knew is above what is closed now, which is the floor that it knows
   pub risen : known old ≤ closed_after (seen new)
   pub floor : known new ≡ closed_after (seen new)

@@ -9,7 +9,7 @@ pub use Rattle.spans.specs.Transactions.{closed_of}
 pub use Rattle.spans.specs.declared.calls.commands.Cmd.{Cmd}
 pub use Rattle.spans.specs.declared.calls.events.Event.{Event}
 pub use Rattle.std.specs.List.{All}
-pub use Rattle.ticket_lock.specs.Lists.{StartsWith, longer, of_seat}
+pub use Rattle.ticket_lock.specs.Lists.{StartsWith, longer, most, of_seat}
 pub use Rattle.ticket_lock.specs.Seats.{IsBusy, IsPartOf, IsSpent, found, known, met_spent, mine, number, raised, seen, ticket}
 pub use Rattle.ticket_lock.specs.declared.chronicle.Chronicle.{Ghosts}
 pub use Rattle.ticket_lock.specs.declared.lock.Seat.{Seat}

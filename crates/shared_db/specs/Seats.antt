@@ -1,11 +1,11 @@
 -- What a contract says of a database and its seats: how it is opened, and what is known once all seats are back.
-use Rattle.std.specs.Prelude.{◌≡◌, ℕ, List, [], None, false, ◌<◌, ◌≤◌, ◌⊎◌, length, ◌==◌, reverse, sum_by, count_by}
+use Rattle.std.specs.Prelude.{◌≡◌, ℕ, List, [], None, false, ◌+◌, ◌<◌, ◌≤◌, ◌⊎◌, length, ◌==◌, reverse, sum_by, count_by}
 use mathlib.Core.Option.{some}
 use lib.ListN.{get_elem?}
 use Rattle.timestamps.specs.declared.oracle.OraclePass.{OraclePass}
 use Rattle.timestamps.specs.Passes.{IsNew as IsNewPass}
 use Rattle.ticket_lock.specs.Seats as locks
-use Rattle.shared_db.specs.Prelude.{IsPartOf, Event, Ghosts, Seat, known, met_spent, mine, number, seen, ticket, All, Engine, IsGapless, IsLegal, StandsFor, closed_timestamp, steps_of, Served, Db}
+use Rattle.shared_db.specs.Prelude.{IsPartOf, Event, Ghosts, Seat, known, met_spent, mine, most, number, seen, ticket, All, Engine, IsGapless, IsLegal, StandsFor, closed_timestamp, steps_of, Served, Db}
 use Rattle.shared_db.specs.declared.config.Config.{Config}
 use Rattle.shared_db.specs.declared.config.OpenError.{OpenError}
 use Rattle.shared_db.specs.declared.config.OpenError.TheVariants.{SeatCount, RingSize, NoMemory}
@@ -71,6 +71,8 @@ pub record IsWhole {C : Ghosts Served Event} (db : Db) (seats : List (Seat Serve
   pub stood : StandsFor engine (reverse history)
   pub legal : IsLegal (reverse history)
   pub gapless : IsGapless (first_of db) history
+  -- the greatest position is 18446744073709551614
+  pub bounded : first_of db + length history ≤ most
   pub steps : steps_of engine ≡ length history
   pub named : (k : ℕ) (e : Event) → get_elem? history k ≡ some e → e.seat < seat_count db
   -- what a seat has seen begins the history, it has its events, and knows no higher floor; where it met `Spent` all positions are used

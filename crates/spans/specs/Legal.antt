@@ -2,7 +2,7 @@
 -- IsGapless the oldest.
 use Rattle.std.specs.Prelude.{ℕ, suc, List, [], ◌∷◌, Bool, true, false, ◌≡◌, ◌⊎◌}
 use Rattle.spans.specs.declared.calls.commands.Cmd.{Cmd}
-use Rattle.spans.specs.declared.calls.commands.Cmd.TheVariants.{Commit, Abort, Close, CloseHard, Release, Collect, Cancel, Stats}
+use Rattle.spans.specs.declared.calls.commands.Cmd.TheVariants.{Commit, Abort, Close, CloseHard, Release, Cancel, Stats}
 use Rattle.spans.specs.declared.calls.replies.Reply.{Reply}
 use Rattle.spans.specs.declared.calls.replies.Reply.TheVariants.{Refused}
 use Rattle.spans.specs.declared.calls.replies.Refusal.TheVariants.{NoMemory}
@@ -22,7 +22,6 @@ may_lack_memory (Abort t) = false
 may_lack_memory (Close to) = false
 may_lack_memory (CloseHard to) = false
 may_lack_memory (Release id) = false
-may_lack_memory (Collect to) = false
 may_lack_memory (Cancel f) = false
 may_lack_memory Stats = false
 may_lack_memory cmd = true

@@ -1,12 +1,12 @@
 -- The lock begins, and issues its seats.
-use Rattle.std.proofs.Common.{◌≡◌, ℕ, suc, ◌+◌, ◌-◌, ◌<◌, cond, Bool, false, List, [], ◌∷◌, ◌++◌, map, set, sym, refl, ap, ◌∙◌, subst, arith, le_refl, true≢false, Option, Some, None}
+use Rattle.std.proofs.Common.{◌≡◌, ℕ, suc, ◌+◌, ◌-◌, ◌<◌, ◌≤◌, cond, Bool, false, List, [], ◌∷◌, ◌++◌, map, set, sym, refl, ap, ◌∙◌, subst, arith, le_refl, true≢false, Option, Some, None}
 use Rattle.ticket_lock.proofs.Common.{Splits, opening, sum_by, sum_by-append, sum_by-cons}
 use mathlib.Core.Option.{some, some-ne-none}
 use lib.ListN.{get_elem?}
 use Rattle.ticket_lock.specs.declared.rule.SeatRecord.{SeatRecord}
 use Rattle.ticket_lock.specs.declared.rule.View.{View}
 use Rattle.ticket_lock.specs.declared.rule.Setup.{Setup}
-use Rattle.ticket_lock.specs.Lists.{of_seat, span, head_or, tail}
+use Rattle.ticket_lock.specs.Lists.{most, of_seat, span, head_or, tail}
 use Rattle.ticket_lock.specs.Views.{setup, issuer, opener, after_issue, issued, numbers}
 use Rattle.ticket_lock.specs.Rule.{Knows, Ordered}
 use Rattle.ticket_lock.proofs.ListFacts.{each_set, stays_at, longer_at, sum_set}
@@ -65,8 +65,8 @@ module _ {T E : Type 0} (stands : T → ℕ → List E → Type 0) (seat_of : E 
     counted = λ f. let g : View E → ℕ = λ u. sum_by f (numbers u) in let q = sum_set g s.views id v l at in let p = r.counted f in let d = split_sum f v n ns is in omega (arith, sum_by-append g vs new, sum_by-cons g w []);
   }
 
-  pub opens : (beds : List ℕ) (x : T) → stands x key.first [] → Rule record { words = key.first ∷ key.first ∷ 0 ∷ beds; homes = some (Some x) ∷ []; views = opener key ∷ [] }
-  opens beds x new = record {
+  pub opens : (beds : List ℕ) (x : T) → key.first ≤ most → stands x key.first [] → Rule record { words = key.first ∷ key.first ∷ 0 ∷ beds; homes = some (Some x) ∷ []; views = opener key ∷ [] }
+  opens beds x low new = record {
     turns = record {
       ticket = key.first;
       serving = key.first;
@@ -78,6 +78,7 @@ module _ {T E : Type 0} (stands : T → ℕ → List E → Type 0) (seat_of : E 
       owner = λ t. 0;
       come = omega arith;
       ahead = le_refl key.first;
+      bounded = low;
       stood = new;
       capped = λ _. omega arith;
       named = λ i e g. absurd (some-ne-none e (sym g));
@@ -108,7 +109,7 @@ module _ {T E : Type 0} (stands : T → ℕ → List E → Type 0) (seat_of : E 
   pub issued_next : (first count : ℕ) (m m' : Mine T E) (n : ℕ) → n < count → m ≡ (issuer first (span n (count - n)), []) → m' ≡ (after_issue m.0, m.1) → m' ≡ (issuer first (span (n + 1) (count - (n + 1))), [])
   issued_next first count m m' n room is now = now ∙ (ap (λ (z : Mine T E). (after_issue z.0, z.1)) is ∙ (ap (λ (l : List ℕ). (issuer first (tail l), [])) (span_more n count room) ∙ ap (λ (k : ℕ). (issuer first (span k (count - k)), [])) (suc_is n)))
 
-  pub starts : (first count : ℕ) (beds words : List ℕ) (x : T) (items : List (Option T)) → key ≡ setup first count → words ≡ first ∷ first ∷ 0 ∷ beds → items ≡ Some x ∷ [] → stands x first [] → Rule (opening words items (opener key))
-  starts first count beds words x items known laid is new = let f : key.first ≡ first = ap (λ (k : Setup). k.first) known in
+  pub starts : (first count : ℕ) (beds words : List ℕ) (x : T) (items : List (Option T)) → first ≤ most → key ≡ setup first count → words ≡ first ∷ first ∷ 0 ∷ beds → items ≡ Some x ∷ [] → stands x first [] → Rule (opening words items (opener key))
+  starts first count beds words x items low known laid is new = let f : key.first ≡ first = ap (λ (k : Setup). k.first) known in
       subst (λ (z : List ℕ × List (Option T)). Rule (opening z.0 z.1 (opener key))) (λ i. (sym laid i, sym is i))
-      (subst (λ (f : ℕ). Rule (opening (f ∷ f ∷ 0 ∷ beds) (Some x ∷ []) (opener key))) f (opens beds x (subst (λ (f : ℕ). stands x f []) (sym f) new)))
+      (subst (λ (f : ℕ). Rule (opening (f ∷ f ∷ 0 ∷ beds) (Some x ∷ []) (opener key))) f (opens beds x (subst (λ (n : ℕ). n ≤ most) (sym f) low) (subst (λ (f : ℕ). stands x f []) (sym f) new)))

@@ -85,7 +85,7 @@ module _ {T E : Type 0} (stands : T → ℕ → List E → Type 0) (seat_of : E 
       let own : owner_after n id r.owner n ≡ id = ap (λ b. cond b id (r.owner n)) (eq-eqb n n refl) in
       let other : (t : ℕ) → t ≢ n → owner_after n id r.owner t ≡ r.owner t = λ t ne. ap (λ b. cond b id (r.owner t)) (ne_eqb t n ne) in
       let none_held : v.holds ≡ true → ⊥ = λ h. let x = (k.holder h).1 in let y = sym free ∙ x in cc in record {
-        turns = record (r.turns) { ticket = n + 1; owner = owner_after n id r.owner; ahead = let a = r.ahead in omega arith };
+        turns = record (r.turns) { ticket = n + 1; owner = owner_after n id r.owner; ahead = let a = r.ahead in omega arith; bounded = omega (arith, room) };
         words = refl;
         home = r.home;
         out = λ t a b. dite (ℕ_discrete t n)

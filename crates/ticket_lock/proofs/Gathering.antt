@@ -89,6 +89,7 @@ module _ {T E : Type 0} (stands : T → ℕ → List E → Type 0) (seat_of : E 
         record {
           history = r.history;
           stood = r.stood;
+          bounded = omega (arith, r.come, r.bounded, even);
           each = λ i c e. let f = k.gathered i c e in (f.sees, f.owns, (λ spent. let m = f.ended spent in let c = r.come in omega arith), (let q = r.capped home in let z = f.low in omega arith));
           numbered = sums_up s r id records at all;
           named = r.named;

@@ -47,6 +47,7 @@ module _ {T E : Type 0} (stands : T → ℕ → List E → Type 0) (seat_of : E 
   pub record Whole (first count : ℕ) (records : List (SeatRecord E)) (x : T) : Type 0 where
     pub history : List E
     pub stood : stands x first history
+    pub bounded : first + length history ≤ most
     pub each : (k : ℕ) (c : SeatRecord E) → get_elem? records k ≡ some c → StartsWith history c.seen × (c.mine ≡ of_seat seat_of c.number history) × (c.spent ≡ true → first + length history ≡ most) × (c.known ≤ floor_of x)
     pub numbered : (f : ℕ → ℕ) → sum_by f (map (λ c. c.number) records) ≡ sum_by f (span 0 count)
     pub named : (k : ℕ) (e : E) → get_elem? history k ≡ some e → seat_of e < count
@@ -70,6 +71,7 @@ module _ {T E : Type 0} (stands : T → ℕ → List E → Type 0) (seat_of : E 
           all = all;
           history = h;
           stood = w.stood;
+          bounded = w.bounded;
           named = w.named;
           each = part;
           once = λ n l. weighed (times n) ∙ span_has n 0 count (omega arith) (omega (arith, l));

@@ -47,6 +47,8 @@ module _ {T E : Type 0} (stands : T → ℕ → List E → Type 0) (seat_of : E 
     pub owner : ℕ → ℕ
     pub come : serving ≡ key.first + length history
     pub ahead : serving ≤ ticket
+    -- no ticket bears the greatest number
+    pub bounded : ticket ≤ most
     pub stood : stands last key.first history
     -- while nobody has the turn, the floor word is no higher than the value's floor
     pub capped : away ≡ false → floor ≤ floor_of last

@@ -114,6 +114,8 @@ module _ {T E : Type 0} {C : Ghosts T E} where
     pub all : length seats ≡ count
     pub history : List E
     pub stood : stands value first history
+    -- each entry's number is below the greatest
+    pub bounded : first + length history ≤ most
     pub named : (k : ℕ) (e : E) → get_elem? history k ≡ some e → seat_of e < count
     pub each : (k : ℕ) (s : Seat T E C) → get_elem? seats k ≡ some s → IsPartOf seat_of first (floor_of value) history s
     -- each number below the count is the number of one seat
@@ -141,6 +143,7 @@ module _ {T E : Type 0} {C : Ghosts T E} where
     pub stood : stands value first (found new)
     pub begins : StartsWith (found new) (seen new)
     pub place : first + length (found new) ≡ t
+    pub below : t < most
     pub high : known old ≤ floor_of value
     pub unraised : raised new ≡ 0
 

@@ -41,7 +41,7 @@ fn may_want_memory(cmd: &Cmd) -> bool
 {
     match cmd {
         Cmd::Commit { .. } | Cmd::Abort { .. } | Cmd::Close { .. } | Cmd::CloseHard { .. } => false,
-        Cmd::Release { .. } | Cmd::Collect { .. } | Cmd::Cancel { .. } | Cmd::Stats => false,
+        Cmd::Release { .. } | Cmd::Cancel { .. } | Cmd::Stats => false,
         _ => true,
     }
 }

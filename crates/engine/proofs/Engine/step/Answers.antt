@@ -1,4 +1,4 @@
-use Rattle.engine.proofs.Histories.{goes_on, has_number, has_room, history_step}
+use Rattle.engine.proofs.Histories.{collect_answered, goes_on, has_number, has_room, history_step}
 use Rattle.engine.proofs.Engine.step.Goals as goal
 
 pub step-reply-requires-clause-number : goal.step-reply-requires-clause-number
@@ -12,3 +12,6 @@ invariant_of-self c = record { stands = goes_on c.args.self.now.layers c.step-re
 
 pub returns-clause-history : goal.returns-clause-history
 returns-clause-history c = λ h n stands. history_step c.args.self.now.layers c.step-reply.new.self c.args.self.now.steps h n c.args.seat c.args.cmd.now c.step-reply.result stands c.step-reply.ensures
+
+pub returns-clause-collects : goal.returns-clause-collects
+returns-clause-collects c = λ h to stands collects. collect_answered c.args.self.now.layers c.step-reply.new.self c.args.self.now.steps h c.args.seat to c.args.cmd.now c.step-reply.result stands collects c.step-reply.ensures

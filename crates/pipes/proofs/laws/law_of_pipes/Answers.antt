@@ -7,10 +7,10 @@ pub returns-clause-served : goal.returns-clause-served
 returns-clause-served c = λ f config r r' w w' e s whole. transcript_says s.output (run_text f config r r' w w' e s whole)
 
 pub returns-clause-raced : goal.returns-clause-raced
-returns-clause-raced c = λ f sessions text out few short raced. transcript_says out (race_text f sessions text out few short raced)
+returns-clause-raced c = λ f sessions text out raced. transcript_says out (race_text f sessions text out raced)
 
 pub returns-clause-kept : goal.returns-clause-kept
-returns-clause-kept c = λ d h stands keeps few. transcript_says (transcript_text Two (reverse h)) (kept_text d h stands keeps few)
+returns-clause-kept c = λ d h stands keeps. transcript_says (transcript_text Two (reverse h)) (kept_text d h stands keeps)
 
 pub returns-clause-run_text : goal.returns-clause-run_text
 returns-clause-run_text c = run_text

@@ -1,4 +1,4 @@
-use Rattle.std.proofs.Common.{◌≡◌, Some, refl, rules, sym, subst}
+use Rattle.std.proofs.Common.{arith, ◌≡◌, Some, refl, rules, sym, subst}
 use Rattle.embedded.proofs.Common.{Event, event}
 use Rattle.embedded.specs.Typed.{IsBulk}
 use Rattle.embedded.proofs.Stepping.{stands_next, bulk_no_read}
@@ -10,7 +10,7 @@ returns-clause-made c h held =
     let e : Event = event c.steps-position.result c.args.seat c.args.cmd c.step-reply.result in
     record {
       event = e;
-      holds = stands_next h e c.step-reply.new.self c.args.self.now _ held (c.step-reply.ensures.history h c.steps-position.result held.stands) refl at refl (search rules);
+      holds = stands_next h e c.step-reply.new.self c.args.self.now _ held (c.step-reply.ensures.history h c.steps-position.result held.stands) refl at (omega (arith, c.if-position.false)) refl (search rules);
       position = at;
       seat = refl;
       command = refl;

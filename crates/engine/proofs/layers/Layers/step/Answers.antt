@@ -1,3 +1,4 @@
+use Rattle.std.proofs.Common.{inl}
 use Rattle.engine.specs.Layers.{feeds_of}
 use Rattle.engine.proofs.Replies.{alone, rules_answer}
 use Rattle.engine.proofs.layers.Layers.step.Goals as goal
@@ -43,4 +44,4 @@ returns-in-Release c = rules_answer c.args.self.now c.release.new.self c.args.se
 
 pub returns-in-Collect : goal.returns-in-Collect
 returns-in-Collect c = let e = c.args.self.now in
-    alone e c.collect.new.self c.args.seat c.args.cmd.now _ c.collect.result c.in-Collect.is (c.collect.ensures.step c.args.seat (feeds_of e.feeds) c.least_floor.ensures)
+    alone e c.collect.new.self c.args.seat c.args.cmd.now _ c.collect.result c.in-Collect.is (inl (c.collect.ensures.answered c.args.seat (feeds_of e.feeds) c.least_floor.ensures))
