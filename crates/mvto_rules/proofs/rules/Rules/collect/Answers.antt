@@ -7,11 +7,11 @@ use Rattle.mvto_rules.proofs.Noting.{same_marks}
 use Rattle.mvto_rules.proofs.rules.Rules.collect.Goals as goal
 
 pub returns-then-to-gt-MAX : goal.returns-then-to-gt-MAX
-returns-then-to-gt-MAX c = record { step = λ seat k lowest. collect_outside (holding k c.args.self.now) seat c.args.to (omega arith) }
+returns-then-to-gt-MAX c = record { answered = λ seat k lowest. collect_outside (holding k c.args.self.now) seat c.args.to (omega arith) }
 
 pub returns : goal.returns
 returns c = record {
-  step = λ seat k lowest.
+  answered = λ seat k lowest.
       let limit = c.limit.ensures in let dead = c.drop_dead-removed.ensures.collected in let r = c.args.self.now in
       let low : c.args.to ≤ MAX = first_of (omega arith, grind (arith, nat_tests), search rules) in
       let so : c.max-horizon.result ≡ reached (holding k r) c.args.to limit.protection c.args.floor = c.max-horizon.ensures ∙ ap (max r.horizon) (c.min.ensures ∙ ap (min c.args.to) limit.is ∙ held_back limit.protection c.args.floor c.args.to (closed_in r.closing)) in
