@@ -1,5 +1,5 @@
 -- A run that stopped, once its database is finished.
-use Rattle.std.proofs.Common.{◌≡◌, ◌≢◌, ℕ, ◌+◌, List, [], ◌++◌, length, refl, sym, ap, ◌∙◌, subst, append-nil, append_assoc, inl, arith}
+use Rattle.std.proofs.Common.{◌≡◌, ◌≢◌, ℕ, ◌+◌, ◌≤◌, List, [], ◌++◌, length, refl, sym, ap, ◌∙◌, subst, append-nil, append_assoc, inl, arith}
 use Rattle.sessions.proofs.Common.{Config, Event, Format, RingInRange, SeatsInRange, first_of, most, script_at, script_text}
 use Rattle.sessions.specs.declared.ending.ServeEnd.{ServeEnd}
 use Rattle.sessions.specs.declared.ending.ServeEnd.TheVariants as end
@@ -78,10 +78,10 @@ module _ (r r' : Reads) (w w' : Writes) (run : Run) (e : ServeEnd) (s : IsStoppe
         (cut_off run.terms.format (run.terms.config.first + length s.events ≡ most) run.terms.config input r'.ended s.events e (s.out ++ left) (s.out ++ t.part) owed (rest, ap (λ (xs : List ℕ). s.out ++ xs) t.left ∙ sym (append_assoc s.out t.part rest)))
 
 -- nothing was begun
-unbegun : (format : Format) (config : Config) (r : Reads) (w : Writes) (e : ServeEnd) → EndsBy format (config.first + 0 ≡ most) config [] r.ended [] [] e → IsOpenAt config e → FailsBy e r w r w → IsServed format config r r w w e
-unbegun format config r w e ends opened failed = record {
+unbegun : (format : Format) (config : Config) (r : Reads) (w : Writes) (e : ServeEnd) → config.first ≤ most → EndsBy format (config.first + 0 ≡ most) config [] r.ended [] [] e → IsOpenAt config e → FailsBy e r w r w → IsServed format config r r w w e
+unbegun format config r w e low ends opened failed = record {
   events = [];
-  history = record { legal = tt; gapless = tt };
+  history = record { legal = tt; gapless = tt; bounded = omega (arith, low) };
   input = [];
   read = sym (append-nil r.given);
   output = [];
@@ -92,7 +92,7 @@ unbegun format config r w e ends opened failed = record {
   failed = failed;
 }
 
-pub served_refused : (format : Format) (config : Config) (r : Reads) (w : Writes) (e : ServeEnd) → IsRefused config e → IsServed format config r r w w e
-served_refused format config r w (end.Open reason) why = unbegun format config r w (end.Open reason) (why, refl, refl, refl) tt (refl, refl)
-served_refused format config r w end.Memory why = unbegun format config r w end.Memory (inl (refl, refl, refl)) why (refl, refl)
-served_refused format config r w _ why = absurd why
+pub served_refused : (format : Format) (config : Config) (r : Reads) (w : Writes) (e : ServeEnd) → config.first ≤ most → IsRefused config e → IsServed format config r r w w e
+served_refused format config r w (end.Open reason) low why = unbegun format config r w (end.Open reason) low (why, refl, refl, refl) tt (refl, refl)
+served_refused format config r w end.Memory low why = unbegun format config r w end.Memory low (inl (refl, refl, refl)) why (refl, refl)
+served_refused format config r w _ low why = absurd why
