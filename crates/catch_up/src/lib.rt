@@ -33,7 +33,7 @@
 //!
 //! Both calls take memory for the rows told. Where `next_rows` turns to the chains, it also takes memory for a place in
 //! them for each row that it still wants, and for one more. `next_snapshot` also takes memory for a copy of the span.
-//! They change nothing, so a refusal leaves no trace.
+//! Neither call changes anything, so one that runs out of memory leaves no trace.
 //!
 //! Tests: `unit_tests`, `job_tests`.
 #![tactic(auto)]

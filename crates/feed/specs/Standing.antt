@@ -1,5 +1,5 @@
--- The feeds that live, each seen as its place, how many were opened, what a report tells of them, and how the order of
--- floors is tied to them.
+-- The feeds that live, each seen as its place, and how many were opened; what a poll and a report tell of them; and how
+-- the order of floors is tied to them.
 use Rattle.std.specs.Prelude.{List, None, Option, Some, [], if◌then◌else◌, min, ℕ, ◌∷◌, false, is_some, length, nat_eq, option_map, take, ◌==◌, ◌≡◌, Bool, true, ◌≤◌}
 use Rattle.std.specs.BTreeMap.{is_at}
 use Rattle.std.specs.BTreeSet.{BTreeSet, contains}
@@ -109,8 +109,8 @@ is_floor (Some place) t = place_floor place == t
 abbrev pub IsFloorMoved : BTreeSet (ℕ × ℕ) → BTreeSet (ℕ × ℕ) → ℕ → ℕ → ℕ → Type 0
 IsFloorMoved floors floors' f b a = (q : ℕ × ℕ) → contains pair_cmp floors' q ≡ (if is_at (pair_cmp (a, f)) q then true else (if is_at (pair_cmp (b, f)) q then false else contains pair_cmp floors q))
 
--- the order has the floor of each feed that lives, with its number, and nothing else; no number is above that of the
--- feeds that were opened
+-- the order has the floor of each feed that lives, with its number, and nothing else; no feed that lives has a number
+-- above `opened`
 pub record AreTied (opened : ℕ) (live : Lives) (floors : BTreeSet (ℕ × ℕ)) : Type 0 where
   pub numbered : (f : ℕ) (place : Place) → lookup (nat_eq f) live ≡ Some place → f ≤ opened
   pub each : (t f : ℕ) → contains pair_cmp floors (t, f) ≡ is_floor (lookup (nat_eq f) live) t

@@ -182,7 +182,7 @@ fn is_above(row: &Option<RowName>, ts: u64) -> bool
     }
 }
 
-/// Up to where all is told, where all is through `after` and `row` is the last row.
+/// Up to where all is told: `after`, or just below the timestamp of `row`, the last row, where that is higher.
 fn told_through(after: u64, row: &Option<RowName>) -> u64
     ensures { result ≡ max after (row_floor row.now) }
 {

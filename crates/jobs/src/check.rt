@@ -7,9 +7,9 @@ use crate::verdicts::verdict;
 use sessions::{ServeEnd, Sink, Source, read_whole, write_whole};
 use std::alloc::Global;
 
-/// Reads a transcript, and writes `yes` where it is one that the database could have written, else `no P`
-/// with the position of the first event where it isn't. A transcript that can't be read gets its fault
-/// line, and no verdict. Where memory runs out, nothing is written.
+/// Reads a transcript, and writes `yes` where it is a legal history, else `no P` with the position of the first event by
+/// which it isn't. A transcript that can't be read gets its fault line, and no verdict. Where memory runs out, nothing is
+/// written.
 pub fn check_io<S: Source, K: Sink>(alloc: Global, input: &mut S, output: &mut K) -> End
     ensures answered { IsAnswered IsVerdict (S.reads input.old) (S.reads input.new) (K.writes output.old) (K.writes output.new) result }
     ensures memory { IsSilentAt result (K.writes output.old) (K.writes output.new) }

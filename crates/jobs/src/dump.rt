@@ -16,8 +16,7 @@ use trace_check::checker::Checker;
 
 /// Reads a transcript, and writes the script of session 0 that rebuilds its database. The script closes at `at`, or at the
 /// greatest of closed and all that began where that is above or none is given, and ends in a collection. Where the transcript
-/// isn't one that the database could have written it answers as `check` does: `no P`, or the fault line. Where memory
-/// runs out, nothing is written.
+/// is no legal history it answers as `check` does: `no P`, or the fault line. Where memory runs out, nothing is written.
 pub fn dump_io<S: Source, K: Sink>(
     alloc: Global,
     at: Option<Ts>,

@@ -27,9 +27,8 @@ impl Detail {
     }
 }
 
-/// Reads a transcript, and writes the state after its last event: lines of JSON, whole or live. Where it isn't one that the
-/// database could have written it answers as `check` does: `no P`, or the fault line. Where memory runs out, nothing is
-/// written.
+/// Reads a transcript, and writes the state after its last event: lines of JSON, whole or live. Where it is no legal
+/// history it answers as `check` does: `no P`, or the fault line. Where memory runs out, nothing is written.
 pub fn state_io<S: Source, K: Sink>(
     alloc: Global,
     detail: Detail,

@@ -12,9 +12,9 @@ use text_format::Format;
 use trace_check::checker::Checker;
 use word_lines::events::write_fault;
 
-/// How the check of a text ends, and what it writes: `yes` where the text is a transcript that the
-/// database could have written, in the format that its first line says, else `no P` with the position
-/// of the first event where it isn't. A text that can't be read gets its fault line, and no verdict.
+/// How the check of a text ends, and what it writes: `yes` where the text is the transcript of a legal history, in the
+/// format that its first line says, else `no P` with the position of the first event by which it isn't. A text that can't
+/// be read gets its fault line, and no verdict.
 /// It costs what reading and checking do, and holds one event at a time.
 pub fn verdict(alloc: Global, text: &[u8]) -> Result<(End, Vec<u8>), AllocError>
     ensures { IfOk result (λ answer. IsVerdict text.now answer.0 answer.1.items) }

@@ -73,6 +73,7 @@ unfoldable pub value_of : Format → Option (List ℕ) → Result (Option (List 
 value_of format None = Ok None
 value_of format (Some bytes) = if nat_le (length bytes) (value_limit format) then Ok (Some bytes) else Err Length
 
+-- a row: its number is tested first, then base64, then lengths
 unfoldable pub row_of : Format → Option (List ℕ) → List ℕ → List ℕ → Result Row MessageFault
 row_of format after_text key_text updated = do
   ts ← timestamp_of updated
@@ -82,7 +83,6 @@ row_of format after_text key_text updated = do
   after ← value_of format after_bytes
   Ok (record { ts = ts; key = key; after = after })
 
--- the order of tests: numbers first, then base64, then lengths
 unfoldable pub message_of : Format → Texts → Result Message MessageFault
 message_of format (resolved text) = do
   ts ← timestamp_of text

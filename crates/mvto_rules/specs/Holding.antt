@@ -1,5 +1,5 @@
 -- What the rules hold, as a part of what an engine keeps: all of it but the feeds; what they tell without a command,
--- how far a collection can go, and what a closing takes back.
+-- how far a collection can go, and what a hard closing takes back.
 use Rattle.std.specs.Prelude.{Bool, List, None, Option, Some, ℕ, if◌then◌else◌, is_some, true, ◌≡◌, ◌≤◌, ◌⊎◌, map, length, nat_le, ◌&&◌}
 use Rattle.spans.specs.declared.calls.commands.Cmd.{Cmd}
 use Rattle.spans.specs.declared.calls.replies.Reply.{Reply}

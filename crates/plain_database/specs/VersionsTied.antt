@@ -20,7 +20,7 @@ abbrev pub place_of : Option Visible → Version
 place_of None = version_at 0 None
 place_of (Some v) = version_at v.ts v.after.now
 
--- the store says what the definitions say of p (a record type without a name: what an effect leaves alone is the same)
+-- the store says what the definitions say of p (no named type, so what an effect leaves alone stays by definition)
 abbrev pub VersionsTied : Held → List Effect → Type 0
 VersionsTied h p = record {
   closed_at : h.closed ≡ closed_of p;

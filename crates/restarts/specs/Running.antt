@@ -1,5 +1,5 @@
--- A history that goes on: with steps whose answers are foreseen, with commands that are answered, and with a crash:
--- what a restart leaves of a database is what these commands leave of it (this project).
+-- A history that goes on: with steps whose answers are foreseen, with commands that are answered, and with a crash, by
+-- commands that leave of a database what a restart does (this project).
 use Rattle.std.specs.Prelude.{List, [], ◌∷◌, length, ℕ, ◌++◌, map}
 use Rattle.spans.specs.Answer.{answer_of}
 use Rattle.restarts.specs.Prelude.{Cmd, Event, Reply, effects_of, event, Cancel, CloseHard, Effect, LiveFeed, Protection, Release, live_feeds, protections_of}

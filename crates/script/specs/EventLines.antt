@@ -64,7 +64,7 @@ abbrev pub is_lawful : Format → Message → Bool
 is_lawful format (message.Row row) = is_timestamp row.ts && is_key format row.key && is_after format row.after
 is_lawful format (message.Resolved ts) = is_timestamp ts
 
--- what stands between the quotes, where the line is that of this message
+-- the message that is made of what stands between the quotes, where it is lawful and the line is its own
 unfoldable pub message_of : Format → List ℕ → Option Message
 message_of format line = option_and_then (λ m. if is_lawful format m && bytes_eq (message_line m) line then Some m else None) (between (slice_split (λ b. b == 34) line))
 

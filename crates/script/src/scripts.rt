@@ -24,7 +24,7 @@ use word_lines::commands::read_command;
 
 /// Reads a script of a format, which has no header: the session, below `seats`, and the command of each line, or the
 /// first line that is faulty. Lines are counted from 1, and the last one has to end in a newline too. Memory is wanted
-/// only to keep a call, or where the first line has a key, a value or a bound of more than 24 bytes.
+/// only where there is a call to keep, or where the first line has a key, a value or a bound of more than 24 bytes.
 pub fn read_script(
     alloc: Global,
     text: &[u8],
@@ -35,7 +35,7 @@ pub fn read_script(
     ensures found { IfOk result (λ calls. (text.now ≡ script_text calls.items) × All (IsCall format seats) calls.items) }
     // Which fault it is, and in which line: the first from the top and from the left.
     ensures exact { TellsScript (λ calls. calls.items) result (script_at format seats text.now) }
-    // Memory is wanted only to keep a call, or for a long key, value or bound of the first line.
+    // Memory is wanted only where there is a call to keep, or for a long key, value or bound of the first line.
     ensures memory { IfErr result (λ e. e ≡ NoMemory → ScriptWants format seats text.now) }
 {
     let mut lines = Lines::below(text, 0);

@@ -8,7 +8,7 @@
 //! ```
 //!
 //! The place of `=>` is known from the number of the command's arguments, so a value may be spelled so.
-//! A number of lines that follow asks for no room by itself: it is made line by line.
+//! However many lines an answer counts, room is made line by line, as they come.
 ghost use Rattle.std.specs.Prelude.{◌≡◌, ◌≢◌, ◌⊎◌, [], IfOk, IfErr};
 ghost use Rattle.std.specs.List.{All};
 ghost use Rattle.script.specs.Prelude.{IsEvent};
@@ -24,9 +24,8 @@ use text_format::Format;
 /// Reads a transcript of a format: its events, or the first line that is faulty. A text that doesn't begin with the
 /// format's header is faulty in its first line, by `WordCount`.
 ///
-/// A number of lines that follow asks for no room by itself. Memory is wanted only to keep an event, or where the first
-/// event's first line, read up to `=>`, has a key, a value or a bound of more than 24 bytes, or such an answer, or
-/// where a line follows that it counts.
+/// Memory is wanted only where there is an event to keep, or where the first event's first line, read up to `=>`, has a
+/// key, a value or a bound of more than 24 bytes, or such an answer, or where a line follows that it counts.
 pub fn read_transcript(
     alloc: Global,
     text: &[u8],
@@ -36,7 +35,8 @@ pub fn read_transcript(
     ensures found { IfOk result (λ events. (text.now ≡ transcript_text format events.items) × All (IsEvent format) events.items) }
     // Which fault it is, and in which line: the first from the top and from the left.
     ensures exact { Tells (λ events. events.items) result (transcript_at format text.now) }
-    // Memory is wanted only to keep an event, or where the first event may want it, whether it is right or faulty.
+    // Memory is wanted only where there is an event to keep, or where the first may want it, whether it is right or
+    // faulty.
     ensures memory { IfErr result (λ e. e ≡ NoMemory → TranscriptWants format text.now) }
 {
     let left = Events::new(text, format)?;

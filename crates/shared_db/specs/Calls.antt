@@ -5,7 +5,7 @@ use Rattle.shared_db.specs.declared.calls.CallDenied.{CallDenied}
 use Rattle.shared_db.specs.declared.calls.CallDenied.TheVariants.{Busy, Spent}
 use Rattle.shared_db.specs.History.{StandsFor, closed_after}
 
--- The event is the last of one legal history, gapless from first on, which goes on from what the seat had seen.
+-- The event is the last of one legal history, gapless from first on: what the seat had seen, others' events, and it.
 pub record IsAnswered {C : Ghosts Served Event} (first : ℕ) (old : Seat Served Event C) (cmd : Cmd) (event : Event) (new : Seat Served Event C) : Type 0 where
   pub between : List Event
   pub history : seen new ≡ (seen old ++ between) ++ event ∷ []

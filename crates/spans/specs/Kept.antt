@@ -50,7 +50,7 @@ pub record Kept : Type 0 where
 abbrev pub kept_version : List Effect → List ℕ → ℕ → Option After
 kept_version p x t = if is_dead p (version_name x t) then None else version_of p x t
 
--- the seat's transaction of t, and how it stands (in a legal history none has committed and was aborted too)
+-- the seat's transaction of t, and how it stands (in a legal history none is both committed and aborted)
 abbrev pub transaction_with : List Effect → ℕ → ℕ → Transaction
 transaction_with p t seat = record { seat = seat; state = if is_committed p t then states.Committed else (if is_aborted p t then states.Aborted else states.Undecided) }
 

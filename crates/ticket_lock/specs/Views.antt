@@ -1,4 +1,4 @@
--- What a seat of the table knows, what each step makes of it, and what it is between two calls.
+-- What a seat of the table knows, what each step makes of that, and how a seat stands between two calls.
 use Rattle.std.specs.Prelude.{ℕ, List, [], ◌∷◌, ◌++◌, map, max, Option, Some, None, true, false, cond, ◌≡◌, ◌<◌, Bool}
 use Rattle.atomic_table.specs.Table.{Me}
 use Rattle.atomic_table.specs.declared.shared.Seat.{Seat}

@@ -8,7 +8,7 @@ use std::marker::Model;
 /// The most bytes that lie in place.
 pub(crate) const FEW: usize = 24;
 
-/// The bytes of one word.
+/// How many bytes a word has.
 const WORD_BYTES: usize = 8;
 
 /// Up to [`FEW`] bytes, ordered byte by byte, a beginning before what it begins.

@@ -1,4 +1,4 @@
--- What a store means: which versions and readers each key has, what a read marks, and the keys of a span.
+-- What a store means: each key's versions and readers, which are committed, what a step changes; the keys of a span.
 use Rattle.std.specs.Prelude.{ℕ, List, [], ◌∷◌, Bool, true, false, ◌≡◌, ◌==◌, ◌&&◌, if◌then◌else◌, bytes_eq, Option, unwrap_or, ◌<◌, ◌≤◌, ◌||◌, Some, None, option_map, is_some, length}
 use Rattle.std.specs.BTreeMap.Range.{entries_between}
 use Rattle.std.specs.declared.ops.Bound.{Bound}

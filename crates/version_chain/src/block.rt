@@ -47,8 +47,8 @@ pub(crate) fn number_from(blocks: &mut Vec<Block>, first: usize, start: usize)
     }
 }
 
-/// Makes two blocks of one, where it has become too full. Those from its place on are then to be numbered. Where that
-/// runs out of memory the one stays.
+/// Makes two blocks of one, where it has become too full. Where memory runs out, the one stays. Those from its place on
+/// are then to be numbered.
 pub(crate) fn halve_full(blocks: &mut Vec<Block>, k: usize) -> Result<(), AllocError>
     requires { k < length blocks.old.items }
     ensures versions { all_in blocks.new.items ≡ all_in blocks.old.items }

@@ -95,7 +95,8 @@ impl<'a> Iterator for InSpan<'a> {
     }
 }
 
-/// Whether the key is below the bound, where there is one.
+/// Whether the key is below the bound, where there is one. Its bytes are compared here, since they also show the proof
+/// that no key is too long: so a step makes one call less than by the function of `spans`.
 fn is_below(high: &Option<Bound>, key: &Key) -> bool
     ensures below { result ≡ below_high high.now key.now }
     ensures in_range { length key.now ≤ MAX_KEY_BYTES }

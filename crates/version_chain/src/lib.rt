@@ -30,9 +30,9 @@
 //! no hint of the table leads to it:
 //!
 //! - `newest_at`, `next_above`, `around`, `committed_at`: O(log v log b), and at most as many timestamps as v has binary digits
-//! - `write`: the same, O(log k) for a key that had no record, and O(log n) in the index. It looks at the end of the
-//!   chain first. The versions above its own in its block move, and the starts of the blocks behind it rise. Where a
-//!   reader is above it, it searches readers and chain before that
+//! - `write`: the same, O(log k) for a key that had no record, and O(log n) in the index. Where a reader is above it, it
+//!   first searches readers and chain. For its place it looks at the end of the chain, and searches where that is above.
+//!   The versions above its own in its block move, and the starts of the blocks behind it rise
 //! - `mark`: O(log m) with m readers of the key, and O(log k) for one that had no record. At the spot that `around` gave the
 //!   key is compared once, and not searched
 //! - `mark_all`: O(log k), `around` and `mark` for each record of the span, and O(log s) for each start between its bounds
