@@ -37,7 +37,7 @@ SHARES = {
     "stats": (2, ""),
 }
 KEYS = [b"a", b"b", b"ab", b"-", b"\x00", b"\xff%", b"=>"]
-VALUES = [b"", b"1", b"2", b"-", b"=> x", bytes(range(256))]
+VALUES = [b"", b"1", b"2", b"-", b"=> x", bytes(range(0, 256, 17))]
 ENDS = [0, 1, MAX - 1, MAX, MAX + 1, 2**64 - 1]
 
 
@@ -48,7 +48,7 @@ class Drawing:
         self.dice = dice
         self.is_two = dice.random() < 0.3
         self.keys = dice.sample(KEYS, 3) + [b"k" * (256 if self.is_two else 64)]
-        self.values = VALUES + [b"v" * (65536 if self.is_two and dice.random() < 0.05 else 1024)]
+        self.values = VALUES + [b"v" * (65536 if self.is_two else 1024)] * (dice.random() < 0.03)
         self.seats = [0, 1, dice.choice([2, 63])]
         self.wants = dice.choice([0, 0.1, 0.4])
         self.now = dice.choice([3, 10, 10**12, MAX - 30])
