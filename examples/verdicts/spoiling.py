@@ -41,20 +41,22 @@ def answered_otherwise(drawing: Drawing, e: Event) -> Event:
     return e._replace(reply=drawing.dice.choice(drawing.dice.choice([replies, REFUSALS, OTHERS])))
 
 
-def miscounted(drawing: Drawing, e: Event) -> Event:
-    """A number of its reply is one more or less, or its value another."""
-    reply, at = list(e.reply), drawing.dice.randrange(1, len(e.reply)) if len(e.reply) > 1 else 0
+def told_otherwise(drawing: Drawing, e: Event) -> Event:
+    """A number of its reply is one more or less, or its value, its rows or its messages are others."""
+    if len(e.reply) == 1:
+        return e
+    reply, at = list(e.reply), drawing.dice.randrange(1, len(e.reply))
     if isinstance(reply[at], tuple):
         reply[at] = with_other_lines(drawing, list(reply[at]))
     elif isinstance(reply[at], int):
         reply[at] = beside(drawing, reply[at])
-    elif at:
+    else:
         reply[at] = drawing.dice.choice([None, drawing.argument("v")])
     return e._replace(reply=tuple(reply))
 
 
 def with_other_lines(drawing: Drawing, lines: list) -> tuple:
-    """Rows or messages of which one is gone, changed or told twice, or two have changed places."""
+    """Rows or messages of which one is gone, told twice, moved to the end, or changed."""
     if not lines:
         return ()
     at = drawing.dice.randrange(len(lines))
@@ -72,13 +74,14 @@ def with_other_lines(drawing: Drawing, lines: list) -> tuple:
 
 def with_another_part(drawing: Drawing, line: tuple) -> tuple:
     """A row or a message with another timestamp, key or value."""
+    kinds = {1: "n", 2: "kv", 3: "nkv"}[len(line)]
     parts, at = list(line), drawing.dice.randrange(len(line))
-    if isinstance(parts[at], int):
+    if kinds[at] == "n":
         parts[at] = beside(drawing, parts[at], 1, MAX)
-    elif at == len(line) - 2:
-        parts[at] = drawing.argument("k")
+    elif at == 2 and drawing.dice.random() < 0.5:
+        parts[at] = None
     else:
-        parts[at] = drawing.dice.choice([None] * (len(line) == 3) + [drawing.argument("v")])
+        parts[at] = drawing.argument(kinds[at])
     return tuple(parts)
 
 
@@ -97,7 +100,7 @@ def asked_otherwise(drawing: Drawing, e: Event) -> Event:
     return e._replace(cmd=tuple(cmd))
 
 
-OF_ONE = [lacking_memory, lacking_memory, answered_otherwise, miscounted, miscounted, asked_otherwise, asked_otherwise]
+OF_ONE = [answered_otherwise] + 2 * [lacking_memory, told_otherwise, asked_otherwise]
 
 
 def dropped(drawing: Drawing, events: List[Event], at: int) -> List[Event]:
