@@ -3,9 +3,9 @@ is slow, was written from the definitions alone, and shares nothing with the pro
 
 A history `h` is a list of events, its oldest first, and `h[:i]` what came before the event i. An event is its position,
 the seat that called, its command and the reply. Commands and replies are tuples with the names of their texts, as
-`("put", 10, b"a", b"1")` and `("committed", 1)`, but a read's reply is `("found", value)`, whose value may be None. Keys
-and values are bytes, a span is its two bounds, each of which may be None. A message is a row `(t, key, after)`, whose
-`after` is None for a delete, or a resolved timestamp `(t,)`. t, i, j, k are timestamps, x and y keys.
+`("put", 10, b"a", b"1")` and `("committed", 1)`, but a read's reply is `("found", value)`, whose value may be None.
+Keys and values are bytes, a span is its two bounds, each of which may be None. A message is a row `(t, key, after)`,
+whose `after` is None for a delete, or a resolved timestamp `(t,)`. t, i, j, k are timestamps, x and y keys.
 """
 
 from typing import Dict, List, NamedTuple, Optional, Set, Tuple
@@ -119,7 +119,7 @@ def committed_versions(h: History) -> List[Tuple[bytes, int, Optional[bytes]]]:
 
 
 def newest(versions: list, x: bytes, t: int) -> Tuple[int, Optional[bytes]]:
-    """Of the versions of x the timestamp and the value of the newest at or below t, and 0 and None where there is none."""
+    """The newest of the versions of x at or below t, by its timestamp and its value, or else 0 and None."""
     return max([(k, a) for y, k, a in versions if y == x and k <= t], key=lambda found: found[0], default=(0, None))
 
 
@@ -191,7 +191,7 @@ def map_at(h: History, t: int) -> Dict[bytes, Optional[bytes]]:
 
 
 def list_of(h: History, feed: Feed) -> List[tuple]:
-    """What a feed tells: its stream, and before that, where it is initial, the map at its cursor as rows of the cursor."""
+    """What a feed tells: its stream, and before that, if it is initial, the map at its cursor as rows of the cursor."""
     at_first = map_at(h, feed.cursor) if feed.initial else {}
     rows = [(feed.cursor, x, a) for x, a in sorted(at_first.items()) if a is not None and holds(feed.span, x)]
     return rows + stream_of(h, feed.span, feed.cursor)
@@ -206,8 +206,8 @@ def is_due(feed: Feed, told: List[tuple], at: int) -> bool:
 
 
 def next_messages(h: History, f: int, most: int) -> tuple:
-    """The rows of the feed's list at or below closed that weren't told, then the resolved message that is due; the first
-    `most` of all these."""
+    """The rows of the feed's list at or below closed that weren't told, then the resolved message that is due; of these
+    the first `most`."""
     told, at = told_to(h, f), closed(h)
     rows = [row for row in list_of(h, feeds(h)[f]) if row[0] <= at and row not in told]
     return tuple((rows + [(at,)] * is_due(feeds(h)[f], told, at))[:most])

@@ -54,9 +54,9 @@ class Drawing:
         self.now = dice.choice([3, 10, 10**12, MAX - 30])
         self.events: List[Event] = []
 
-    def near(self, at: int, below: int, above: int, ends: float = 0.02) -> int:
-        """A timestamp near this one, or at an end of the range."""
-        return self.dice.choice(ENDS) if self.dice.random() < ends else max(0, at + self.dice.randrange(-below, above))
+    def near(self, at: int, below: int, above: int) -> int:
+        """A timestamp near this one, or now and then at an end of the range."""
+        return self.dice.choice(ENDS) if self.dice.random() < 0.02 else max(0, at + self.dice.randrange(-below, above))
 
     def one_of(self, known, other: int) -> int:
         """As a rule one of what there is."""
@@ -79,7 +79,7 @@ class Drawing:
         draw = {
             "b": self.begins,
             "t": lambda: self.one_of(definitions.undecided(h), self.near(self.now, 8, 4)),
-            "c": lambda: self.near(self.now, 12, 1, 0.002),
+            "c": lambda: self.near(self.now, 12, 1),
             "n": lambda: self.near(definitions.closed(h), 5, 3),
             "k": lambda: self.dice.choice(self.keys),
             "v": lambda: self.dice.choice(self.values),

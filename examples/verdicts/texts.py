@@ -38,8 +38,8 @@ HEADER = "mvfeed 2\n"
 
 
 def spelled(it: Optional[bytes]) -> str:
-    """The word of bytes, or of a bound that isn't there: a byte that is no printable character, or is a percent sign, is
-    `%` and two digits, no bytes are a hyphen, and so a lone hyphen is `%2D`."""
+    """The word of bytes, or of a bound that isn't there. A byte that is no printable character, or a percent sign, is `%`
+    and two digits; no bytes are a hyphen, and so a lone hyphen is `%2D`."""
     if not it or it == b"-":
         return "%2D" if it else "-"
     return "".join(chr(byte) if 0x21 <= byte <= 0x7E and byte != 0x25 else "%%%02X" % byte for byte in it)
