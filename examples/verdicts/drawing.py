@@ -10,32 +10,34 @@ from typing import List, Optional, Tuple
 import definitions
 from definitions import MAX, NO_MEMORY, Event
 
-# How often each command is drawn, and of what kind its arguments are: a transaction t or a new one b, a timestamp c to
-# close at or n near closed, a key k, a value v, a span s, a feed f or a protection p by number, a gap g, the most
-# messages m.
+# How often each command is drawn, and of what kind its arguments are: a transaction t or an old one o or a new one b, a
+# timestamp c to close or collect at or n near closed, a key k, a value v, a span s, a feed f or a protection p by
+# number, a gap g, the most messages m.
 SHARES = {
-    "begin": (20, "b"),
-    "get": (16, "tk"),
+    "begin": (8, "b"),
+    "get": (14, "tk"),
     "scan": (8, "ts"),
-    "put": (20, "tkv"),
-    "del": (6, "tk"),
-    "commit": (11, "t"),
+    "put": (24, "tkv"),
+    "del": (8, "tk"),
+    "commit": (18, "o"),
     "abort": (2, "t"),
-    "close": (6, "c"),
-    "closehard": (2, "c"),
+    "close": (8, "c"),
+    "closehard": (3, "c"),
     "readat": (4, "nk"),
     "scanat": (4, "ns"),
-    "protect": (3, "n"),
-    "release": (2, "p"),
-    "collect": (5, "n"),
-    "open": (4, "sn"),
-    "openinitial": (4, "sn"),
-    "openevery": (3, "sng"),
-    "openinitialevery": (3, "sng"),
+    "protect": (2, "n"),
+    "release": (3, "p"),
+    "collect": (7, "c"),
+    "open": (2, "sn"),
+    "openinitial": (2, "sn"),
+    "openevery": (1, "sng"),
+    "openinitialevery": (1, "sng"),
     "poll": (16, "fm"),
-    "cancel": (2, "f"),
+    "cancel": (3, "f"),
     "stats": (2, ""),
 }
+# Of the others a history leaves out some, so that now and then nothing holds the horizon, or nobody is aborted.
+ALWAYS = ("begin", "put", "commit", "close", "collect")
 KEYS = [b"a", b"b", b"ab", b"-", b"\x00", b"\xff%", b"=>"]
 VALUES = [b"", b"1", b"2", b"-", b"=> x", bytes(range(0, 256, 17))]
 ENDS = [0, 1, MAX - 1, MAX, MAX + 1, 2**64 - 1]
@@ -47,11 +49,13 @@ class Drawing:
     def __init__(self, dice: random.Random):
         self.dice = dice
         self.is_two = dice.random() < 0.3
-        self.keys = dice.sample(KEYS, 3) + [b"k" * (256 if self.is_two else 64)]
+        self.keys = dice.sample(KEYS, dice.randrange(1, 4)) + [b"k" * (256 if self.is_two else 64)]
         self.values = VALUES + [b"v" * (65536 if self.is_two else 1024)] * (dice.random() < 0.03)
         self.seats = [0, 1, dice.choice([2, 63])]
+        share = dice.choice([0.3, 0.6, 0.9])
+        self.names = [name for name in SHARES if name in ALWAYS or dice.random() < share]
         self.wants = dice.choice([0, 0.1, 0.4])
-        self.now = dice.choice([3, 10, 10**12, MAX - 30])
+        self.now = self.start = dice.choice([3, 10, 10**12, MAX - 30])
         self.events: List[Event] = []
 
     def near(self, at: int, below: int, above: int) -> int:
@@ -79,27 +83,30 @@ class Drawing:
         draw = {
             "b": self.begins,
             "t": lambda: self.one_of(definitions.undecided(h), self.near(self.now, 8, 4)),
-            "c": lambda: self.near(self.now, 12, 1),
-            "n": lambda: self.near(definitions.closed(h), 5, 3),
+            "o": lambda: self.one_of(sorted(definitions.undecided(h))[:2], self.near(self.now, 8, 4)),
+            "c": lambda: self.near(self.now, 8, 2),
+            "n": lambda: self.near(max(definitions.closed(h), self.start), 5, 3),
             "k": lambda: self.dice.choice(self.keys),
             "v": lambda: self.dice.choice(self.values),
             "s": self.span,
             "f": lambda: self.one_of(definitions.feeds(h), self.dice.randrange(4)),
             "p": lambda: self.one_of(definitions.protections(h), self.dice.randrange(4)),
             "g": lambda: self.dice.choice(ENDS) if self.dice.random() < 0.1 else self.dice.randrange(7),
-            "m": lambda: self.dice.choice([0, 1, 1, 2, 3, 10, 2**64 - 1]),
+            "m": lambda: self.dice.choice([0, 1, 1, 2, 3, 10, 10, 2**64 - 1]),
         }
         return draw[kind]()
 
     def command(self) -> tuple:
-        """A command of any kind."""
-        name = self.dice.choices(list(SHARES), [share for share, _ in SHARES.values()])[0]
+        """A command of one of the history's kinds. Where nobody could make it, it is as a rule a begin."""
+        name = self.dice.choices(self.names, [SHARES[name][0] for name in self.names])[0]
+        if SHARES[name][1][:1] in ("t", "o") and not definitions.undecided(self.events):
+            name = self.dice.choice([name] + 3 * ["begin"])
         return (name, *map(self.argument, SHARES[name][1]))
 
     def seat(self, cmd: tuple) -> int:
         """As a rule whose transaction or feed it is."""
         kind = SHARES[cmd[0]][1][:1]
-        owner = definitions.owners(self.events).get(cmd[1]) if kind == "t" else None
+        owner = definitions.owners(self.events).get(cmd[1]) if kind in ("t", "o") else None
         feed = definitions.feeds(self.events).get(cmd[1]) if kind == "f" else None
         known = [it for it in (owner, feed and feed.seat) if it is not None]
         return self.one_of(known, self.dice.choice(self.seats))
