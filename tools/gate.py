@@ -69,8 +69,9 @@ class Progress:
     def minutes(self, took: Callable[[Task], float]) -> int:
         """The minutes that are left. What has taken some seconds already takes a tenth of its time at least."""
         pace = self.spent / self.planned if self.planned else self.pace
-        rest = {task: max(it.seconds - took(task) / pace, it.seconds / 10) for task, it in self.left.items()}
-        return gate_plan.minutes([replace(self.left[it], seconds=seconds) for it, seconds in rest.items()], pace)
+        # A copy, since a proof may end meanwhile.
+        left = [(it, it.seconds - took(task) / pace) for task, it in dict(self.left).items()]
+        return gate_plan.minutes([replace(it, seconds=max(rest, it.seconds / 10)) for it, rest in left], pace)
 
 
 def told(watch: Watch, is_whole: bool, clock: float, processors: float) -> List[str]:
