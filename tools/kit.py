@@ -1,8 +1,23 @@
 """What the scripts ask of Rattle's kit."""
 
+import importlib.machinery
+import importlib.util
+import os
 import re
+import shutil
 import subprocess
 import sys
+from typing import Any
+
+
+def code_of_the_kit() -> Any:
+    """The kit's `rt` as a module."""
+    path = os.path.realpath(shutil.which("rt") or "rt")
+    loader = importlib.machinery.SourceFileLoader("rt_of_the_kit", path)
+    made = importlib.util.module_from_spec(importlib.util.spec_from_loader("rt_of_the_kit", loader))
+    sys.modules["rt_of_the_kit"] = made
+    loader.exec_module(made)
+    return made
 
 
 def logic() -> str:

@@ -13,24 +13,13 @@ right only where the whole gate has just passed in this checkout, and nothing ch
 libraries back that stood there before it. These have the note, and are made anew where it says that they are older.
 """
 
-import importlib.machinery
-import importlib.util
 import os
-import shutil
 import sys
 
 sys.dont_write_bytecode = True
+from kit import code_of_the_kit  # noqa: E402
+
 OF_GATE = "--of-gate"
-
-
-def code_of_the_kit():
-    """The kit's `rt` as a module."""
-    path = os.path.realpath(shutil.which("rt") or "rt")
-    loader = importlib.machinery.SourceFileLoader("rt_of_the_kit", path)
-    made = importlib.util.module_from_spec(importlib.util.spec_from_loader("rt_of_the_kit", loader))
-    sys.modules["rt_of_the_kit"] = made
-    loader.exec_module(made)
-    return made
 
 
 def ask_for_statements(rt):

@@ -15,7 +15,7 @@ A run that is broken off loses no crate that was proved. Rooms stand in the fold
 with the program. Without git they stand in a temporary folder and go when the run ends. The program is run once on no
 input, with the words that are given. Beside a program or archive `origin.py` notes of which sources it is. Lines on
 standard error say how many crates and about how many minutes are left, and which processor seconds each proof took. The
-order goes by those of an earlier run, which stand in `proof-seconds` beside this script.
+order goes by those of the last gate, which stand in docs/LAST-RUN.md.
 """
 
 import contextlib
@@ -31,6 +31,7 @@ import time
 from concurrent.futures import FIRST_COMPLETED, ThreadPoolExecutor, wait
 from dataclasses import dataclass
 
+import gate_seconds
 import git
 import origin
 
@@ -76,16 +77,6 @@ def count_of(pattern, folder, ending):
     return count
 
 
-def seconds_of(top):
-    """The processor seconds of each crate's proof that was measured."""
-    path = os.path.join(top, "tools", "proof-seconds")
-    if not os.path.exists(path):
-        return {}
-    with open(path, encoding="utf-8") as it:
-        rows = [line.split() for line in it if line.strip() and not line.startswith("#")]
-    return {name: float(seconds) for name, seconds in rows}
-
-
 def lines_of(folder, ending):
     return count_of(rb"\n", folder, ending)
 
@@ -114,18 +105,16 @@ def below(deps, name):
     return found
 
 
-def crates_for(top, name):
-    """The crate and all that it stands on, lowest first."""
+def crates_of(top):
+    """All crates of a checkout, lowest first."""
     with open(os.path.join(top, "crates.txt"), encoding="utf-8") as it:
         text = it.read()
     deps = listed(text)
-    if name not in deps:
-        sys.exit("crates.txt lists no crate %s" % name)
     statics = re.findall(r"(?m)^(\w+)\b[^:\n]* staticlib\b", text)
     code = {it: lines_of(os.path.join(top, "crates", it), ".rt") for it in deps}
-    measured = seconds_of(top)
+    measured = gate_seconds.of(top)
     crates = []
-    for it in [*below(deps, name), name]:
+    for it in deps:
         folder = os.path.join(top, "crates", it)
         is_program = os.path.isfile(os.path.join(folder, "src", "main.rt"))
         under = sum(code[dep] for dep in below(deps, it))
@@ -135,11 +124,22 @@ def crates_for(top, name):
                 deps=tuple(dep for dep in deps[it] if dep in deps),
                 kind="program" if is_program else "static" if it in statics else "library",
                 # One that wasn't measured is reckoned by its functions, which fits by and large.
-                seconds=measured.get(it) or 8 + 1.3 * count_of(rb"\bfn\s+\w", folder, ".rt") + 0.008 * under,
+                seconds=measured[it].proof
+                if it in measured
+                else 8 + 1.3 * count_of(rb"\bfn\s+\w", folder, ".rt") + 0.008 * under,
                 memory=1.5e9 + 1e6 * code[it] + 2e5 * lines_of(folder, ".antt") + 8e4 * under,
             )
         )
     return crates
+
+
+def crates_for(top, name):
+    """The crate and all that it stands on, lowest first."""
+    crates = {it.name: it for it in crates_of(top)}
+    if name not in crates:
+        sys.exit("crates.txt lists no crate %s" % name)
+    deps = {it.name: it.deps for it in crates.values()}
+    return [crates[it] for it in [*below(deps, name), name]]
 
 
 def behind(crates):

@@ -22,8 +22,8 @@ import sys
 import tempfile
 from concurrent.futures import ThreadPoolExecutor
 
-import library
 import side_by_side
+from kit import code_of_the_kit
 
 TOP = side_by_side.TOP
 SHARES = {"Lts": 8.0, "Proof": 3.0}
@@ -61,7 +61,7 @@ def checked(kit, name):
 def main(names):
     with open(os.path.join(TOP, "crates.txt"), encoding="utf-8") as it:
         names = names or list(side_by_side.listed(it.read()))
-    kit, status, above = library.code_of_the_kit(), 0, 0
+    kit, status, above = code_of_the_kit(), 0, 0
     with ThreadPoolExecutor(len(os.sched_getaffinity(0))) as pool:
         for name, found in zip(names, pool.map(lambda it: checked(kit, it), names)):
             if found is None:

@@ -11,12 +11,14 @@ from unittest import mock
 
 import check_table
 import gate_counts
+import gate_seconds
 import last_run
 import testing
 import tried
 from check_table import Check
 
 checks = testing.script("checks")
+MEASURE = "gate: all was done in this run: 2.0 minutes by the clock, 1.7 of processors, 2.5 times the proofs of low"
 # A `try` that plays what it is told to.
 PLAYING = """#!/bin/sh
 case "$*" in
@@ -64,8 +66,9 @@ class Checks(testing.Housed):
         whole = gate_counts.of_the_gate(testing.TOP)
         told = next(it.told for it in check_table.read() if it.name == "gate")
         for count, rest, result in [(whole, "", "passed"), (whole - 1, "", "failed"), (whole, " (a alone)", "failed")]:
-            script = "echo '%d passed, 0 failed%s'" % (count, rest)
-            self.assertEqual(self.result(check_of(script, told, "gate"))[0], result)
+            script = "echo '%s'; echo '%d passed, 0 failed%s'" % (MEASURE, count, rest)
+            with mock.patch.object(gate_seconds, "put"):
+                self.assertEqual(self.result(check_of(script, told, "gate"))[0], result)
 
     def test_a_check_that_wants_a_folder_gets_one(self):
         check = check_of('echo 3 tests >"$0/told"; cat "$0/told"')
@@ -107,9 +110,11 @@ class Checks(testing.Housed):
         status, told, row = self.ran(one, "--rows", other)
         self.assertEqual((status, told[-1], row), (0, "checks: 0 passed, 0 failed", last_run.of(other)["one"]))
         self.assertEqual((told[0], tried.of(self.top)), ("rows of %s: one, low" % other, of_crate))
-        self.write("log", "1 passed, 0 failed\n")
+        self.write("log", "%s\n    low 40 t20\n%s\n1 passed, 0 failed\n" % (gate_seconds.TOLD, MEASURE))
         status, told, row = self.ran(check_of("false", name="gate"), "--gate-log", os.path.join(self.top, "log"))
-        self.assertEqual((status, row[:2]), (0, ("passed", "1 passed, 0 failed")))
+        counted = "1 passed, 0 failed, from nothing; 1.7 processor minutes, 2.5 times the fixed set"
+        self.assertEqual((status, row[:3]), (0, ("passed", counted, "120")))
+        self.assertEqual((gate_seconds.of(self.top), tried.of(self.top)), ({"low": (20, 20, 0)}, of_crate))
 
     def test_a_name_that_is_no_check_s_is_refused(self):
         with contextlib.redirect_stderr(io.StringIO()) as told, self.assertRaises(SystemExit) as ended:

@@ -8,6 +8,7 @@ import sys
 import time
 import unittest
 
+import gate_seconds
 import origin
 import side_by_side
 import testing
@@ -110,7 +111,7 @@ class Builds(testing.Housed):
         self.assertEqual(kinds, {"low": "library", "lone": "static", "top": "program"})
 
     def test_seconds_that_were_measured_stand_for_those_that_are_reckoned(self):
-        self.write("tools/proof-seconds", "# a crate and its seconds\nleft 500\n")
+        gate_seconds.put(self.top, {"left": gate_seconds.Spent(500, 90)})
         seconds = {it.name: it.seconds for it in side_by_side.crates_for(self.top, "top")}
         self.assertEqual((seconds["left"], seconds["right"]), (500, 8 + 0.008))
 

@@ -20,6 +20,7 @@ SOUND = {
     "server/install": ("", 0),
     "server/unit": ("ok. 290 passed; 0 failed; finished", 0),
 }
+GATE = ("gate.py", "gate_plan.py", "gate_seconds.py", "gate_watch.py", "kit.py", "side_by_side.py")
 TOOLS = ("gcc", "objcopy", "ar", "ld", "nm", "cargo")
 PROGRAM, LIBRARY = "crates/mvfeed/out/mvfeed", "crates/ripsawbean/out/libripsawbean.a"
 COMMIT = "git -c user.name=a -c user.email=a@b commit -q -a -m sources"
@@ -43,7 +44,8 @@ def house_of(without=(), **changed):
         put(house, "crates/ripsawbean/lib.rt", "one\n")
         os.makedirs(os.path.join(house, "bin"), exist_ok=True)
         os.symlink(shutil.which("mkdir"), os.path.join(house, "bin", "mkdir"))
-        for name in ("origin.py", "git.py"):
+        put(house, "crates.txt", "ripsawbean staticlib: std\n")
+        for name in (*GATE, "origin.py", "git.py"):
             shutil.copy(os.path.join(TOP, "tools", name), os.path.join(house, "tools"))
         yield house
 

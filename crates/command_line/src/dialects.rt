@@ -71,31 +71,53 @@ pub(crate) fn stranger(line: &[u8], dialect: Dialect) -> Option<&'static str> {
     let mut words = words_in(line);
     let first = words.take_word()?;
     let second = words.take_word().unwrap_or(b"");
-    let third = words.take_word().unwrap_or(b"");
-    Some(match dialect {
-        Dialect::Script if first == b"mvfeed".as_slice() => {
-            "a script of format two has no first line of its own: leave it out, and ask for --format 2"
-        }
-        Dialect::Script if is_command(first) && has_word(line, b".") => {
-            "only a server's line has no session, and `.` for its timestamp: write both, as in `0 put 10 a 1`"
-        }
-        Dialect::Script if is_command(first) => {
-            "a line begins with its session's number, as in `0 begin 10`"
-        }
-        Dialect::Script if is_command(second) && third == b".".as_slice() => {
-            "only a server's line has `.` for its timestamp: write the number"
-        }
-        Dialect::Script if is_number(first) && is_number(second) && is_command(third) => {
-            "a transcript's line isn't a script's: leave out its position, and `=>` with what follows it"
-        }
-        Dialect::Transcript if first == b"fault".as_slice() || first == b"spent".as_slice() => {
-            "a run ended here, at a line of its script: what stands above is the transcript of those before"
-        }
-        Dialect::Transcript if is_command(first) || is_number(first) && is_command(second) => {
-            "a script's line isn't a transcript's: `mvfeed run` makes the transcript of a script"
-        }
-        _ => return None,
-    })
+    match dialect {
+        Dialect::Script if is_command(first) => Some(without_session(line)),
+        Dialect::Script => in_script(first, second, words.take_word().unwrap_or(b"")),
+        Dialect::Transcript => in_transcript(first, second),
+    }
+}
+
+/// The hint for a script's line that begins with a command.
+fn without_session(line: &[u8]) -> &'static str {
+    if has_word(line, b".") {
+        "only a server's line has no session, and `.` for its timestamp: write both, as in `0 put 10 a 1`"
+    } else {
+        "a line begins with its session's number, as in `0 begin 10`"
+    }
+}
+
+/// The hint for a script's line that begins with these words, of which the first is no command.
+fn in_script(first: &[u8], second: &[u8], third: &[u8]) -> Option<&'static str> {
+    if first == b"mvfeed".as_slice() {
+        return Some(
+            "a script of format two has no first line of its own: leave it out, and ask for --format 2",
+        );
+    }
+    if is_command(second) && third == b".".as_slice() {
+        return Some("only a server's line has `.` for its timestamp: write the number");
+    }
+    if is_number(first) && is_number(second) && is_command(third) {
+        return Some(
+            "a transcript's line isn't a script's: leave out its position, and `=>` with what follows it",
+        );
+    }
+    None
+}
+
+/// The hint for a transcript's line that begins with these words.
+fn in_transcript(first: &[u8], second: &[u8]) -> Option<&'static str> {
+    if first == b"fault".as_slice() || first == b"spent".as_slice() {
+        return Some(
+            "a run ended here, at a line of its script: what stands above is the transcript of those before",
+        );
+    }
+    if is_command(first) || is_number(first) && is_command(second) {
+        return Some(
+            "a script's line isn't a transcript's: `mvfeed run` makes the transcript of a script",
+        );
+    }
+    None
 }
 
 fn is_command(word: &[u8]) -> bool {

@@ -81,12 +81,16 @@ fn limits_of(dialect: Dialect, format: Format) -> &'static str {
 /// How the input is given, where words were refused because of one that seems to be a file: one that the command doesn't
 /// take and that is no option, or one in place of a race's sessions.
 pub fn hint_of<S: AsStr>(alloc: Global, refused: &Error, words: &[S]) -> Option<&'static str> {
-    let text = format!(in alloc; "{refused}").ok()?;
-    let (word, _behind) = told_of(refused.kind(), text.as_str())?.split_once('\'')?;
-    if !is_file(word) {
-        return None;
+    if is_for_file(alloc, refused) {
+        form_with_file(words.get(1)?.as_str())
+    } else {
+        None
     }
-    match words.get(1)?.as_str().as_bytes() {
+}
+
+/// How a command is given a file.
+fn form_with_file(command: &str) -> Option<&'static str> {
+    match command.as_bytes() {
         b"run" => Some("mvfeed run < FILE"),
         b"race" => Some("mvfeed race N < FILE"),
         b"check" => Some("mvfeed check < FILE"),
@@ -95,6 +99,20 @@ pub fn hint_of<S: AsStr>(alloc: Global, refused: &Error, words: &[S]) -> Option<
         b"follow" => Some("mvfeed follow --cursor T < FILE"),
         _ => None,
     }
+}
+
+/// Whether words were refused for one that seems to be a file.
+fn is_for_file(alloc: Global, refused: &Error) -> bool {
+    match format!(in alloc; "{refused}") {
+        Ok(text) => word_in(refused.kind(), text.as_str()).is_some_and(is_file),
+        Err(_) => false,
+    }
+}
+
+/// The word that clap's text says to be refused.
+fn word_in(kind: ErrorKind, text: &str) -> Option<&str> {
+    let (word, _behind) = told_of(kind, text)?.split_once('\'')?;
+    Some(word)
 }
 
 /// Clap's text from the word on that it refuses.

@@ -9,11 +9,13 @@
 //! racing      sessions held by gates, so that one transcript alone is right
 //! together    threads that call at once, and the engine that comes back with all their seats
 //! apart       threads one after the other
+//! tickets     turns of a lock one after the other: who is refused meanwhile, the floor, the last ticket
 //! turns       a turn of a lock, during which another thread is refused, or sleeps
+//! sleepers    seats that sleep at once, and are woken in turn
 //! leases      eight sessions that take their timestamps from leases
 //! seats       calls that wait for nobody, floors, and leases
 //! texts       scripts and transcripts for all of them
-//! counter     the value under the lock of `turns`
+//! counter     the value under the lock of these three, and its turns
 //! ```
 //!
 //! A case of `racing`: session 1 waits until session 0 stands before its third call, and session 0 then waits there

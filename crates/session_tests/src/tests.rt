@@ -6,6 +6,8 @@ mod counter;
 mod leases;
 mod racing;
 mod seats;
+mod sleepers;
 mod texts;
+mod tickets;
 mod together;
 mod turns;

@@ -34,7 +34,7 @@
 //! Each seat in line has a bed, a word of its own to sleep on. It sleeps there while its turn is far, or when it has
 //! waited for long, and is woken when the turn before its own ends. Only `new` takes memory, and only `turn` waits.
 //!
-//! Tests: `src/tests.rt`, `session_tests`.
+//! Tests: `session_tests`.
 #![tactic(auto)]
 
 mod chronicle;
@@ -46,8 +46,6 @@ mod meetings;
 mod plays;
 mod rule;
 mod steps;
-#[cfg(test)]
-mod tests;
 mod turns;
 
 pub use chronicle::Chronicle;

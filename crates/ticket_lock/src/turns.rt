@@ -6,6 +6,7 @@ ghost use Rattle.ticket_lock.specs.declared.rule.Look.TheVariants.{Serving, Next
 
 use crate::chronicle::Chronicle;
 use crate::lock::{Denied, Held, Seat, Spent, TicketLock};
+use crate::rule::ASLEEP;
 use std::marker::Brand;
 use std::sync::Wait;
 
@@ -80,6 +81,12 @@ impl<T: Chronicle> TicketLock<T> {
     {
         let Held { value, ticket } = held;
         self.release::<Brand>(&mut seat.pass, value, ticket, entry);
+    }
+
+    /// Whether the seat that waits with this ticket sleeps, or is about to. It is one look, for tests: no clause speaks of
+    /// sleep.
+    pub fn is_asleep(&self, ticket: u64) -> bool {
+        self.board.shared.peek(self.bed(ticket)) == ASLEEP
     }
 }
 

@@ -1,56 +1,13 @@
 //! A turn, during which another thread is refused, or sleeps until it is woken.
 ghost use Rattle.std.specs.Prelude.{◌≡◌, None};
-ghost use Rattle.ticket_lock.specs.Seats.{AllNew, IsOf, ticket};
+ghost use Rattle.ticket_lock.specs.Seats.{IsOf, ticket};
 
-use super::counter::{Counter, Mark};
-use std::process::Abort;
+use super::counter::{Counter, Mark, is_busy, last, try_tick};
 use std::sync::Wait;
 use std::test::Fail;
 use std::thread::{Threads, join, sleep};
 use std::time::{Clock, Duration};
-use ticket_lock::{Denied, Seat, TicketLock};
-
-/// The last of the new seats.
-fn last(
-    rt: &impl Abort,
-    lock: &TicketLock<Counter>,
-    seats: &mut Vec<Seat<Counter>>,
-) -> Seat<Counter>
-    requires new { AllNew lock.now seats.old.items }
-    ensures new { AllNew lock.now seats.new.items }
-    ensures own { IsOf lock.now result × (ticket result ≡ None) }
-{
-    let Some(seat) = seats.pop() else {
-        panic!(rt; "a seat is missing");
-    };
-    seat
-}
-
-/// One turn, which adds a mark, without waiting. The ticket that it had.
-fn try_tick(lock: &TicketLock<Counter>, seat: &mut Seat<Counter>) -> Result<u64, Denied>
-    requires own { IsOf lock.now seat.old × (ticket seat.old ≡ None) }
-    ensures own { IsOf lock.now seat.new × (ticket seat.new ≡ None) }
-{
-    let mut held = lock.try_turn(seat)?;
-    let ticket = held.ticket();
-    held.value.count += 1;
-    let mark = Mark {
-        seat: seat.number(),
-    };
-    lock.end(seat, held, &mark);
-    Ok(ticket)
-}
-
-/// Whether a call that doesn't wait is refused, since ticket 0 has its turn and ticket 1 is the next.
-fn is_busy(lock: &TicketLock<Counter>, seat: &mut Seat<Counter>) -> bool
-    requires own { IsOf lock.now seat.old × (ticket seat.old ≡ None) }
-    ensures own { IsOf lock.now seat.new × (ticket seat.new ≡ None) }
-{
-    match try_tick(lock, seat) {
-        Err(Denied::Busy { served, next }) => served == 0 && next == 1,
-        _ => false,
-    }
-}
+use ticket_lock::{Seat, TicketLock};
 
 /// How many of a thousand calls are refused.
 fn refused(lock: &TicketLock<Counter>, mut seat: Seat<Counter>) -> (Seat<Counter>, u64)
@@ -59,7 +16,7 @@ fn refused(lock: &TicketLock<Counter>, mut seat: Seat<Counter>) -> (Seat<Counter
 {
     let mut count = 0u64;
     for _place in 0..1000 {
-        if is_busy(lock, &mut seat) {
+        if is_busy(lock, &mut seat, 0, 1) {
             count = count.saturating_add(1);
         }
     }

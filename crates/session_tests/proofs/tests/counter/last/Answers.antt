@@ -1,8 +1,8 @@
-use Rattle.std.proofs.Common.{ap, sym, ◌∙◌, append-nil, [], ◌∷◌, length}
+use Rattle.std.proofs.Common.{[], ◌∷◌, length, ap, sym, ◌∙◌, append-nil}
 use lib.ListN.{get_elem?}
-use Rattle.atomic_table.proofs.Lists.{at_longer}
 use Rattle.ticket_lock.proofs.ListFacts.{at_middle}
-use Rattle.ticket_lock.proofs.tests.last.Goals as goal
+use Rattle.session_tests.proofs.Longer.{at_longer}
+use Rattle.session_tests.proofs.tests.counter.last.Goals as goal
 
 pub returns-clause-new : goal.returns-clause-new
 returns-clause-new g c = λ k s e. c.requires.new k s (ap (λ l. get_elem? l k) c.in-Some.ensures.items ∙ at_longer c.pop.new.self.items (c.in-Some.seat ∷ []) k s e)

@@ -1,7 +1,7 @@
 use Rattle.std.proofs.Common.{ap}
 use Rattle.ticket_lock.specs.Seats.{IsNew}
 use Rattle.ticket_lock.proofs.ListFacts.{each_read}
-use Rattle.ticket_lock.proofs.tests.follow_all.Goals as goal
+use Rattle.session_tests.proofs.tests.sleepers.follow_all.Goals as goal
 
 pub map_vec-requires-after_bounds : goal.map_vec-requires-after_bounds
 map_vec-requires-after_bounds g c κs within = λ i seat below at.
