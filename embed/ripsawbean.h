@@ -268,30 +268,30 @@ uint8_t ripsawbean_poll(ripsawbean *db, uint8_t seat, uint64_t feed, uint64_t mo
 //     RIPSAWBEAN_CLOSED     *length is 0 and out is as it was
 uint8_t ripsawbean_bytes(ripsawbean *db, uint8_t *out, size_t room, size_t *length);
 
-// ---- ANSWERS WITH A BOUND. A row, or a message, has the bytes of its key and its value, and 17 more.
+// ---- ANSWERS WITH A BOUND. A row, or a message, has the bytes of its key and its value, and 17 more. The first is told in
+// any case, so a loop that goes on where an answer ended comes to the end.
 //
 //     ripsawbean_scan(&db, 0, 10, low, low_length, low, 0, 0, 1000, sizeof out - RIPSAWBEAN_MAX_END, out, sizeof out, &length,
 //                     &answer);
 //     // rows are read by ripsawbean_read_message; where a message of kind RIPSAWBEAN_MESSAGE_END stands behind them, its
 //     // key is the low bound of the next scan
 
-#define RIPSAWBEAN_MAX_ROW 65809 // bytes of a row of the greatest size: with less room a scan may end at its first key
+#define RIPSAWBEAN_MAX_ROW 65809 // bytes of a row of the greatest size: with a bound of fewer the first row may have more
 #define RIPSAWBEAN_MAX_END 274   // bytes of a scan's end at most. It stands behind the rows, and no bound counts it
 
 // Reads the keys of a span in a transaction, or at a closed timestamp (the commands "scan" and "scanat"), as far as their
-// rows find room: at most `rows` rows, of at most `bytes` bytes together. The event is the scan of that beginning of the
-// span, but of all of it where another's undecided version before that end, or at it, is in the way: "blocked". `low` of no
-// bytes is no low bound; where has_high is 0 there is no high one, and `high` isn't looked at.
+// rows find room: at most `rows` rows, of at most `bytes` bytes together, or the first row alone. The event is the scan of
+// that beginning of the span, but of all of it where another's undecided version before that end, or at it, is in the way:
+// "blocked". `low` of no bytes is no low bound; where has_high is 0 there is no high one, and `high` isn't looked at.
 //
 // Rows are shown as messages of kind RIPSAWBEAN_MESSAGE_ROW whose timestamp is the scan's. Behind them stands a message of
 // kind RIPSAWBEAN_MESSAGE_END whose key, of up to 257 bytes, is the high bound of the event's span, unless that has none.
-// Where it isn't the caller's own bound, rows are left: the next scan goes on there. The end's bytes come on top of
-// `bytes`, so a room of no more may cut it off: then *length is above room. A scan that is refused shows no end.
+// Where it isn't the caller's own bound, the next scan goes on there. Its bytes come on top of `bytes`, so a room of no more
+// may cut it off: then *length is above room. A scan that is refused shows no end.
 //
 //     RIPSAWBEAN_OK         the call was made, and answer says what came of it. *length is the whole length of the rows and
 //                           their end; out as for a value. ripsawbean_bytes shows them again
-//     RIPSAWBEAN_UNWRITTEN  the call was made, and answer says so; its rows ran out of memory. *length is 0 and out is as it was.
-//                           ripsawbean_bytes tries again
+//     RIPSAWBEAN_UNWRITTEN  the same, but its rows ran out of memory: *length is 0, out is as it was; ripsawbean_bytes tries again
 //     RIPSAWBEAN_KEYLENGTH  a bound has more than 257 bytes, or the high one has none; the seat is tested before
 //     RIPSAWBEAN_NOMEMORY   there was no memory for a bound
 //     RIPSAWBEAN_SESSION, RIPSAWBEAN_SPENT, RIPSAWBEAN_CLOSED
@@ -304,8 +304,8 @@ uint8_t ripsawbean_scan_at(ripsawbean *db, uint8_t seat, uint64_t timestamp, con
                            size_t high_length, uint8_t has_high, uint64_t rows, uint64_t bytes, uint8_t *out, size_t room, size_t *length,
                            ripsawbean_answer *answer);
 
-// As ripsawbean_poll, but that the messages have at most `bytes` bytes together. The event is the poll of so many as find
-// room, and of `most` where all do: of 0 where the first has none, as with fewer bytes than RIPSAWBEAN_MAX_ROW it may be.
+// As ripsawbean_poll, but that the messages have at most `bytes` bytes together, or there is one. The event is the poll of so
+// many as find room, and of `most` where all do: of 1 where the first has none, unless `most` is 0.
 // RIPSAWBEAN_NOMEMORY: there was no memory for the messages that were looked at, and no call was made.
 uint8_t ripsawbean_poll_within(ripsawbean *db, uint8_t seat, uint64_t feed, uint64_t most, uint64_t bytes, uint8_t *out, size_t room,
                                size_t *length, ripsawbean_answer *answer);

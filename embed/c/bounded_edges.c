@@ -69,9 +69,10 @@ static void scans_of_a_transaction(void) {
         {"", NULL, 9, 51, "0 scan 10 - d => rows 2\nrow a 12345\nrow c 1234567890\n"},
         {"", NULL, 9, 50, "0 scan 10 - c => rows 1\nrow a 12345\n"},
         {"", NULL, 9, 23, "0 scan 10 - c => rows 1\nrow a 12345\n"},
-        {"", NULL, 9, 22, "0 scan 10 - a => rows 0\n"},
-        {"", NULL, 9, 0, "0 scan 10 - a => rows 0\n"},
-        {"", NULL, 0, ALL, "0 scan 10 - a => rows 0\n"},
+        {"", NULL, 9, 22, "0 scan 10 - a%00 => rows 1\nrow a 12345\n"}, // the first row is told in any case
+        {"", NULL, 9, 0, "0 scan 10 - a%00 => rows 1\nrow a 12345\n"},
+        {"", NULL, 0, ALL, "0 scan 10 - a%00 => rows 1\nrow a 12345\n"},
+        {"", NULL, 0, 0, "0 scan 10 - a%00 => rows 1\nrow a 12345\n"},
         {"", NULL, 1, ALL, "0 scan 10 - c => rows 1\nrow a 12345\n"},
         {"", NULL, 2, ALL, "0 scan 10 - d => rows 2\nrow a 12345\nrow c 1234567890\n"},
         {"", NULL, 3, ALL, "0 scan 10 - - => rows 3\nrow a 12345\nrow c 1234567890\nrow d 1\n"},
@@ -81,7 +82,8 @@ static void scans_of_a_transaction(void) {
         {"b", NULL, 1, ALL, "0 scan 10 b d => rows 1\nrow c 1234567890\n"},
         {"c", NULL, 9, 28, "0 scan 10 c d => rows 1\nrow c 1234567890\n"},
         {"d", NULL, 1, 19, "0 scan 10 d - => rows 1\nrow d 1\n"},
-        {"d", NULL, 1, 18, "0 scan 10 d d => rows 0\n"},
+        {"d", NULL, 1, 18, "0 scan 10 d d%00 => rows 1\nrow d 1\n"},
+        {"b", "d", 0, 0, "0 scan 10 b c%00 => rows 1\nrow c 1234567890\n"},
         {"b", "c", 0, 0, "0 scan 10 b c => rows 0\n"}, // a key without a value needs no room
         {"x", NULL, 0, 0, "0 scan 10 x - => rows 0\n"},
         {"d", "a", 0, 0, "0 scan 10 d a => rows 0\n"},
@@ -100,8 +102,8 @@ static void blocked_scans(void) {
     const scan before[] = {
         {"", NULL, 1, ALL, "1 scan 20 - - => blocked 10\n"},
         {"", NULL, 9, 19, "1 scan 20 - - => blocked 10\n"},
-        {"", NULL, 9, 18, "1 scan 20 - 0 => rows 0\n"},
-        {"", NULL, 0, ALL, "1 scan 20 - 0 => rows 0\n"},
+        {"", NULL, 9, 18, "1 scan 20 - 0%00 => rows 1\nrow 0 x\n"},
+        {"", NULL, 0, ALL, "1 scan 20 - 0%00 => rows 1\nrow 0 x\n"},
         {"", "a", 9, ALL, "1 scan 20 - a => rows 1\nrow 0 x\n"},
     };
     EACH(ripsawbean_scan, 1, 20, before);
@@ -111,8 +113,8 @@ static void scans_at_a_timestamp(void) {
     const scan at[] = {
         {"", NULL, 9, 70, "5 scanat 15 - - => rows 3\nrow a 12345\nrow c 1234567890\nrow d 1\n"},
         {"", NULL, 9, 69, "5 scanat 15 - d => rows 2\nrow a 12345\nrow c 1234567890\n"},
-        {"", NULL, 0, ALL, "5 scanat 15 - a => rows 0\n"},
-        {"b", "d", 0, ALL, "5 scanat 15 b c => rows 0\n"},
+        {"", NULL, 0, ALL, "5 scanat 15 - a%00 => rows 1\nrow a 12345\n"},
+        {"b", "d", 0, ALL, "5 scanat 15 b c%00 => rows 1\nrow c 1234567890\n"},
     };
     const scan above[] = {{"", NULL, 9, ALL, "5 scanat 40 - - => notclosed 30\n"}};
     EACH(ripsawbean_scan_at, 5, 15, at);
@@ -137,20 +139,23 @@ static void polls(void) {
         uint64_t feed, most, bytes;
         const char *text;
     } each[] = {
-        {3, 1, 9, 0, "3 poll 1 0 => messages 0\n"},
-        {3, 1, 9, 22, "3 poll 1 0 => messages 0\n"},
         {3, 1, 9, 40, "3 poll 1 1 => messages 1\n" A},
         {3, 1, 9, 46, "3 poll 1 2 => messages 2\n" B C},
         {3, 1, 0, ALL, "3 poll 1 0 => messages 0\n"},
-        {3, 1, 1, 18, "3 poll 1 0 => messages 0\n"},
         {3, 1, 1, 19, "3 poll 1 1 => messages 1\n" D},
         {3, 1, 9, 35, "3 poll 1 1 => messages 1\n" ZERO},
-        {3, 1, 9, 16, "3 poll 1 0 => messages 0\n"},
         {3, 1, 9, 17, "3 poll 1 9 => messages 1\n" RESOLVED},
         {3, 1, 9, 0, "3 poll 1 9 => messages 0\n"}, // all that is left has room
-        {3, 2, 9, ALL, "3 poll 2 0 => nofeed\n"},
+        {3, 2, 9, 0, "3 poll 2 1 => messages 1\n" A}, // the first message is told in any case
+        {3, 2, 1, 17, "3 poll 2 1 => messages 1\n" B},
+        {3, 2, 0, 0, "3 poll 2 0 => messages 0\n"},
+        {3, 2, 9, 27, "3 poll 2 1 => messages 1\n" C},
+        {3, 2, 9, 38, "3 poll 2 2 => messages 2\n" D ZERO},
+        {3, 2, 9, 16, "3 poll 2 1 => messages 1\n" RESOLVED},
+        {3, 2, 9, 0, "3 poll 2 9 => messages 0\n"},
+        {3, 3, 9, ALL, "3 poll 3 1 => nofeed\n"},
         {0, 1, 9, ALL, "0 poll 1 9 => notowner\n"},
-        {4, 3, 4, 99, "4 poll 3 0 => nofeed\n"},
+        {4, 4, 4, 99, "4 poll 4 1 => nofeed\n"},
     };
     for (size_t i = 0; i < sizeof each / sizeof *each; i++) {
         doing = each[i].text;
@@ -183,10 +188,43 @@ static void long_polls(void) {
         CHECK(ripsawbean_close_to(&one, 0, 1, &answer) == RIPSAWBEAN_OK);
         // 99 rows of 20 bytes and a resolved message
         CHECK(ripsawbean_poll_within(&one, 0, 1, 1000, 20 * room + 3, out, sizeof out, &length, &answer) == RIPSAWBEAN_OK);
-        CHECK(is_answer(&answer, RIPSAWBEAN_ANSWER_MESSAGES, room, 0));
-        CHECK(length == (room < 100 ? 20 * room : 99 * 20 + 17));
+        uint64_t told = room == 0 ? 1 : room;
+        CHECK(is_answer(&answer, RIPSAWBEAN_ANSWER_MESSAGES, told, 0));
+        CHECK(length == (told < 100 ? 20 * told : 99 * 20 + 17));
         ripsawbean_close(&one);
     }
+}
+
+// Scans without any room, each from where the one before ended, tell each row once, and come to an end.
+static void scans_without_room(void) {
+    doing = "scans without room";
+    static uint8_t key[256], low[257];
+    memset(key, 'z', sizeof key);
+    const size_t lengths[] = {1, 2, 254, 255, 256}; // each key begins the next one
+    enum { KEYS = sizeof lengths / sizeof *lengths };
+    ripsawbean one = RIPSAWBEAN_INITIALIZER;
+    ripsawbean_answer answer;
+    CHECK(ripsawbean_open(&one, 1) == RIPSAWBEAN_OK);
+    CHECK(ripsawbean_begin(&one, 0, 10, &answer) == RIPSAWBEAN_OK);
+    for (int i = 0; i < KEYS; i++) CHECK(ripsawbean_put(&one, 0, 10, key, lengths[i], low, 0, &answer) == RIPSAWBEAN_OK);
+    CHECK(ripsawbean_delete(&one, 0, 10, key, 3, &answer) == RIPSAWBEAN_OK);
+    for (uint64_t rows = 0; rows < 2; rows++) {
+        size_t low_length = 0, length;
+        for (int i = 0; i < KEYS; i++) {
+            uint8_t *out = out_of(800);
+            ripsawbean_message message;
+            CHECK(ripsawbean_scan(&one, 0, 10, low, low_length, low, 0, 0, rows, 0, out, 800, &length, &answer) == RIPSAWBEAN_OK);
+            CHECK(is_answer(&answer, RIPSAWBEAN_ANSWER_ROWS, 1, 0));
+            size_t end = ripsawbean_read_message(out, length, &message);
+            CHECK(message.kind == RIPSAWBEAN_MESSAGE_ROW && message.key_length == lengths[i] && message.value_length == 0);
+            CHECK(ripsawbean_read_message(out + end, length - end, &message) == length - end);
+            CHECK(message.kind == RIPSAWBEAN_MESSAGE_END && message.key_length == lengths[i] + 1);
+            memcpy(low, message.key, low_length = message.key_length);
+        }
+        CHECK(ripsawbean_scan(&one, 0, 10, low, low_length, low, 0, 0, rows, 0, out_of(1), 1, &length, &answer) == RIPSAWBEAN_OK);
+        CHECK(is_answer(&answer, RIPSAWBEAN_ANSWER_ROWS, 0, 0) && length == 0);
+    }
+    ripsawbean_close(&one);
 }
 
 static uint8_t faulty(uint8_t seat, size_t low, size_t high, uint8_t has_high) {
@@ -333,6 +371,7 @@ int main(void) {
     make_guarded(1000, 2000000);
     CHECK(ripsawbean_open(&db, 4) == RIPSAWBEAN_OK);
     line("3 open - - 0\n");
+    line("3 open - - 0\n");
     line("0 begin 10\n");
     line("0 put 10 a 12345\n");
     line("0 del 10 b\n");
@@ -351,6 +390,7 @@ int main(void) {
     scans_at_a_timestamp();
     a_closed_handle();
     ripsawbean_close(&db);
+    scans_without_room();
     long_polls();
     many_rows();
     printf("bounded_edges: %lu checks\n", checks);

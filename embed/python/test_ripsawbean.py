@@ -337,8 +337,8 @@ class TypedCalls(unittest.TestCase):
             ({}, 3, None, "- -"),
             ({"bytes": 72}, 3, None, "- -"),
             ({"bytes": 71}, 2, b"d d", "- d%20d"),
-            ({"bytes": 22}, 0, b"a", "- a"),
-            ({"rows": 0}, 0, b"a", "- a"),
+            ({"bytes": 22}, 1, b"a\0", "- a%00"),
+            ({"rows": 0}, 1, b"a\0", "- a%00"),
             ({"rows": 1}, 1, b"c", "- c"),
             ({"high": b"c", "rows": 1}, 1, b"c", "- c"),
             ({"high": b"x"}, 3, b"x", "- x"),
@@ -374,10 +374,11 @@ class TypedCalls(unittest.TestCase):
         db.begin(1)
         for key, value in rows:
             db.put(1, key, value)
-        for most in (26, 27, 60, 500, 10000):
+        for most in (0, 20, 26, 27, 60, 500, 10000):
             told, low = [], None
             while True:
                 answer = db.scan_within(1, low, bytes=most)
+                self.assertTrue(answer.rows or answer.end is None)
                 told += answer.rows
                 low = answer.end
                 if low is None:
@@ -392,9 +393,10 @@ class TypedCalls(unittest.TestCase):
         db.commit(10)
         db.close_to(10)
         feed = db.make("open", None, None, 0).number
-        self.assertEqual(db.poll_within(feed, 100, 19).messages, [])
-        self.assertEqual(len(db.poll_within(feed, 100, 20 * 33 + 19).messages), 33)
-        self.assertEqual(str(db.text()).split("\n")[0], "45 0 poll 1 33 => messages 33")
+        self.assertEqual(db.poll_within(feed, 0, 1 << 40).messages, [])
+        self.assertEqual(db.poll_within(feed, 100, 0).messages, [Row(b"00", b"1", 10)])
+        self.assertEqual(len(db.poll_within(feed, 100, 20 * 32 + 19).messages), 32)
+        self.assertEqual(str(db.text()).split("\n")[0], "46 0 poll 1 32 => messages 32")
         self.assertEqual(len(db.poll_within(feed, 5, 1 << 40).messages), 5)
         self.assertEqual(db.poll_within(feed, 9, 57).messages, [Row(b"38", b"1", 10), Row(b"39", b"1", 10), Resolved(10)])
         with self.assertRaises(LineFault):

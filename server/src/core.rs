@@ -195,7 +195,7 @@ impl Core {
             Command::ScanAt { t, span } => (self.database.scan_at_within(OWN_SEAT, t, span, room), span),
             _ => unreachable!("{command} is no scan"),
         };
-        let page = scanned.map(|rows| Page::of(rows, span));
+        let page = scanned.map(|rows| Page::of(rows, span, room));
         if matches!(page, Err(CommandError::Call(error)) if error != CallError::Unwritten) {
             return page;
         }

@@ -8,3 +8,4 @@ pub mod VersionKeys
 pub mod DumpRows
 pub mod DumpTexts
 pub mod DumpPieces
+pub mod GettingOn

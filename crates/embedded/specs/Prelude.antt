@@ -8,6 +8,7 @@ pub use Rattle.json_lines.specs.Messages.{Copied}
 pub use Rattle.restarts.specs.Dump.{dump_commands, mark_of, row_commands}
 pub use Rattle.spans.specs.Collection.{horizon_of}
 pub use Rattle.spans.specs.Effects.{Effect, effects_of}
+pub use Rattle.spans.specs.KeyOrder.{successor}
 pub use Rattle.spans.specs.Report.{IsReport, limit_in, limit_of}
 pub use Rattle.spans.specs.declared.calls.commands.Cmd.{Cmd}
 pub use Rattle.spans.specs.declared.calls.events.Event.{Event}

@@ -1,6 +1,6 @@
 -- Calls whose command is given in parts, answers in numbers and bytes, and calls whose answer is to find room: the
 -- command is made of what a look at the history tells (this project's own).
-use Rattle.std.specs.Prelude.{ℕ, List, [], ◌∷◌, ◌++◌, ◌≡◌, ◌⊎◌, length, is_some, Bool, true, false, Option, Some, None, Result, Ok, Err}
+use Rattle.std.specs.Prelude.{ℕ, List, [], ◌∷◌, ◌++◌, ◌≡◌, ◌⊎◌, if◌then◌else◌, length, is_some, max, min, Bool, true, false, Option, Some, None, Result, Ok, Err}
 use Rattle.spans.specs.declared.calls.messages.Message.{Message}
 use Rattle.spans.specs.declared.calls.replies.Refusal.{Refusal}
 use Rattle.spans.specs.declared.calls.replies.Reply.{Reply}
@@ -8,7 +8,7 @@ use Rattle.spans.specs.declared.calls.commands.Cmd.TheVariants as command
 use Rattle.spans.specs.declared.calls.messages.Message.TheVariants as message
 use Rattle.spans.specs.declared.calls.replies.Refusal.TheVariants as refusal
 use Rattle.spans.specs.declared.calls.replies.Reply.TheVariants as reply
-use Rattle.embedded.specs.Prelude.{Cmd, Event, Span, flat_map, to_le_bytes, w32, w64, effects_of, poll_count, scan_end, up_to, Database}
+use Rattle.embedded.specs.Prelude.{Cmd, Effect, Event, Span, flat_map, to_le_bytes, w32, w64, effects_of, poll_count, scan_end, successor, up_to, Database}
 use Rattle.embedded.specs.Embedded.{HasStepped}
 use Rattle.embedded.specs.declared.event_record.EventRecord.{EventRecord}
 use Rattle.embedded.specs.declared.typed.Answer.{Answer}
@@ -190,15 +190,42 @@ is_read (command.Get t x) = true
 is_read (command.ReadAt t x) = true
 is_read _ = false
 
--- the longest beginning of the span of which a scan at t finds room
-abbrev pub span_within : List Event → ℕ → Span → (rows bytes : ℕ) → Span
-span_within h t span rows bytes = up_to (scan_end (effects_of h) t span rows bytes) span
+-- a scan at t finds a row in the span: without room for one it ends there
+abbrev pub has_row : List Effect → ℕ → Span → Bool
+has_row p t span = is_some (scan_end p t span 0 0)
 
--- the command that is made after h: a scan of that, or a poll of so many messages as find room
+-- the span up to the key at which a scan at t ends, or just behind it where it is the first row's
+abbrev pub with_row : List Effect → ℕ → Span → Option (List ℕ) → Span
+with_row p t span None = span
+with_row p t span (Some x) = if has_row p t (up_to (Some x) span) then up_to (Some x) span else up_to (Some (successor x)) span
+
+-- the longest beginning of the span of which a scan at t finds room, but that of one row at least
+abbrev pub span_within : List Event → ℕ → Span → (rows bytes : ℕ) → Span
+span_within h t span rows bytes = with_row (effects_of h) t span (scan_end (effects_of h) t span rows bytes)
+
+-- the command that is made after h: a scan of that, or a poll of so many messages as find room, but of one at least
 abbrev pub command_within : List Event → Bounded → Cmd
 command_within h (bounded.Scan ts span rows bytes) = command.Scan ts (span_within h ts span rows bytes)
 command_within h (bounded.ScanAt t span rows bytes) = command.ScanAt t (span_within h t span rows bytes)
-command_within h (bounded.Poll feed max bytes) = command.Poll feed (poll_count (effects_of h) feed max bytes)
+command_within h (bounded.Poll feed most bytes) = command.Poll feed (min (max (poll_count (effects_of h) feed most bytes) 1) most)
+
+-- what is asked, without its bound
+abbrev pub unbounded : Bounded → Cmd
+unbounded (bounded.Scan ts span rows bytes) = command.Scan ts span
+unbounded (bounded.ScanAt t span rows bytes) = command.ScanAt t span
+unbounded (bounded.Poll feed most bytes) = command.Poll feed most
+
+-- a reply is a refusal, or has a row or a message
+abbrev pub HasSome : Reply → Type 0
+HasSome (reply.Rows (row ∷ rows)) = Unit {0}
+HasSome (reply.Messages (m ∷ ms)) = Unit {0}
+HasSome (reply.Refused r) = Unit {0}
+HasSome _ = ⊥
+
+-- whoever goes on where the last event's answer ended gets on: it answers all that was asked, or a part that has some
+abbrev pub GetsOn : Bounded → Option Event → Type 0
+GetsOn asked None = ⊥
+GetsOn asked (Some e) = (e.cmd ≡ unbounded asked) ⊎ HasSome e.reply
 
 -- what a call of a seat's command does to a database that holds h. A position is asked for before memory
 abbrev pub MadeWithin : List Event → ℕ → Bounded → Database → Result (Unit {0}) BoundedError → Database → Type 0

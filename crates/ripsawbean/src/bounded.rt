@@ -4,7 +4,7 @@
 //! the keys are "a" "b" "c", each with a value of 3 bytes    number   answer      out                          the event
 //! ripsawbean_scan     from "" to the end, rows 2            0        9 rows, 2   "a", "b", an end at "c"      scan 10 - c
 //! ripsawbean_scan     from "c" to the end, rows 2           0        9 rows, 1   "c"                          scan 10 c -
-//! ripsawbean_scan     from "" below "b", bytes 20           0        9 rows, 0   an end at "a"                scan 10 - a
+//! ripsawbean_scan     from "" below "b", bytes 20           0        9 rows, 1   "a", an end at "a\0"         scan 10 - a%00
 //! ripsawbean_scan     from "" below "", has_high 1          4                                                 none
 //! ```
 //!
@@ -32,8 +32,8 @@ use spans::{Bound, Span};
 use std::alloc::Global;
 
 /// Reads the keys of a span in a transaction, as far as their rows find room: at most `rows` rows, of at most `bytes`
-/// bytes together. A row has the bytes of its key and its value, and 17 more. The event is that of the scan of the span's
-/// longest beginning of which the rows find room.
+/// bytes together, but the first row in any case. A row has the bytes of its key and its value, and 17 more. The event is
+/// that of the scan of the span's longest beginning of which the rows find room, or of that up to just behind the first.
 ///
 /// No `low` bytes are no low bound, and without `has_high` there is no high one. The rows are shown as
 /// [`ripsawbean_poll`](crate::typed::ripsawbean_poll) shows those of a feed, with the scan's timestamp. Behind them stands
@@ -96,8 +96,9 @@ pub extern "C" fn ripsawbean_scan_at(
     show(alloc, handle, seat, cmd, out, length, answer)
 }
 
-/// Takes the next messages of a feed, `most` at most, as far as they have at most `bytes` bytes together, and shows them as
-/// [`ripsawbean_poll`](crate::typed::ripsawbean_poll) does. The event is that of the poll of so many.
+/// Takes the next messages of a feed, `most` at most, as far as they have at most `bytes` bytes together, but the first in
+/// any case, and shows them as [`ripsawbean_poll`](crate::typed::ripsawbean_poll) does. The event is that of the poll of so
+/// many.
 #[unsafe(no_mangle)]
 pub extern "C" fn ripsawbean_poll_within(
     alloc: Global,

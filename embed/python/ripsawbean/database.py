@@ -127,7 +127,8 @@ class Database(Opened):
             return self._shown_answer()
 
     def poll_within(self, feed: int, max: int, bytes: int, seat: int = 0) -> Answer:
-        """Polls as `poll` does, but messages of at most so many bytes together. A message has those of its key and its value, and 17 more."""
+        """Polls as `poll` does, but messages of at most so many bytes together, or the first alone. A message has the bytes of its key and
+        its value, and 17 more."""
         if feed >> 64 or max >> 64 or bytes >> 64 or seat >> 8:
             raise _out_of_range(seat)
         with self._turn:
@@ -139,7 +140,8 @@ class Database(Opened):
     ) -> Answer:
         """Reads the keys of a span in a transaction, as far as their rows find room: the answer's `rows`, and its `end`.
 
-        A row has the bytes of its key and its value, and 17 more. Where `end` isn't `high`, the next scan goes on there.
+        A row has the bytes of its key and its value, and 17 more. The first is told in any case. Where `end` isn't `high`, the next scan
+        goes on there.
         """
         return self._scan(_database.scan, timestamp, low, high, rows, bytes, seat)
 

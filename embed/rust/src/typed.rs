@@ -97,16 +97,17 @@ impl Database {
         Ok(Told::of(self.shown_bytes(length)?))
     }
 
-    /// The same, but that the messages have at most so many bytes together. A message has the bytes of its key and its
-    /// value, and 17 more, so one of the greatest size has 65809. Where the first finds no room none is told.
+    /// The same, but that the messages have at most so many bytes together, or there is one: the first is told in any case.
+    /// A message has the bytes of its key and its value, and 17 more, so one of the greatest size has 65809.
     pub fn poll_within(&mut self, seat: u8, feed: u64, max: u64, bytes: u64) -> Result<Told<'_>, CommandError> {
         let polled = self.open.poll_within(seat, feed, max, bytes, &mut self.out);
         let (_, length) = shown(polled)?;
         Ok(Told::of(self.shown_bytes(length)?))
     }
 
-    /// Reads the keys of a span in a transaction, as far as their rows find room. [`Rows::end`] says where that ends: where
-    /// it isn't the end of the span, the next scan goes on there. The event is the scan of so much of the span.
+    /// Reads the keys of a span in a transaction, as far as their rows find room, and the first row in any case.
+    /// [`Rows::end`] says where that ends: where it isn't the end of the span, the next scan goes on there. The event is the
+    /// scan of so much of the span.
     ///
     /// ```
     /// use ripsawbean::{Database, Room, Span};

@@ -38,16 +38,16 @@ fn scans() {
         (9, 69, 2, Some("d")),
         (9, 51, 2, Some("d")),
         (9, 50, 1, Some("c")),
-        (9, 22, 0, Some("a")),
-        (0, ALL, 0, Some("a")),
+        (9, 22, 1, Some("a\0")),
+        (0, ALL, 1, Some("a\0")),
         (2, ALL, 2, Some("d")),
         (ALL, ALL, 3, None),
     ] {
         let found = read(db.scan_within(0, 10, Span::ALL, room(most, bytes)).expect("rows"));
         assert_eq!(found, (rows[..told].to_vec(), end.map(|end| end.as_bytes().to_vec())));
         assert_eq!(read(Rows::of(db.bytes().expect("bytes"))), found);
-        let event = db.text().expect("a text").expect("an event").text().to_string();
-        assert!(event.contains(&format!(" 0 scan 10 - {} => rows {told}\n", end.unwrap_or("-"))), "{event}");
+        let (event, end) = (db.text().expect("a text").expect("an event").text(), end.unwrap_or("-").replace('\0', "%00"));
+        assert!(event.contains(&format!(" 0 scan 10 - {end} => rows {told}\n")), "{event}");
     }
     let span = Span { lo: b"b", hi: Some(b"d") };
     assert_eq!(
@@ -74,6 +74,8 @@ fn scans_at_a_closed_timestamp() {
     db.close_to(0, 10).expect("a call");
     let found = read(db.scan_at_within(1, 10, Span::ALL, room(1, ALL)).expect("rows"));
     assert_eq!(found, (rows[..1].to_vec(), Some(b"c".to_vec())));
+    let found = read(db.scan_at_within(1, 10, Span::ALL, room(0, 0)).expect("rows"));
+    assert_eq!(found, (rows[..1].to_vec(), Some(b"a\0".to_vec())));
     assert_eq!(read(db.scan_at_within(1, 9, Span::ALL, room(0, 0)).expect("rows")), (vec![], None));
 }
 
@@ -85,13 +87,15 @@ fn a_span_in_pieces() {
     for (key, value) in &rows {
         db.put(0, 1, key, value).expect("a call");
     }
-    for bytes in [521, 522, 5000, 100000] {
+    // A row has 521 bytes at most, and the first one of each piece is told in any case.
+    for bytes in [0, 21, 100, 521, 522, 5000, 100000] {
         let (mut told, mut from) = (Vec::new(), Vec::new());
         loop {
             let span = Span { lo: &from, hi: None };
             let (piece, end) = read(db.scan_within(0, 1, span, room(7, bytes)).expect("rows"));
-            assert!(!piece.is_empty() && piece.len() <= 7);
-            assert!(piece.iter().map(|(key, value)| 17 + key.len() + value.len()).sum::<usize>() as u64 <= bytes);
+            assert!(!piece.is_empty() && piece.len() <= 7 || end.is_none());
+            let weight = piece.iter().map(|(key, value)| 17 + key.len() + value.len()).sum::<usize>();
+            assert!(weight as u64 <= bytes || piece.len() == 1);
             told.extend(piece);
             match end {
                 Some(end) => from = end,
@@ -109,7 +113,7 @@ fn polls() {
     db.close_to(0, 20).expect("a call");
     let feed = db.call("3 open - - 0\n").expect("a call").number().expect("its number");
     // 23, 18, 28, 19 and 17 bytes
-    for (max, bytes, told) in [(9, 22, 0), (9, 40, 1), (1, ALL, 1), (9, 46, 1), (9, 18, 0), (9, 36, 2), (9, ALL, 0)] {
+    for (max, bytes, told) in [(0, ALL, 0), (9, 22, 1), (9, 46, 2), (9, 18, 1), (9, 0, 1), (9, ALL, 0)] {
         let messages: Vec<Message> = db.poll_within(3, feed, max, bytes).expect("a poll").collect();
         assert_eq!(messages.len(), told, "{max} {bytes}");
     }

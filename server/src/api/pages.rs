@@ -86,10 +86,15 @@ impl Page {
         self.rows.iter().map(|(key, value)| 17 + key.len() as u64 + value.len() as u64).sum()
     }
 
-    /// Rows of a span, and where they end before it.
-    pub fn of(rows: ripsawbean::Rows<'_>, span: Span<'_>) -> Page {
+    /// Rows of a span, and where they end before it. The library tells the first row in any case: one without room is the
+    /// next page's.
+    pub fn of(rows: ripsawbean::Rows<'_>, span: Span<'_>, room: Room) -> Page {
         let next = rows.end().filter(|end| span.hi != Some(end)).map(<[u8]>::to_vec);
-        Page { rows: rows.map(|(key, value)| (key.to_vec(), value.to_vec())).collect(), next }
+        let mut page = Page { rows: rows.map(|(key, value)| (key.to_vec(), value.to_vec())).collect(), next };
+        if page.rows.len() as u64 > room.rows || page.bytes() > room.bytes {
+            page.next = page.rows.pop().map(|(key, _)| key);
+        }
+        page
     }
 }
 
@@ -154,6 +159,23 @@ mod tests {
             let hi = Some(hi.as_bytes()).filter(|hi| !hi.is_empty());
             let page = core.page(Span { lo: lo.as_bytes(), hi }, at, most).expect("a page");
             assert_eq!((keys(&page), text(page.next.as_ref())), (found, next), "{lo} {hi:?} {at} {most}");
+        }
+    }
+
+    #[test]
+    fn a_row_without_room_is_the_next_pages() {
+        let mut core = core(&[]);
+        let mut one = session(&mut core);
+        say(&mut core, &mut one, "begin\nput . a 12\nput . b 3\ncommit .\n");
+        for (hi, rows, bytes, found, next) in [
+            (None, 9, 20, vec!["a"], Some("b")),
+            (None, 9, 19, vec![], Some("a")),
+            (None, 0, 99, vec![], Some("a")),
+            (Some(b"a\0".as_slice()), 9, 19, vec![], Some("a")),
+            (Some(b"a\0".as_slice()), 9, 20, vec!["a"], None),
+        ] {
+            let page = core.part(Span { lo: b"", hi }, 1, Room { rows, bytes }).expect("a page");
+            assert_eq!((keys(&page), text(page.next.as_ref())), (found, next), "{hi:?} {rows} {bytes}");
         }
     }
 
