@@ -1,4 +1,4 @@
-use Rattle.std.proofs.Common.{refl, inl, arith}
+use Rattle.std.proofs.Common.{arith}
 use Rattle.sessions.specs.Devices.{pending_of}
 use Rattle.sessions.proofs.Transcripts.{block_written}
 use Rattle.sessions.proofs.output.Output.write_full.Goals as goal
