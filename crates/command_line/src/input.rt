@@ -1,5 +1,5 @@
 //! An input whose beginning is kept, so that a faulty line can be looked at once more.
-ghost use Rattle.std.specs.Prelude.{◌≡◌, ◌≤◌, ◌<◌, take, length, IfOk, OnErr};
+ghost use Rattle.std.specs.Prelude.{◌≡◌, ◌≤◌, take, length, IfOk, OnErr};
 ghost use Rattle.sessions.specs.Devices.{with_given, with_failed_read};
 
 use sessions::{ReadFailed, Source};
@@ -64,7 +64,7 @@ impl<S: Source> Source for Input<S> {
     ghost reads = { λ input. S.reads input.source };
 
     fn read(&mut self, block: &mut [u8]) -> Result<usize, ReadFailed>
-        requires room { 0 < length block.old }
+        requires room { 65536 ≤ length block.old }
         ensures count { IfOk result (λ n. n ≤ length block.new) }
         ensures given { IfOk result (λ n. S.reads self.new.source ≡ with_given (S.reads self.old.source) (take n block.new)) }
         ensures failed { OnErr result (S.reads self.new.source ≡ with_failed_read (S.reads self.old.source)) }

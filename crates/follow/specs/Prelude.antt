@@ -8,7 +8,7 @@ pub use Rattle.replica.specs.Replicas.{Follows, view_in}
 pub use Rattle.replica.specs.Rows.{AreRowsOf}
 pub use Rattle.replica.specs.Starts.{IsSeedFault, MayBegin, Start, initial_start, seeded_start}
 pub use Rattle.script.specs.EventLines.{is_newline, lines_of}
-pub use Rattle.sessions.specs.Devices.{HasBegun, HasTaken, Reads, Writes, pending_of}
+pub use Rattle.sessions.specs.Devices.{GoesInBlocks, HasBegun, HasTaken, Reads, Writes, pending_of}
 pub use Rattle.sessions.specs.Waiting.{IsNextLine, format_of, has_ended, waiting}
 pub use Rattle.spans.specs.Completeness.{ready_after}
 pub use Rattle.spans.specs.Consumer.{ApplyFault, apply_fault, view_of}

@@ -34,7 +34,7 @@ pub(crate) struct Follower {
 }
 
 impl Follower {
-    ghost use Rattle.follow.specs.Prelude.{IsNextLine, waiting, pending_of, FollowOptions};
+    ghost use Rattle.follow.specs.Prelude.{IsNextLine, waiting, pending_of, FollowOptions, GoesInBlocks};
     ghost use Rattle.follow.specs.Steps.{HasRead, IsMisreadAt, IsFresh, IsStopped, TakesLine, StopsAtLine, TakesMore, StopsWithLine, TakesMessage, StopsWithMessage, ShowsReady, end_at, end_of};
 
     pub(crate) fn begin(alloc: Global, options: FollowOptions) -> Result<Follower, FollowError>
@@ -106,6 +106,7 @@ impl Follower {
         requires { IsNextLine self.old.lines (Some count) }
         ensures ok { OnOk result (TakesLine self.old self.new number (pending_of kept.old) (pending_of kept.new) (K.writes output.old) (K.writes output.new)) }
         ensures err { IfErr result (StopsAtLine self.old number (pending_of kept.old) (pending_of kept.new) (K.writes output.old) (K.writes output.new)) }
+        ensures blocks { OnOk result (GoesInBlocks (K.writes output.old) (K.writes output.new) (pending_of kept.new)) }
     {
         match self.take_line(kept, count) {
             Ok(()) => {}

@@ -13,7 +13,8 @@
 //!    nothing on the output, and all before it their whole reports.
 //! 4. The bytes read, the bytes written and the end say together how it went: `IsFollowed` in `specs/Ends.antt`. A read
 //!    that failed is the end `Input`, a write that failed is `Output`, and no other end comes of either.
-//! 5. What waits is written before each read, since a read may wait; tests say so, and no clause can.
+//! 5. What waits is written before each read, since a read may wait; tests say so, and no clause can. Behind each line
+//!    less than a block waits.
 //!
 //! ```text
 //! read                                              written, with the rows

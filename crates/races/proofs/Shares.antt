@@ -61,6 +61,7 @@ module _ (db : Db) (all : List Ended) (seats : List _) (lists : List (Vec Event 
   settled events m = let is : w.history ≡ events = sym (merged_is (first_of db) w.history (events_of lists) w.gapless whole events m) in record {
     same = subst (λ xs. IsPermutation xs events) events_is m.same;
     gapless = subst (IsGapless (first_of db)) is w.gapless;
+    bounded = subst (λ (xs : List Event). first_of db + length xs ≤ most) is w.bounded;
     stood = subst (λ xs. StandsFor engine (reverse xs)) is w.stood;
     steps = w.steps ∙ ap length is;
     trace = record { legal = subst (λ xs. IsLegal (reverse xs)) is w.legal; gapless = gapless_from_first (first_of db) events (subst (IsGapless (first_of db)) is w.gapless) };

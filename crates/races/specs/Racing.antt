@@ -88,6 +88,7 @@ pub record IsShare (first : ℕ) (history : List Event) (e : Ended) : Type 0 whe
 pub record IsSettled (db : Db) (all : List Ended) (engine : Engine) (events : List Event) : Type 0 where
   pub same : IsPermutation (flat_map (λ (e : Ended). e.events.items) all) events
   pub gapless : IsGapless (first_of db) events
+  pub bounded : first_of db + length events ≤ most
   pub stood : StandsFor engine (reverse events)
   pub steps : steps_of engine ≡ length events
   pub trace : IsTrace events

@@ -1,6 +1,6 @@
 -- What proofs know of a source of bytes and of a sink, what one read or one write does to that, and how reading or
 -- writing a whole ends (this project's own).
-use Rattle.std.specs.Prelude.{◌≡◌, ℕ, ◌+◌, ◌-◌, ◌==◌, Bool, true, List, ◌++◌, length, [], Result, Ok, Err, Vec}
+use Rattle.std.specs.Prelude.{◌≡◌, ℕ, ◌+◌, ◌-◌, ◌==◌, ◌<◌, ◌≤◌, ◌⊎◌, Bool, true, List, ◌++◌, length, [], Result, Ok, Err, Vec}
 use Rattle.std.specs.Global.{Global}
 use Rattle.sessions.specs.Prelude.{Output, ServeEnd}
 use Rattle.sessions.specs.declared.devices.Reading.{Reading}
@@ -64,6 +64,10 @@ abbrev pub HasWritten : Writes → Writes → (bytes rest : List ℕ) → Result
 HasWritten w w' bytes rest (Ok _) = HasTaken w.taken w'.taken bytes rest × (w'.failures ≡ w.failures)
 HasWritten w w' bytes rest (Err _) = HasBegun w.taken w'.taken bytes × (w'.failures ≡ w.failures + 1)
 
+-- what goes out goes in blocks: nothing was written since, or a block at least, and less than a block waits
+abbrev pub GoesInBlocks : Writes → Writes → List ℕ → Type 0
+GoesInBlocks w w' pending = ((w' ≡ w) ⊎ (length w.taken + 65536 ≤ length w'.taken)) × (length pending < 65536)
+
 -- a source was read to its end, and not once more; or a read failed, which was the last; or memory was wanted
 abbrev pub IsReadWhole : Reads → Reads → Result (Vec ℕ Global) ServeEnd → Type 0
 IsReadWhole r r' (Ok whole) = (r'.given ≡ r.given ++ whole.items) × EndsOnce r r' × (r'.failures ≡ r.failures)
@@ -71,9 +75,13 @@ IsReadWhole r r' (Err end.Input) = r'.failures ≡ r.failures + 1
 IsReadWhole r r' (Err end.Memory) = r'.failures ≡ r.failures
 IsReadWhole r r' (Err _) = ⊥
 
--- a text was written whole; or a write failed, which was the last; or memory was wanted
+-- of a text that was to be written this is left; or a write failed, which was the last; or memory was wanted
+abbrev pub IsWrittenTo : (text rest : List ℕ) → Writes → Writes → Result (Unit {0}) ServeEnd → Type 0
+IsWrittenTo text rest w w' (Ok _) = HasTaken w.taken w'.taken text rest × (w'.failures ≡ w.failures)
+IsWrittenTo text rest w w' (Err end.Output) = HasBegun w.taken w'.taken text × (w'.failures ≡ w.failures + 1)
+IsWrittenTo text rest w w' (Err end.Memory) = HasBegun w.taken w'.taken text × (w'.failures ≡ w.failures)
+IsWrittenTo text rest w w' (Err _) = ⊥
+
+-- it was written whole
 abbrev pub IsWrittenWhole : List ℕ → Writes → Writes → Result (Unit {0}) ServeEnd → Type 0
-IsWrittenWhole text w w' (Ok _) = HasTaken w.taken w'.taken text [] × (w'.failures ≡ w.failures)
-IsWrittenWhole text w w' (Err end.Output) = HasBegun w.taken w'.taken text × (w'.failures ≡ w.failures + 1)
-IsWrittenWhole text w w' (Err end.Memory) = HasBegun w.taken w'.taken text × (w'.failures ≡ w.failures)
-IsWrittenWhole text w w' (Err _) = ⊥
+IsWrittenWhole text w w' r = IsWrittenTo text [] w w' r

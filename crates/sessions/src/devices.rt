@@ -14,9 +14,10 @@ pub struct ReadFailed;
 pub trait Source {
     ghost reads: { Self → Reads };
 
-    /// Reads once, into the front of the block. It may wait for the device. No bytes are its end.
+    /// Reads once, into the front of the block, which has 65536 bytes at least: a read costs as much however few it asks
+    /// for. It may wait for the device. No bytes are its end.
     fn read(&mut self, block: &mut [u8]) -> Result<usize, ReadFailed>
-        requires room { 0 < length block.old }
+        requires room { 65536 ≤ length block.old }
         ensures count { IfOk result (λ n. n ≤ length block.new) }
         ensures given { IfOk result (λ n. reads self.new ≡ with_given (reads self.old) (take n block.new)) }
         ensures failed { OnErr result (reads self.new ≡ with_failed_read (reads self.old)) };

@@ -8,11 +8,12 @@
 //! output.write_out(sink)?                  waits: nothing
 //! output.write_last(sink, b"spent 2\n")?   waits: nothing, and the line is written
 //! ```
-ghost use Rattle.std.specs.Prelude.{◌≡◌, ◌<◌, ◌++◌, [], length, IfOk, OnOk, OnErr};
+ghost use Rattle.std.specs.Prelude.{◌≡◌, ◌++◌, [], IfOk, OnOk, OnErr};
 ghost use Rattle.sessions.specs.Prelude.{command_line, event_text};
-ghost use Rattle.sessions.specs.Devices.{pending_of, HasWritten};
+ghost use Rattle.sessions.specs.Devices.{pending_of, GoesInBlocks, HasWritten, IsWrittenTo};
 
 use crate::devices::{Sink, WriteFailed};
+use crate::ending::ServeEnd;
 use crate::whole::write_whole;
 use spans::Event;
 use std::alloc::{AllocError, Global};
@@ -44,12 +45,15 @@ impl Output {
         self.pending.extend_from_slice(bytes)
     }
 
-    /// Keeps the text of an event, or none of it where it is out of memory.
-    pub fn keep_event(&mut self, event: &Event) -> Result<(), AllocError>
-        ensures ok { OnOk result (pending_of self.new ≡ pending_of self.old ++ event_text event.now) }
-        ensures err { OnErr result (pending_of self.new ≡ pending_of self.old) }
+    /// Keeps the text of an event, or none of it where it is out of memory, and writes what waits where that is a block
+    /// or more.
+    pub fn put_event<K: Sink>(&mut self, sink: &mut K, event: &Event) -> Result<(), ServeEnd>
+        ensures put { IsWrittenTo (pending_of self.old ++ event_text event.now) (pending_of self.new) (K.writes sink.old) (K.writes sink.new) result }
+        ensures blocks { OnOk result (GoesInBlocks (K.writes sink.old) (K.writes sink.new) (pending_of self.new)) }
     {
-        write_event(&mut self.pending, event)
+        write_event(&mut self.pending, event)?;
+        self.write_full(sink)?;
+        Ok(())
     }
 
     /// Keeps the text of an event whose command was read from a line, as it stands there; none of it where it
@@ -65,7 +69,7 @@ impl Output {
     /// Writes what waits where that is a block or more, as `write_out` does.
     pub fn write_full<K: Sink>(&mut self, sink: &mut K) -> Result<(), WriteFailed>
         ensures written { HasWritten (K.writes sink.old) (K.writes sink.new) (pending_of self.old) (pending_of self.new) result }
-        ensures full { OnOk result (length (pending_of self.new) < 65536) }
+        ensures blocks { OnOk result (GoesInBlocks (K.writes sink.old) (K.writes sink.new) (pending_of self.new)) }
     {
         if self.pending.len() < BLOCK {
             return Ok(());

@@ -2,6 +2,7 @@
 ghost use Rattle.std.specs.Prelude.{◌≡◌, ◌<◌, ◌≤◌, Some, vec_len, length, take, IfOk, IfErr, OnOk};
 ghost use Rattle.sessions.specs.Prelude.{command_line};
 ghost use Rattle.word_lines.specs.Limits.{IsCommand};
+ghost use Rattle.sessions.specs.Devices.{pending_of, GoesInBlocks};
 ghost use Rattle.sessions.specs.Runs.{IsServed};
 ghost use Rattle.sessions.specs.Waiting.{IsNextLine, waiting};
 ghost use Rattle.sessions.specs.Going.{IsStopped, IsFresh, IsRefused, MakesCall, StopsBefore, CallsLine, StopsAtLine, ServesAs, end_of};
@@ -129,6 +130,7 @@ impl Run {
         ensures terms { self.new.terms ≡ self.old.terms }
         ensures ok { OnOk result (CallsLine self.old self.new number (K.writes output.old) (K.writes output.new)) }
         ensures err { IfErr result (StopsAtLine self.old self.new number (K.writes output.old) (K.writes output.new)) }
+        ensures blocks { OnOk result (GoesInBlocks (K.writes output.old) (K.writes output.new) (pending_of self.new.output)) }
     {
         let seat = self.read(number, count, &mut event.cmd)?;
         self.call(rt, number, count, seat, event)?;

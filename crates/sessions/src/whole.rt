@@ -51,8 +51,7 @@ pub fn write_transcript<K: Sink>(
     let mut output = Output::new(alloc)?;
     output.keep(format.header())?;
     for event in events {
-        output.keep_event(event)?;
-        output.write_full(sink)?;
+        output.put_event(sink, event)?;
     }
     output.write_out(sink)?;
     Ok(())
