@@ -1,5 +1,5 @@
 -- From what `finish` tells to what is said of a race that is over.
-use Rattle.std.proofs.Common.{◌≡◌, ℕ, ◌+◌, ◌<◌, List, length, map, reverse, get_or, Global, sym, ap, ◌∙◌, subst, All}
+use Rattle.std.proofs.Common.{◌≡◌, ℕ, ◌+◌, ◌<◌, ◌≤◌, List, length, map, reverse, get_or, Global, sym, ap, ◌∙◌, subst, All}
 use Rattle.std.specs.Prelude.{◌≢◌, flat_map, Vec, IsPermutation}
 use Rattle.std.proofs.lemmas.List.Elements.{All-map}
 use Rattle.std.proofs.lemmas.List.Folds.{flat_map-map}

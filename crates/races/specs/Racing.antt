@@ -84,7 +84,8 @@ pub record IsShare (first : ℕ) (history : List Event) (e : Ended) : Type 0 whe
   pub own : e.events.items ≡ of_seat (λ (x : Event). x.seat) (number e.seat) history
   pub spent : e.spent ≡ true → first + length history ≡ most
 
--- the events of all sessions, each once, are the one history that the engine stands for
+-- the events of all sessions, each once, are the one history that the engine stands for, to position 18446744073709551614 at
+-- most
 pub record IsSettled (db : Db) (all : List Ended) (engine : Engine) (events : List Event) : Type 0 where
   pub same : IsPermutation (flat_map (λ (e : Ended). e.events.items) all) events
   pub gapless : IsGapless (first_of db) events
