@@ -12,8 +12,11 @@
 //!
 //! A commit of a request with a key has the key's lines beside it (`set_beside`), in one batch.
 //!
-//! 1. `writes` has what each undecided transaction has written, and nothing of others.
-//! 2. A key is in `fresh` as long as a commit of it isn't durable.
+//! 1. `writes` has what each undecided transaction has written, and nothing of others. Else a commit comes back with
+//!    other values.
+//! 2. A key is in `fresh` as long as a commit of it isn't durable. Else a read tells of a commit that a crash takes back.
+//! 3. No call brings a timestamp in above the mark that is durable. Else a crash gives it twice, and closed falls.
+//! 4. Behind the end nothing is called, and nothing is told: the last mark is lower, and no batch comes behind it.
 
 use super::note::{Kept, Note};
 use super::rules::{holds, Rule};
@@ -187,13 +190,19 @@ impl Journal {
     pub fn note(&mut self, record: &Record, line: &[u8], closed: u64) {
         use ripsawbean::Outcome as Did;
         let Some(writer) = &self.writer else { return };
+        if self.is_over {
+            self.needed = Ticket::NEVER;
+        }
         match record.outcome {
             Did::Written => self.writes.entry(record.at).or_default().add(line),
             Did::Committed(_) => self.committed(record.at),
             Did::Aborted => drop(self.writes.remove(&record.at)),
             Did::Closed(closed) if closed.aborted > 0 => self.writes.retain(|ts, _| *ts > closed.at),
             Did::Value(_) | Did::None => self.need_by(Rule::ReadsWait, self.fresh.ticket(writer, key_of(line))),
-            Did::Rows(_) => self.need_by(Rule::ScansWait, self.fresh.greatest(writer)),
+            // Which transaction blocks a scan first rests on what was committed before it.
+            Did::Rows(_) | Did::Refused(Refusal::Blocked(_)) => {
+                self.need_by(Rule::ScansWait, self.fresh.greatest(writer));
+            }
             Did::Collected { horizon, .. } => self.collected(horizon, closed),
             // It may rest on a read that nobody is told of.
             Did::Refused(Refusal::TooLate) => {
@@ -345,7 +354,7 @@ struct Fresh {
 impl Fresh {
     fn add(&mut self, ticket: Ticket, keys: Vec<Box<[u8]>>) {
         if ticket != self.now.0 {
-            // What was before this is durable: one batch is on its way at a time.
+            // What was before these two is durable: one batch is on its way at a time. Behind the end nothing is told.
             std::mem::swap(&mut self.now, &mut self.before);
             self.now.0 = ticket;
             self.now.1.clear();

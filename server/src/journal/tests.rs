@@ -20,6 +20,8 @@ mod disk;
 mod ghost;
 mod keys;
 mod model;
+mod rests;
+mod series;
 
 const NO_HISTORY: [&str; 2] = ["--history", "0"];
 

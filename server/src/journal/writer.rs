@@ -6,7 +6,8 @@
 //! told                    what rests on 7     what rests on 8
 //! ```
 //!
-//! 1. One batch is on its way at a time. So what isn't durable is one batch, at the end of the last series.
+//! 1. One batch is on its way at a time. So what isn't durable is one batch, at the end of the last series. Of two, a
+//!    crash may leave the second without the first.
 //! 2. Where a batch can't be written the process ends at once, before anyone is told of it.
 //! 3. What a large transaction wrote is handed on from `recorder` to the disk, and never copied. So however much waits for
 //!    a slow disk, it takes the memory that it took before its commit.

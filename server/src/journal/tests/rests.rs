@@ -1,0 +1,69 @@
+//! What rests on a batch that isn't durable, where the journal's thread is moved by hand.
+
+use super::disk::Disk;
+use super::*;
+use crate::door::Turn;
+use crate::journal::writer::by_hand;
+use crate::lines::Lines;
+
+/// A life over a disk, whose marks are far above all that is said.
+fn life(disk: &Disk) -> Core {
+    let recovered = recovery::recover(Box::new(disk.clone()), IDENTITY, true).map_err(|error| error.to_string());
+    let log = Arc::new(Log::to(Level::Error, false, Box::new(std::io::sink())));
+    let options = options(&["--history", "0", "--max-age", "3600"]);
+    let mut core = Core::recovered(recovered.expect("it begins"), &options, log);
+    let _ = core.journal.cover(core.ledger.closed + (1 << 20));
+    by_hand::take();
+    by_hand::finish().expect("it is written");
+    core
+}
+
+/// The answers of lines, and what they rest on.
+fn told(core: &mut Core, session: &mut Session, text: &str) -> (Vec<String>, Ticket) {
+    let mut lines = Lines::new(text.as_bytes().to_vec());
+    assert_eq!(lines.turn(core, session, Instant::now() + Duration::from_secs(60)), Ok(Turn::Done));
+    let text = String::from_utf8(lines.answers).expect("text");
+    let answer = |line: &str| line.rsplit_once(" => ").map_or(line, |(_, answer)| answer).to_string();
+    (text.lines().map(answer).collect(), lines.rests)
+}
+
+#[test]
+fn behind_the_end_a_read_is_told_no_earlier_than_its_commit() {
+    by_hand::hold();
+    let disk = Disk::default();
+    let mut core = life(&disk);
+    let mut all: Vec<Session> = (0..4).map(|_| session(&mut core)).collect();
+    for (at, lines) in ["begin\nput . c 1\n", "begin\nput . a 1\n", "begin\nput . b 1\n", "begin\n"].iter().enumerate()
+    {
+        let _ = told(&mut core, &mut all[at], lines);
+    }
+    // One commit is on its way, one gathers, and one comes behind the end.
+    let _ = told(&mut core, &mut all[1], "commit .\n");
+    assert!(by_hand::take());
+    let _ = told(&mut core, &mut all[0], "commit .\n");
+    let last = core.journal.end(core.ledger.greatest.max(core.ledger.closed));
+    let (_, never) = told(&mut core, &mut all[2], "commit .\n");
+    assert!(never == Ticket::NEVER && last < never);
+    let (answer, rests) = told(&mut core, &mut all[3], "get . a\n");
+    let mut after = life(&Disk::of(disk.all()));
+    let mut one = session(&mut after);
+    assert_eq!((answer, rows(&mut after, &mut one)), (vec!["value 1".to_string()], Vec::new()));
+    assert!(!core.journal.durable().has(rests));
+}
+
+#[test]
+fn what_blocks_a_scan_is_told_no_earlier_than_commits_before_it() {
+    by_hand::hold();
+    let mut core = life(&Disk::default());
+    let mut all: Vec<Session> = (0..4).map(|_| session(&mut core)).collect();
+    for (at, lines) in
+        ["begin 1\nput . a 1\n", "begin 2\nput . a 2\n", "begin 3\nput . b 3\n", "begin 4\n"].iter().enumerate()
+    {
+        let _ = told(&mut core, &mut all[at], lines);
+    }
+    let (_, commit) = told(&mut core, &mut all[1], "commit .\n");
+    let (answer, rests) = told(&mut core, &mut all[3], "scan . - -\n");
+    // Had the commit been lost, 1 would block it.
+    assert_eq!((answer, rests), (vec!["blocked 3".to_string()], commit));
+    assert!(!core.journal.durable().has(commit));
+}
