@@ -13,6 +13,7 @@
 //!    when to ask again, where that is known.
 
 use crate::gate::Right;
+use crate::journal::Ticket;
 use serde_json::Value;
 use std::fmt::{self, Display, Write};
 use std::time::Duration;
@@ -25,12 +26,19 @@ pub struct Refusal {
     pub error: &'static str,
     pub why: String,
     pub members: Vec<(&'static str, Value)>,
+    /// What it rests on, where that is less than all that was done before.
+    pub rests: Option<Ticket>,
     headers: Vec<(&'static str, String)>,
 }
 
 impl Refusal {
     pub fn new(status: u16, error: &'static str, why: impl Into<String>) -> Refusal {
-        Refusal { status, error, why: why.into(), members: Vec::new(), headers: Vec::new() }
+        Refusal { status, error, why: why.into(), members: Vec::new(), rests: None, headers: Vec::new() }
+    }
+
+    /// It is told once this is durable, and needn't wait for all that was done before.
+    pub fn resting_on(self, ticket: Ticket) -> Refusal {
+        Refusal { rests: Some(ticket), ..self }
     }
 
     /// A further member, as it is: a string, a count or null.

@@ -24,6 +24,7 @@ import durable_damage
 import durable_keys
 import durable_names
 import durable_postgres
+import durable_still
 from correct import Consumer, Load, Size, judge
 from correct_keyed import finish_all
 from durable_servers import DurableServer, Pair
@@ -250,7 +251,7 @@ CONTROLS = {
 }
 
 
-TESTS = (*durable_damage.TESTS, durable_names.test_names_that_were_not_synced, *durable_postgres.TESTS,
+TESTS = (*durable_damage.TESTS, durable_names.test_names_that_were_not_synced, *durable_still.TESTS, *durable_postgres.TESTS,
          *durable_keys.TESTS)
 
 

@@ -12,19 +12,23 @@ import random
 import shutil
 
 from durable_servers import DurableServer
-from machine import Room
+from machine import Room, wait_for
 
-ROWS = 14
+ROWS = 10
 Rows = dict[str, int]  # what was acknowledged
 
 
-def load(server: DurableServer, turn: int, told: Rows) -> None:
-    """Writes rows until the server dies."""
+def load(server: DurableServer, turn: int, told: Rows, checkpoints: int) -> None:
+    """Writes rows, and waits for checkpoints between them, until the server dies."""
     with contextlib.suppress(OSError, http.client.HTTPException):
         for number in range(ROWS):
             key = "turn%d.%d" % (turn, number % 7)
             server.call("begin\nput . %s %d%s\ncommit .\n" % (key, number, "x" * 200))
             told[key] = number
+        for made in range(1, checkpoints + 1):
+            last = os.path.join(server.place, "checkpoint-%06d.script" % (made + 1))
+            wait_for(lambda: os.path.exists(last) or server.has_ended(), "a checkpoint")
+            load(server, turn + 2 * made, told, 0)
 
 
 def undo(noted: str, folder: str, place: str, is_lost: list[bool]) -> None:
@@ -64,13 +68,13 @@ def test_names_that_were_not_synced(room: Room, dice: random.Random) -> tuple[li
         room.programs.append(server)
         with contextlib.suppress(RuntimeError):  # it died before it was there
             server.start()
-            load(server, 1, told)
+            load(server, 1, told, 2)
         has_died = server.has_ended()
         server.kill()
         server.loses_power(room, POWERLESS_NAMES=noted)
         server.command[server.command.index("1500")] = "100000000"
         server.start()
-        load(server, 2, told)
+        load(server, 2, told, 0)
         server.kill()
         server.keeps_power()
         count = sum(1 for _ in open(noted))

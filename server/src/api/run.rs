@@ -25,7 +25,8 @@
 //!    it, --max-age does it. Whoever lets go of a plan between two turns aborts it.
 //! 4. It reads at most `MOST_ROWS` rows by scans, passes over at most `cuts::MOST` parts of spans, and tells at most
 //!    --max-reply bytes. A turn reads what takes some 2 milliseconds, and one part more; the last turn writes all.
-//! 5. A short one is stopped where it has read and written what takes some 2 milliseconds: `Stop::Long`.
+//! 5. Its timestamp is at or below the mark that is durable before it begins. Else a crash could give it twice.
+//! 6. A short one is stopped where it has read and written what takes some 2 milliseconds: `Stop::Long`.
 
 mod scan;
 mod stop;
@@ -176,10 +177,12 @@ enum Looked<'p> {
 impl<'p> Running<'p> {
     pub fn begin(core: &mut Core, plan: &'p Plan<'_>, pace: Pace) -> Result<Running<'p>, Stop> {
         check(core, plan)?;
+        let timestamp = core.ledger.next_timestamp();
+        core.journal.cover(timestamp).map_err(Stop::Until)?;
         let running = Running {
             plan,
             pace,
-            timestamp: core.ledger.next_timestamp(),
+            timestamp,
             was_cut: false,
             looked: Vec::with_capacity(plan.conditions.len()),
             branch: None,

@@ -89,6 +89,7 @@ pub async fn run_until<'p>(
             Ok(end) => return Ok(end),
             Err(Stop::Long) => pace = Pace::Turns,
             Err(Stop::Overtaken) => pace = Pace::Whole,
+            Err(Stop::Until(ticket)) => server.door.until(ticket).await,
             Err(Stop::Blocked(by, mut decision)) => {
                 if tokio::time::timeout_at(until.into(), decision.changed()).await.is_err() {
                     return Err(Stop::Blocked(by, decision).refusal());

@@ -1,7 +1,6 @@
 //! What each event means for the journal: what is recorded of it, and what its answer rests on.
 //!
-//! `core` calls `note` after each event of the database, and `consumers` tells each name's place. Nothing here waits but
-//! `cover_now`.
+//! `core` calls `note` after each event of the database, and `consumers` tells each name's place. Nothing here waits.
 //!
 //! ```text
 //! begin 7, put 7 a 1           kept: `0 put 7 a 1`
@@ -131,13 +130,9 @@ impl Journal {
     /// Whether a call may bring this timestamp into the database: it is at or below the mark that is durable. If not, the
     /// call has to wait for the ticket. None may once the last batch is on its way, because that has a lower mark.
     pub fn cover(&mut self, timestamp: u64) -> Result<(), Ticket> {
-        match self.is_over {
-            true => Err(Ticket::NEVER),
-            false => self.raise(timestamp),
+        if self.is_over {
+            return Err(Ticket::NEVER);
         }
-    }
-
-    fn raise(&mut self, timestamp: u64) -> Result<(), Ticket> {
         let Some(writer) = self.writer.as_ref().filter(|_| timestamp <= GREATEST) else { return Ok(()) };
         let is_durable = timestamp <= writer.durable_mark();
         if is_durable && timestamp.saturating_add(AHEAD / 2) <= self.mark {
@@ -149,15 +144,6 @@ impl Journal {
             Ok(())
         } else {
             Err(ticket)
-        }
-    }
-
-    /// Waits for the mark where `cover` wasn't asked. Everyone waits meanwhile. Behind the end nobody is told of it.
-    pub fn cover_now(&mut self, timestamp: u64) {
-        if !self.is_over && self.raise(timestamp).is_err() {
-            if let Some(writer) = &self.writer {
-                writer.wait_for_mark(timestamp);
-            }
         }
     }
 

@@ -349,6 +349,7 @@ fn the_log_says_who_has_ended_what_is_anothers() {
     assert_eq!(told, ["closed 1 0", "cancelled", "released", "closed 7 1", "feedcancelled", "noprotection"]);
     answers(&mut core, &mut one, "open - - 7\n");
     assert!(answers(&mut core, &mut two, "cancel 3")[0].ends_with(" 7 nonewline"));
+    core.log.flush();
     let text = said.text();
     let lines: Vec<&str> = text.lines().filter_map(|line| Some(line.split_once(" info ")?.1)).collect();
     let seat = two.seat;

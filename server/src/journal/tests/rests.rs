@@ -2,6 +2,8 @@
 
 use super::disk::Disk;
 use super::*;
+use crate::api::plan::Plan;
+use crate::api::run::{run, End, Pace, Stop};
 use crate::door::Turn;
 use crate::journal::writer::by_hand;
 use crate::lines::Lines;
@@ -66,4 +68,24 @@ fn what_blocks_a_scan_is_told_no_earlier_than_commits_before_it() {
     // Had the commit been lost, 1 would block it.
     assert_eq!((answer, rests), (vec!["blocked 3".to_string()], commit));
     assert!(!core.journal.durable().has(commit));
+}
+
+#[test]
+fn a_request_above_the_mark_begins_once_that_is_durable() {
+    by_hand::hold();
+    let mut core = life(&Disk::default());
+    let plan = Plan::of(br#"{"then":[{"put":"a","value":"1"}]}"#).expect("a plan");
+    let mut one = session(&mut core);
+    // It is the mark that is durable.
+    let (mark, far) = ((1 << 20) + (1 << 16), "1000000000");
+    core.limits = crate::lines::Limits::of(&options(&["--ahead", far]));
+    assert_eq!(told(&mut core, &mut one, &format!("begin {mark}\nabort .\n")).0, ["started", "aborted"]);
+    let asked = |core: &mut Core| run(core, &plan, Pace::Short, None);
+    let Err(Stop::Until(ticket)) = asked(&mut core) else { panic!("its timestamp is above the mark") };
+    assert_eq!((core.ledger.greatest, core.ledger.undecided.len()), (mark, 0));
+    by_hand::take();
+    by_hand::finish().expect("it is written");
+    assert!(core.journal.durable().has(ticket) && matches!(asked(&mut core), Ok(End::Committed(_))));
+    let _ = core.journal.end(core.ledger.greatest);
+    assert!(matches!(asked(&mut core), Err(Stop::Until(Ticket::NEVER))));
 }
