@@ -235,6 +235,11 @@ impl Response {
         response
     }
 
+    #[cfg(test)]
+    pub fn rests(&self) -> Option<Ticket> {
+        self.rests
+    }
+
     /// Bytes of its body, where that is there.
     pub fn length(&self) -> usize {
         match &self.body.content {

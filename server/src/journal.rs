@@ -40,7 +40,7 @@ mod postgres;
 mod recorder;
 pub mod recovery;
 mod restore;
-mod rules;
+pub mod rules;
 mod store;
 mod writer;
 

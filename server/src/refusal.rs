@@ -102,18 +102,20 @@ impl Refusal {
     }
 
     pub fn no_path() -> Refusal {
-        Refusal::new(404, "path", "the server has no such path")
+        Refusal::new(404, "path", "the server has no such path").resting_on(Ticket::NONE)
     }
 
     /// A request names the database that it means.
     pub fn other_identity(identity: &str) -> Refusal {
         let why = "this is another database than the one that the request names: what was read there doesn't hold here";
-        Refusal::new(412, "identity", why).with("identity", identity)
+        Refusal::new(412, "identity", why).with("identity", identity).resting_on(Ticket::NONE)
     }
 
     /// `allowed` are the methods of this path, as `GET, POST`.
     pub fn no_method(allowed: &str) -> Refusal {
-        Refusal::new(405, "method", "this path takes other methods").with_header("Allow", allowed)
+        Refusal::new(405, "method", "this path takes other methods")
+            .with_header("Allow", allowed)
+            .resting_on(Ticket::NONE)
     }
 
     pub fn slow() -> Refusal {

@@ -55,7 +55,7 @@ def test_a_disk_that_stands_still(room: Room, dice: random.Random) -> list[str]:
         begins = [Later(server, "POST", "/call", "begin %d\n" % at) for at in (60000, 65536, 100000)]
         puts = [Later(server, "PUT", "/key/k%d" % at, "1") for at in range(8)]
         time.sleep(1)
-        for path, wanted in (("/healthz", 200), ("/", 200), ("/page/page.css", 200)):
+        for path, wanted in (("/healthz", 200), ("/", 200), ("/page/page.css", 200), ("/nothing", 404), ("/key/quiet?at=1", 200)):
             status, _ = asked(server, "GET", path)
             if status != wanted:
                 faults.append("%s is answered %d" % (path, status))

@@ -5,8 +5,10 @@ use super::*;
 use crate::api::plan::Plan;
 use crate::api::run::{run, End, Pace, Stop};
 use crate::door::Turn;
+use crate::gate::Who;
 use crate::journal::writer::by_hand;
 use crate::lines::Lines;
+use crate::testing::{ask, server_of};
 
 /// A life over a disk, whose marks are far above all that is said.
 fn life(disk: &Disk) -> Core {
@@ -88,4 +90,53 @@ fn a_request_above_the_mark_begins_once_that_is_durable() {
     assert!(core.journal.durable().has(ticket) && matches!(asked(&mut core), Ok(End::Committed(_))));
     let _ = core.journal.end(core.ledger.greatest);
     assert!(matches!(asked(&mut core), Err(Stop::Until(Ticket::NEVER))));
+}
+
+/// What a request is told, and whether it waits.
+async fn waits(server: &Arc<crate::routes::Server>, line: &str, body: &str) -> (u16, bool) {
+    let (status, rests) = match ask(server, &Who::anyone(), line, &[], body).await {
+        Ok(response) => (response.status, response.rests()),
+        Err(refusal) => (refusal.status, refusal.rests),
+    };
+    let rests = rests.unwrap_or_else(|| server.door.all());
+    (status, server.door.run(|core| !core.journal.durable().has(rests)))
+}
+
+#[tokio::test]
+async fn an_answer_waits_for_its_own_commit_or_for_those_of_the_keys_that_it_has_read() {
+    by_hand::hold();
+    let server = server_of(life(&Disk::default()), &[]);
+    for line in ["PUT /key/quiet", "PUT /key/gone"] {
+        assert_eq!(waits(&server, line, "1").await, (200, true));
+    }
+    by_hand::take();
+    by_hand::finish().expect("it is written");
+    for (line, body, told) in [
+        ("PUT /key/fresh", "1", (200, true)),
+        ("DELETE /key/gone", "", (200, true)),
+        ("GET /key/fresh", "", (200, true)),
+        ("GET /key/quiet", "", (200, false)),
+        ("GET /key/quiet?at=2", "", (200, false)),
+        ("GET /key/gone", "", (404, true)),
+        ("GET /key/none", "", (404, false)),
+        ("DELETE /key/none", "", (404, false)),
+        ("GET /rows?lo=q", "", (200, true)),
+        ("POST /transact", r#"{"then":[{"get":"quiet"},{"get":"none"}]}"#, (200, false)),
+        ("POST /transact", r#"{"then":[{"get":"quiet"},{"get":"fresh"}]}"#, (200, true)),
+        ("POST /transact", r#"{"then":[{"scan":["q",null]}]}"#, (200, true)),
+        ("POST /transact", r#"{"if":[{"key":"quiet","value":"2"}],"then":[]}"#, (409, false)),
+        ("POST /transact", r#"{"if":[{"key":"fresh","value":"2"}],"then":[]}"#, (409, true)),
+        ("GET /consumer/none", "", (200, true)),
+        ("GET /nothing", "", (404, false)),
+        ("DELETE /healthz", "", (405, false)),
+        ("GET /healthz", "", (200, false)),
+        ("GET /page/examples", "", (200, false)),
+    ] {
+        assert_eq!(waits(&server, line, body).await, told, "{line} {body}");
+    }
+    by_hand::take();
+    by_hand::finish().expect("it is written");
+    for line in ["GET /key/fresh", "GET /key/gone", "GET /rows", "GET /consumer/none"] {
+        assert!(!waits(&server, line, "").await.1, "{line}");
+    }
 }
