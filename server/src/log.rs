@@ -9,7 +9,7 @@
 //!
 //! 1. A line is one line, whatever stands in a field, so no client can forge one.
 //! 2. An event is written at most `MOST` times a minute. What was left out is told as a count, after the minute.
-//! 3. Audit lines, which say who changed what is another's, are written however many they are.
+//! 3. Audit lines, which say who changed what is another's, are written at each level and however many they are.
 //! 4. No token and no value of the database is ever a field. That is the callers' care.
 //! 5. Who says something never waits for whoever reads it: a thread writes. Else a pipe that nobody reads would hold up
 //!    the lock of the database, and everyone. Lines that find no room are lost, and counted in one that comes later:
@@ -138,9 +138,6 @@ impl Log {
 
     /// Who changed what is another's.
     pub fn audit(&self, event: &'static str, fields: &[Field]) {
-        if Level::Info > self.level {
-            return;
-        }
         let line = self.shared.line(Level::Info, event, fields);
         self.with(|inner| inner.add(&line, AUDIT_ROOM));
     }
@@ -407,14 +404,14 @@ mod tests {
     }
 
     #[test]
-    fn levels_above_the_chosen_one_are_left_out() {
+    fn levels_above_the_chosen_one_are_left_out_but_for_audit_lines() {
         let (log, kept) = log(Level::Warn, false);
         log.error("a", &[]);
         log.warn("b", &[]);
         log.info("c", &[]);
         log.debug("d", &[]);
         log.audit("e", &[]);
-        assert_eq!(kept.lines(&log), ["error a", "warn b"]);
+        assert_eq!(kept.lines(&log), ["error a", "warn b", "info e"]);
         assert_eq!("debug".parse(), Ok(Level::Debug));
         assert_eq!("Debug".parse::<Level>(), Err(()));
     }
