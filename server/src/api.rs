@@ -29,7 +29,7 @@ pub mod transact;
 
 use self::bytes::Spelling;
 use crate::http::{Request, Response};
-use crate::journal::{Answered, Form};
+use crate::journal::{Answered, Form, Ticket};
 use crate::query::Arguments;
 use crate::refusal::Refusal;
 use crate::routes::Server;
@@ -50,15 +50,21 @@ pub struct Answer {
     form: Form,
     /// Whether it was told before.
     is_again: bool,
+    /// What it rests on, where that is less than all that was done before.
+    rests: Option<Ticket>,
 }
 
 impl Answer {
     fn new(timestamp: u64, form: Form) -> Answer {
-        Answer { timestamp, form, is_again: false }
+        Answer { timestamp, form, is_again: false, rests: None }
+    }
+
+    fn resting_on(self, ticket: Ticket) -> Answer {
+        Answer { rests: Some(ticket), ..self }
     }
 
     fn again(answered: &Answered) -> Answer {
-        Answer { timestamp: answered.timestamp, form: answered.form.clone(), is_again: true }
+        Answer { timestamp: answered.timestamp, form: answered.form.clone(), is_again: true, rests: None }
     }
 
     #[cfg(test)]
@@ -67,7 +73,7 @@ impl Answer {
     }
 
     fn into_response(self, place: Option<Place>) -> Response {
-        let Answer { timestamp, form, is_again } = self;
+        let Answer { timestamp, form, is_again, rests } = self;
         let json = |text: Bytes| Response::whole("application/json; charset=utf-8", text);
         let written = || {
             let text = format!("{{\"timestamp\":\"{timestamp}\"}}\n");
@@ -80,6 +86,9 @@ impl Answer {
         };
         if is_again {
             response = response.with("idempotent-replayed", "true");
+        }
+        if let Some(ticket) = rests {
+            response = response.resting_on(ticket);
         }
         match place {
             Some(mut place) => {

@@ -44,6 +44,7 @@ pub async fn post(server: &Arc<Server>, request: Request) -> Result<Response, Re
         core.names.check_room(&name)?;
         core.check_identity(&given, true)?;
         core.store(&name, needed(&given, "stored")?, needed(&given, "generation")?)?;
+        core.give_name(&name, &request.who);
         Ok(json::lines(core.line_of(&name)))
     })
 }
@@ -54,7 +55,8 @@ pub async fn delete(server: &Arc<Server>, request: Request) -> Result<Response, 
     server.door.run(|core| {
         core.check_identity(&given, false)?;
         if core.names.has(&name) {
-            core.log.info("name_deleted", &[("name", (&*name).into()), ("by", request.who.name().into())]);
+            core.give_name(&name, &request.who);
+            core.log.audit("name_deleted", &[("name", (&*name).into()), ("by", request.who.name().into())]);
         }
         core.forget(&name);
         Ok(json::lines(core.line_of(&name)))

@@ -324,9 +324,6 @@ impl Core {
     }
 
     fn make(&mut self, owner: Owner, command: Command<'_>, mut wanted: Wanted<'_>) -> Result<Outcome, CallError> {
-        if let Command::Begin { ts: at } | Command::Close { to: at } | Command::CloseHard { to: at } = command {
-            self.journal.cover_now(at);
-        }
         let is_told = match self.database.make(owner.seat(), command) {
             Ok(event) => keep(&mut self.transcript, event, &mut wanted),
             Err(CallError::Unwritten) => self.keep_again(&mut wanted),

@@ -230,9 +230,14 @@ impl Response {
     /// A refusal's answer: its line, as application/json.
     pub fn refused(refusal: &Refusal) -> Response {
         let mut response = Response::whole("application/json; charset=utf-8", refusal.line());
-        response.status = refusal.status;
+        (response.status, response.rests) = (refusal.status, refusal.rests);
         response.headers.extend(refusal.headers().map(|(name, value)| (name, value.to_string())));
         response
+    }
+
+    #[cfg(test)]
+    pub fn rests(&self) -> Option<Ticket> {
+        self.rests
     }
 
     /// Bytes of its body, where that is there.

@@ -15,8 +15,8 @@
 //!
 //! ```text
 //! a call above the mark                  is made once a higher mark is durable; it is drawn 65,536 ahead
-//! started, written, aborted, blocked     are told at once: they promise nothing that the mark doesn't cover
-//! value, none, rows                      once no commit of these keys is on its way
+//! started, written, aborted              are told at once: they promise nothing that the mark doesn't cover
+//! value, none, rows, blocked             once no commit of these keys is on its way
 //! all else                               once all before is durable
 //! ```
 //!
@@ -24,8 +24,9 @@
 //! for that. A thread writes (`writer`). `frame` has the form of the bytes, `store` where they stand: in a `folder`, or in
 //! `postgres`. `recovery` makes the database from them, and `checkpoint` makes older ones superfluous.
 //!
-//! 1. The database first, the journal second, the answer last: only the database knows whether a commit commits.
-//! 2. Records are a beginning of the order of calls.
+//! 1. The database first, the journal second, the answer last: only the database knows whether a commit commits, and
+//!    what is told before it is durable may be lost.
+//! 2. Records are a beginning of the order of calls. Else a commit is there, and one that it has read isn't.
 //! 3. Where a write fails the process ends, and tells nobody anything more: after a failed sync the next one may say
 //!    that all is well.
 
@@ -39,7 +40,7 @@ mod postgres;
 mod recorder;
 pub mod recovery;
 mod restore;
-mod rules;
+pub mod rules;
 mod store;
 mod writer;
 
@@ -123,6 +124,14 @@ pub enum Failure {
     },
     /// A restored database begins in a place of its own.
     NotEmpty(String),
+    /// A restore was cut between its checkpoint and its journal.
+    HalfRestored(String),
+    /// A checkpoint in rows has other pieces than it had.
+    Pieces {
+        name: String,
+        found: i64,
+        wanted: i64,
+    },
     Postgres(String),
     /// Another server has taken over.
     Fenced,
@@ -171,6 +180,14 @@ impl fmt::Display for Failure {
             Failure::Postgres(why) => write!(f, "PostgreSQL: {why}"),
             Failure::Fenced => f.write_str("another server has taken over this journal"),
             Failure::NotEmpty(name) => write!(f, "{name} has a database already: --restore needs an empty place"),
+            Failure::HalfRestored(name) => write!(
+                f,
+                "{name} is all that a --restore has left that was cut before its end: empty that place, and restore \
+                 again. Nothing was changed"
+            ),
+            Failure::Pieces { name, found, wanted } => {
+                write!(f, "{name} has {found} of its {wanted} pieces. Nothing was changed")
+            }
         }
     }
 }

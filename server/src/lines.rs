@@ -42,6 +42,7 @@ use crate::options::Options;
 use crate::outcome::Outcome;
 use crate::seats::{Owner, Session};
 use ripsawbean::{unspell, CallError};
+use std::collections::BTreeMap;
 use std::io::Write;
 use std::time::Instant;
 
@@ -203,6 +204,8 @@ fn take(
     let has_dot = has_dot(session, line);
     let most = core.limits.max_answer.saturating_sub(out.len());
     let bound = if length == Length::Short { most.min(SHORT) } else { most };
+    let below = line.strip_prefix(b"closehard ").and_then(|rest| number_in(rest.strip_suffix(b"\n")?));
+    let owners = below.filter(|_| session.who.may(Right::Operate)).map(|at| core.owners_below(at)).unwrap_or_default();
     let made = match prepared(core, session, line, told.is_spoiled && has_dot) {
         Err(fault) => return told.tell(core, session, fault, line, out),
         Ok(_) if length == Length::Short && takes_long(core, session, line) => return Ok(Turn::Long),
@@ -211,8 +214,8 @@ fn take(
     };
     match made {
         Ok(outcome) => {
-            if let (Outcome::Closed { at, aborted: 1.. }, true) = (&outcome, line.starts_with(b"closehard ")) {
-                audit(core, session, "closehard", *at);
+            if let Outcome::Closed { at, aborted: 1.. } = outcome {
+                owners.into_iter().for_each(|(owner, count)| audit(core, session, "closehard", at, owner, count));
             }
             if matches!(outcome, Outcome::Refused(_) | Outcome::TooLate { .. }) {
                 told.has_refusal = true;
@@ -295,10 +298,25 @@ impl Told {
     }
 }
 
-/// Who has ended what is another's.
-fn audit(core: &Core, session: &Session, event: &'static str, number: u64) {
-    let fields = [("number", number.into()), ("seat", session.seat.into()), ("by", session.who.name().into())];
+/// Who has ended what is another's, whose it was, and how many.
+fn audit(core: &Core, session: &Session, event: &'static str, number: u64, owner: Owner, count: u64) {
+    let of = match owner {
+        Owner::Server => "the server",
+        Owner::Seat(seat) => core.seats.taken(seat).map_or("", |taken| &taken.peer),
+    };
+    let (seat, by) = (session.seat.into(), session.who.name().into());
+    let fields = [("number", number.into()), ("seat", seat), ("by", by), ("of", of.into()), ("count", count.into())];
     core.log.audit(event, &fields);
+}
+
+impl Core {
+    /// How many undecided transactions each has at or below a timestamp.
+    fn owners_below(&self, at: u64) -> BTreeMap<Owner, u64> {
+        let mut owners = BTreeMap::new();
+        let below = self.ledger.undecided.range(..=at);
+        below.for_each(|(_, transaction)| *owners.entry(transaction.owner).or_default() += 1);
+        owners
+    }
 }
 
 /// The line that the database is to see, where it is another one.
@@ -491,9 +509,10 @@ fn poll(core: &Core, line: &[u8], rest: &[u8]) -> Prepared {
 
 fn cancel(core: &Core, session: &Session, rest: &[u8]) -> Prepared {
     let Some(number) = number_in(rest) else { return Ok(None) };
-    if core.ledger.feeds.get(&number).is_some_and(|feed| feed.owner != Owner::Seat(session.seat)) {
+    let owner = core.ledger.feeds.get(&number).map(|feed| feed.owner);
+    if let Some(owner) = owner.filter(|owner| *owner != Owner::Seat(session.seat)) {
         check(session, Right::Operate)?;
-        audit(core, session, "cancel", number);
+        audit(core, session, "cancel", number, owner, 1);
     }
     Ok(None)
 }
@@ -504,7 +523,7 @@ fn release(core: &Core, session: &Session, rest: &[u8]) -> Prepared {
         Some(Owner::Server) => return Err(Fault::NotYours),
         Some(owner) if owner != Owner::Seat(session.seat) => {
             check(session, Right::Operate)?;
-            audit(core, session, "release", id);
+            audit(core, session, "release", id, owner, 1);
         }
         _ => {}
     }

@@ -9,19 +9,31 @@
 //!
 //! 1. A line is one line, whatever stands in a field, so no client can forge one.
 //! 2. An event is written at most `MOST` times a minute. What was left out is told as a count, after the minute.
-//! 3. Audit lines, which say who did what an operator may, are never left out.
+//! 3. Audit lines, which say who changed what is another's, are written at each level and however many they are.
 //! 4. No token and no value of the database is ever a field. That is the callers' care.
+//! 5. Who says something never waits for whoever reads it: a thread writes. Else a pipe that nobody reads would hold up
+//!    the lock of the database, and everyone. Lines that find no room are lost, and counted in one that comes later:
+//!    `log_lost lines=17`. Audit lines have the most room.
 
+use parking_lot::{Condvar, Mutex};
 use serde_json::Value;
 use std::collections::BTreeMap;
 use std::fmt::Write as _;
 use std::io::Write;
 use std::str::FromStr;
-use std::sync::{Mutex, PoisonError};
+use std::sync::{mpsc, Arc};
+use std::thread;
 use std::time::{Duration, Instant, SystemTime, UNIX_EPOCH};
 
 const MOST: u64 = 60; // lines of one event a minute
 const MINUTE: Duration = Duration::from_secs(60);
+/// Bytes of lines that wait, and of lines with audit lines.
+const ROOM: usize = 1 << 18;
+const AUDIT_ROOM: usize = 1 << 20;
+/// Whoever reads the lines has taken none for so long: it is told.
+const STUCK: Duration = Duration::from_secs(10);
+/// How long the last lines have.
+const END: Duration = Duration::from_secs(1);
 
 #[derive(Debug, Clone, Copy, PartialEq, Eq, PartialOrd, Ord)]
 pub enum Level {
@@ -54,13 +66,28 @@ pub type Field<'a> = (&'a str, Value);
 
 pub struct Log {
     level: Level,
-    is_json: bool,
-    inner: Mutex<Inner>,
+    shared: Arc<Shared>,
 }
 
+struct Shared {
+    is_json: bool,
+    inner: Mutex<Inner>,
+    /// There is something to write.
+    came: Condvar,
+    /// All that came was written.
+    written: Condvar,
+}
+
+#[derive(Default)]
 struct Inner {
-    out: Box<dyn Write + Send>,
     repeats: BTreeMap<&'static str, Repeats>,
+    /// Lines that wait.
+    lines: Vec<u8>,
+    /// How many found no room.
+    lost: u64,
+    /// Since when the lines before them are being written.
+    writing: Option<Instant>,
+    is_over: bool,
 }
 
 /// How often an event came within a minute.
@@ -86,7 +113,11 @@ impl Log {
     }
 
     pub fn to(level: Level, is_json: bool, out: Box<dyn Write + Send>) -> Log {
-        Log { level, is_json, inner: Mutex::new(Inner { out, repeats: BTreeMap::new() }) }
+        let inner = Mutex::new(Inner::default());
+        let shared = Arc::new(Shared { is_json, inner, came: Condvar::new(), written: Condvar::new() });
+        let writes = shared.clone();
+        thread::spawn(move || writes.write_to(out));
+        Log { level, shared }
     }
 
     pub fn error(&self, event: &'static str, fields: &[Field]) {
@@ -105,11 +136,24 @@ impl Log {
         self.say(Level::Debug, event, fields, Instant::now());
     }
 
-    /// Who did what an operator may do.
+    /// Who changed what is another's.
     pub fn audit(&self, event: &'static str, fields: &[Field]) {
-        if Level::Info <= self.level {
-            let line = self.line(Level::Info, event, fields);
-            self.with(|inner| inner.write(&line));
+        let line = self.shared.line(Level::Info, event, fields);
+        self.with(|inner| inner.add(&line, AUDIT_ROOM));
+    }
+
+    /// Whether whoever reads the lines has taken none for long.
+    pub fn is_stuck(&self) -> bool {
+        self.shared.inner.lock().writing.is_some_and(|since| since.elapsed() > STUCK)
+    }
+
+    /// Waits until all lines are written, for a second at most.
+    pub fn flush(&self) {
+        let (mut inner, end) = (self.shared.inner.lock(), Instant::now() + END);
+        while !inner.lines.is_empty() || inner.writing.is_some() {
+            if self.shared.written.wait_until(&mut inner, end).timed_out() {
+                return;
+            }
         }
     }
 
@@ -139,7 +183,7 @@ impl Log {
             let repeats = inner.repeats.entry(event).or_insert(Repeats { since: now, level, count: 0 });
             repeats.count += 1;
             if repeats.count <= MOST {
-                inner.write(&self.line(level, event, fields));
+                inner.add(&self.shared.line(level, event, fields), ROOM);
             }
         });
     }
@@ -147,13 +191,57 @@ impl Log {
     fn end_minute(&self, inner: &mut Inner, event: &'static str) {
         let Some(one) = inner.repeats.remove(event) else { return };
         if one.left_out() > 0 {
-            inner.write(&self.line(one.level, event, &[("left_out", one.left_out().into())]));
+            inner.add(&self.shared.line(one.level, event, &[("left_out", one.left_out().into())]), ROOM);
         }
     }
 
-    /// A log that panicked in one thread goes on in the others.
     fn with(&self, work: impl FnOnce(&mut Inner)) {
-        work(&mut self.inner.lock().unwrap_or_else(PoisonError::into_inner));
+        work(&mut self.shared.inner.lock());
+        self.shared.came.notify_one();
+    }
+}
+
+impl Drop for Log {
+    fn drop(&mut self) {
+        self.flush();
+        self.with(|inner| inner.is_over = true);
+    }
+}
+
+impl Inner {
+    fn add(&mut self, line: &str, room: usize) {
+        match self.lines.len() + line.len() > room {
+            true => self.lost += 1,
+            false => self.lines.extend_from_slice(line.as_bytes()),
+        }
+    }
+}
+
+impl Shared {
+    fn write_to(&self, mut out: Box<dyn Write + Send>) {
+        let mut lines = Vec::new();
+        while self.take(&mut lines) {
+            // Where standard error is closed there is nobody to tell.
+            let _ = out.write_all(&lines).and_then(|()| out.flush());
+        }
+    }
+
+    /// Waits for lines, and takes them in place of those that are written. There are none once the log is over.
+    fn take(&self, lines: &mut Vec<u8>) -> bool {
+        let mut inner = self.inner.lock();
+        inner.writing = None;
+        self.written.notify_all();
+        while inner.lines.is_empty() && !inner.is_over {
+            self.came.wait(&mut inner);
+        }
+        lines.clear();
+        std::mem::swap(lines, &mut inner.lines);
+        let lost = std::mem::take(&mut inner.lost);
+        if lost > 0 {
+            lines.extend_from_slice(self.line(Level::Warn, "log_lost", &[("lines", lost.into())]).as_bytes());
+        }
+        inner.writing = Some(Instant::now());
+        !lines.is_empty()
     }
 
     fn line(&self, level: Level, event: &str, fields: &[Field]) -> String {
@@ -165,12 +253,14 @@ impl Log {
     }
 }
 
-impl Inner {
-    /// Where standard error takes nothing there is nobody to tell.
-    fn write(&mut self, line: &str) {
-        let _ = self.out.write_all(line.as_bytes());
-        let _ = self.out.flush();
-    }
+/// The process ends with these words. They have a second.
+pub fn last_words(words: String) {
+    let (said, is_said) = mpsc::channel();
+    thread::spawn(move || {
+        eprintln!("ripsawbean-server: {words}");
+        let _ = said.send(());
+    });
+    let _ = is_said.recv_timeout(END);
 }
 
 fn json_line(time: &str, level: Level, event: &str, fields: &[Field]) -> String {
@@ -234,14 +324,14 @@ fn date_of(days: u64) -> (u64, u64, u64) {
 #[cfg(test)]
 mod tests {
     use super::*;
-    use std::sync::Arc;
 
+    /// What was written. Whoever holds it holds up the writing.
     #[derive(Clone, Default)]
     struct Kept(Arc<Mutex<Vec<u8>>>);
 
     impl Write for Kept {
         fn write(&mut self, bytes: &[u8]) -> std::io::Result<usize> {
-            self.0.lock().unwrap().write(bytes)
+            self.0.lock().write(bytes)
         }
 
         fn flush(&mut self) -> std::io::Result<()> {
@@ -250,9 +340,14 @@ mod tests {
     }
 
     impl Kept {
+        fn text(&self, log: &Log) -> String {
+            log.flush();
+            String::from_utf8(self.0.lock().clone()).unwrap()
+        }
+
         /// The lines so far, without their times.
-        fn lines(&self) -> Vec<String> {
-            let text = String::from_utf8(self.0.lock().unwrap().clone()).unwrap();
+        fn lines(&self, log: &Log) -> Vec<String> {
+            let text = self.text(log);
             assert!(text.is_empty() || text.ends_with('\n'));
             text.lines().map(|line| line.split_once(' ').map_or(line, |(_, rest)| rest).to_string()).collect()
         }
@@ -288,7 +383,7 @@ mod tests {
         log.info("one", &fields);
         log.info("two", &[("peer", "[::1]:80".into()), ("e", "\u{1b}[2J\u{e9}\u{1f600}\"".into())]);
         assert_eq!(
-            kept.lines(),
+            kept.lines(&log),
             [
                 "info one a=\"x y\" b=\"1\\n2 error forged\" c=7 d=\"\"",
                 "info two peer=[::1]:80 e=\"\\u001b[2J\\u00e9\\ud83d\\ude00\\\"\"",
@@ -300,7 +395,7 @@ mod tests {
     fn json_lines_are_objects() {
         let (log, kept) = log(Level::Info, true);
         log.warn("full", &[("open", 1000.into()), ("cut", "a \"b\"\n".into())]);
-        let text = String::from_utf8(kept.0.lock().unwrap().clone()).unwrap();
+        let text = kept.text(&log);
         assert_eq!(text.matches('\n').count(), 1);
         let value: Value = serde_json::from_str(&text).unwrap();
         assert_eq!((&value["level"], &value["event"], &value["open"]), (&"warn".into(), &"full".into(), &1000.into()));
@@ -309,14 +404,14 @@ mod tests {
     }
 
     #[test]
-    fn levels_above_the_chosen_one_are_left_out() {
+    fn levels_above_the_chosen_one_are_left_out_but_for_audit_lines() {
         let (log, kept) = log(Level::Warn, false);
         log.error("a", &[]);
         log.warn("b", &[]);
         log.info("c", &[]);
         log.debug("d", &[]);
         log.audit("e", &[]);
-        assert_eq!(kept.lines(), ["error a", "warn b"]);
+        assert_eq!(kept.lines(&log), ["error a", "warn b", "info e"]);
         assert_eq!("debug".parse(), Ok(Level::Debug));
         assert_eq!("Debug".parse::<Level>(), Err(()));
     }
@@ -332,7 +427,7 @@ mod tests {
         for _ in 0..100 {
             log.audit("closehard", &[]);
         }
-        let count = |line: &str| kept.lines().iter().filter(|one| *one == line).count();
+        let count = |line: &str| kept.lines(&log).iter().filter(|one| *one == line).count();
         assert_eq!((count("warn flood"), count("info other"), count("info closehard")), (60, 1, 100));
         log.tidy_at(start + Duration::from_secs(59));
         assert_eq!(count("warn flood left_out=940"), 0);
@@ -352,8 +447,35 @@ mod tests {
                 log.say(Level::Error, "flood", &[], start + Duration::from_secs(second));
             }
         }
-        let lines = kept.lines();
+        let lines = kept.lines(&log);
         assert_eq!(lines.iter().filter(|line| *line == "error flood").count(), 180);
         assert_eq!(lines.iter().filter(|line| *line == "error flood left_out=60").count(), 2);
+    }
+    #[test]
+    fn nobody_waits_for_who_reads_it_and_what_is_lost_is_counted() {
+        let (log, kept) = log(Level::Info, false);
+        let unread = kept.0.lock();
+        log.info("first", &[]);
+        while !log.shared.inner.lock().lines.is_empty() {
+            thread::yield_now();
+        }
+        let (start, long) = (Instant::now(), [("why", "x".repeat(1000).into())]);
+        for minute in 0..10 {
+            (0..MOST).for_each(|_| log.say(Level::Info, "one", &long, start + minute * MINUTE));
+        }
+        // They had no more room, and audit lines have.
+        (0..100).for_each(|_| log.audit("released", &[]));
+        assert!(!log.is_stuck());
+        log.shared.inner.lock().writing = Instant::now().checked_sub(2 * STUCK);
+        assert!(log.is_stuck());
+        drop(unread);
+        let lines = kept.lines(&log);
+        let count = |event: &str| lines.iter().filter(|line| line.split(' ').nth(1) == Some(event)).count() as u64;
+        let lost = 10 * MOST - count("one");
+        assert!(lost > 300 && count("one") > 200 && count("released") == 100, "{lost} lines were lost");
+        assert_eq!(lines.last(), Some(&format!("warn log_lost lines={lost}")));
+        log.info("two", &[]);
+        assert_eq!(kept.lines(&log).last().map(String::as_str), Some("info two"));
+        assert!(!log.is_stuck());
     }
 }

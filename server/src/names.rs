@@ -18,6 +18,7 @@
 //!    reason, and change nothing.
 
 use crate::core::Core;
+use crate::gate::Who;
 use crate::journal::Kept;
 use crate::json::Object;
 use crate::lag::Amount;
@@ -28,6 +29,7 @@ use crate::seats::Owner;
 use ripsawbean::{Command, Refusal as Refused};
 use std::collections::BTreeMap;
 use std::ops::Bound;
+use std::sync::Arc;
 
 /// Bytes of a name, at most.
 const LONGEST: usize = 64;
@@ -43,6 +45,8 @@ struct Consumer {
     feed: Option<u64>,
     /// 0 before its first stream.
     generation: u64,
+    /// The token by which it was taken or moved last, since the server began.
+    by: Option<Arc<str>>,
 }
 
 impl Consumer {
@@ -153,6 +157,16 @@ impl Core {
                 Err(Refusal::new(409, "older", why).with_number("stored", before))
             }
             _ => Ok(()),
+        }
+    }
+
+    /// Whoever takes or moves a name has it from here on. Where it was another's, the log says so.
+    pub fn give_name(&mut self, name: &Name, who: &Who) {
+        let Some(consumer) = self.names.all.get_mut(name) else { return };
+        let was = consumer.by.replace(who.shared_name());
+        if let Some(was) = was.filter(|was| **was != *who.name()) {
+            let fields = [("name", (&**name).into()), ("by", who.name().into()), ("of", (&*was).into())];
+            self.log.audit("name_changed", &fields);
         }
     }
 
@@ -416,6 +430,21 @@ mod tests {
         assert!(core.line_of(&name("early")).contains("\"held\":true"));
         assert!(core.let_go_names_beyond(Amount { rows: 5, bytes: 1 }) || core.ledger.protections.is_empty());
         assert_eq!(core.shouts, 0);
+    }
+
+    #[test]
+    fn the_log_says_who_changes_the_name_of_another() {
+        let (mut core, said) = crate::testing::core_and_log(&[]);
+        let [one, two] = ["one", "two"].map(|token| Who::of(token, &[]));
+        core.give_name(&name("none"), &one);
+        followed(&mut core, "a");
+        for who in [&one, &one, &two, &two, &one] {
+            core.give_name(&name("a"), who);
+        }
+        core.log.flush();
+        let text = said.text();
+        let told: Vec<&str> = text.lines().filter_map(|line| Some(line.split_once(" info ")?.1)).collect();
+        assert_eq!(told, ["name_changed name=a by=two of=one", "name_changed name=a by=one of=two"]);
     }
 
     #[test]

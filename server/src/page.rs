@@ -45,7 +45,7 @@ pub async fn file(_: &Arc<Server>, request: Request) -> Result<Response, Refusal
 /// `GET /page/examples`.
 pub async fn examples(_: &Arc<Server>, request: Request) -> Result<Response, Refusal> {
     arguments(&request.path, &request.query, &[])?;
-    Ok(json::lines(EXAMPLES))
+    Ok(json::lines(EXAMPLES).resting_on(Ticket::NONE))
 }
 
 fn file_at(path: &str) -> Option<&'static File> {

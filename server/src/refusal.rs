@@ -13,6 +13,7 @@
 //!    when to ask again, where that is known.
 
 use crate::gate::Right;
+use crate::journal::Ticket;
 use serde_json::Value;
 use std::fmt::{self, Display, Write};
 use std::time::Duration;
@@ -25,12 +26,19 @@ pub struct Refusal {
     pub error: &'static str,
     pub why: String,
     pub members: Vec<(&'static str, Value)>,
+    /// What it rests on, where that is less than all that was done before.
+    pub rests: Option<Ticket>,
     headers: Vec<(&'static str, String)>,
 }
 
 impl Refusal {
     pub fn new(status: u16, error: &'static str, why: impl Into<String>) -> Refusal {
-        Refusal { status, error, why: why.into(), members: Vec::new(), headers: Vec::new() }
+        Refusal { status, error, why: why.into(), members: Vec::new(), rests: None, headers: Vec::new() }
+    }
+
+    /// It is told once this is durable, and needn't wait for all that was done before.
+    pub fn resting_on(self, ticket: Ticket) -> Refusal {
+        Refusal { rests: Some(ticket), ..self }
     }
 
     /// A further member, as it is: a string, a count or null.
@@ -94,18 +102,20 @@ impl Refusal {
     }
 
     pub fn no_path() -> Refusal {
-        Refusal::new(404, "path", "the server has no such path")
+        Refusal::new(404, "path", "the server has no such path").resting_on(Ticket::NONE)
     }
 
     /// A request names the database that it means.
     pub fn other_identity(identity: &str) -> Refusal {
         let why = "this is another database than the one that the request names: what was read there doesn't hold here";
-        Refusal::new(412, "identity", why).with("identity", identity)
+        Refusal::new(412, "identity", why).with("identity", identity).resting_on(Ticket::NONE)
     }
 
     /// `allowed` are the methods of this path, as `GET, POST`.
     pub fn no_method(allowed: &str) -> Refusal {
-        Refusal::new(405, "method", "this path takes other methods").with_header("Allow", allowed)
+        Refusal::new(405, "method", "this path takes other methods")
+            .with_header("Allow", allowed)
+            .resting_on(Ticket::NONE)
     }
 
     pub fn slow() -> Refusal {

@@ -160,12 +160,13 @@ async fn tell(server: Arc<Server>, from: u64, until: u64, sender: Sender) {
 /// Whether the server is well. It says nothing that a stranger may not know.
 pub async fn healthz(server: &Arc<Server>, request: Request) -> Result<Response, Refusal> {
     arguments(&request.path, &request.query, &[])?;
-    match server.door.run(|core| fault_of(core)) {
-        None => Ok(Response::whole("text/plain; charset=utf-8", "ok\n")
-            .with("cache-control", "no-store")
-            .resting_on(Ticket::NONE)),
-        Some(why) => Err(Refusal::new(503, "unwell", why)),
+    if let Some(why) = server.door.run(|core| fault_of(core)) {
+        return Err(Refusal::new(503, "unwell", why).resting_on(Ticket::NONE));
     }
+    // Everyone is served all the same.
+    let told = if server.log.is_stuck() { "ok\nstandard error takes no line: nobody reads the log\n" } else { "ok\n" };
+    let response = Response::whole("text/plain; charset=utf-8", told);
+    Ok(response.with("cache-control", "no-store").resting_on(Ticket::NONE))
 }
 
 /// What is wrong. A closing that failed is tried again each second, so it may get well by itself.

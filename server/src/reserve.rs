@@ -30,8 +30,8 @@ use crate::socket;
 const PROGRAM: usize = 48 << 20;
 /// Addresses of a thread's stack.
 const STACK: usize = 2 << 20;
-/// Threads beside those that work for connections: the first one, the journal's, checkpoints'.
-const THREADS: usize = 4;
+/// Threads beside those that work for connections: the first one, the journal's, checkpoints', the log's.
+const THREADS: usize = 5;
 /// What a connection has in hand: 64 kB in each direction, and as much of a body and of an answer that don't count.
 const CONNECTION: usize = 4 << 16;
 /// The same of TLS, in both directions.

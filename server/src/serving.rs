@@ -131,6 +131,7 @@ async fn run(mut options: Options) -> Result<(), Failure> {
     works[0].abort();
     end(&server).await;
     works.iter().for_each(|work| work.abort());
+    server.log.flush();
     Ok(())
 }
 
@@ -258,6 +259,7 @@ impl Signals {
 }
 
 /// Reads tokens and certificates anew at SIGHUP, and tells systemd that the server lives, until SIGTERM or SIGINT comes.
+/// It lives as long as its lock can be had.
 async fn work_until_told_to_end(server: &Server, mut signals: Signals, notify: &Notify, acceptor: Option<&Acceptor>) {
     const FAR: Duration = Duration::from_secs(3600);
     let mut beats = interval(notify.every.unwrap_or(FAR));
@@ -269,7 +271,10 @@ async fn work_until_told_to_end(server: &Server, mut signals: Signals, notify: &
                 read_tokens_anew(server);
                 read_certificate_anew(server, acceptor);
             }
-            _ = beats.tick() => notify.lives(),
+            _ = beats.tick() => {
+                server.door.run(|_| {});
+                notify.lives();
+            }
         }
     }
 }

@@ -111,7 +111,11 @@ pub async fn feed(server: &Arc<Server>, request: Request) -> Result<Response, Re
     if name.is_some() && !request.who.may(Right::Write) {
         return Err(Refusal::no_right(Right::Write));
     }
-    let (place, opened, snapshot) = server.door.run(|core| open(server, core, &given, name.as_ref()))?;
+    let opened = server.door.run(|core| {
+        let opened = open(server, core, &given, name.as_ref());
+        opened.inspect(|_| name.iter().for_each(|name| core.give_name(name, &request.who)))
+    });
+    let (place, opened, snapshot) = opened?;
     let form = Form::asked(&request.list("accept"), &opened.identity);
     let (response, sender) = Response::stream(form.content_type());
     let opening = form.opening(&opened.text());

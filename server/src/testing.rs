@@ -74,12 +74,17 @@ pub fn core(words: &[&str]) -> Core {
 
 /// A server with these options that listens nowhere.
 pub fn server(words: &[&str]) -> Arc<Server> {
-    let (options, (core, said)) = (options(words), core_and_log(words));
+    server_of(core(words), words)
+}
+
+/// The same of this core.
+pub fn server_of(core: Core, words: &[&str]) -> Arc<Server> {
+    let options = options(words);
     Arc::new(Server {
         identity: IDENTITY.into(),
         door: Door::new(core),
         gate: Gate::new(&options, options.port).expect("a gate"),
-        log: Arc::new(Log::to(Level::Error, false, Box::new(said))),
+        log: Arc::new(Log::to(Level::Error, false, Box::new(Said::default()))),
         connections: Connections::new(options.max_connections, options.patience),
         bodies: Budget::new(options.max_message.saturating_mul(usize::from(SEATS)), Refusal::too_many_bodies),
         reports: Budget::new(reports::UNREAD, Refusal::too_many_reports),

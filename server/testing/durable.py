@@ -22,6 +22,9 @@ import time
 import correct
 import durable_damage
 import durable_keys
+import durable_names
+import durable_postgres
+import durable_still
 from correct import Consumer, Load, Size, judge
 from correct_keyed import finish_all
 from durable_servers import DurableServer, Pair
@@ -248,6 +251,10 @@ CONTROLS = {
 }
 
 
+TESTS = (*durable_damage.TESTS, durable_names.test_names_that_were_not_synced, *durable_still.TESTS, *durable_postgres.TESTS,
+         *durable_keys.TESTS)
+
+
 def main(words: list[str]) -> Tally:
     parser = argparse.ArgumentParser(prog="server/test durable", description="Whether data outlive any crash.")
     parser.add_argument("--kills", type=int, default=120, metavar="N", help="how many processes are killed (120)")
@@ -258,7 +265,7 @@ def main(words: list[str]) -> Tally:
     parser.add_argument("program", metavar="MVFEED", help="the built program, which checks the journal")
     given, tally = parser.parse_args(words), Tally("durable")
     tally.say("durable: seed %d" % given.seed)
-    for test in (*durable_damage.TESTS, *durable_keys.TESTS):
+    for test in TESTS:
         name = test.__name__[len("test_") :].replace("_", " ")
         if given.only in name:
             with Room() as room:

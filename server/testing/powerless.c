@@ -7,7 +7,17 @@
    With POWERLESS_LIES a sync says that all is well, and writes what the sync before it should have written: for the
    control, in which commits that were acknowledged have to be missed. With POWERLESS_FAILS=N the N-th sync fails. With
    POWERLESS_ENDS=N the process ends at the N-th step of the disk: before a sync, between its pieces, before each name
-   that changes, and behind a sync, when all is there and nobody was told. */
+   that changes, and behind a sync, when all is there and nobody was told.
+
+   With POWERLESS_NAMES=FILE bytes and names are there at once, so that a process may die and the machine live on: steps are
+   those of names alone. FILE has a line for each name that isn't synced yet, so that the test can undo it:
+
+       + PATH                a new file
+       > FROM TO             a file that has got another name
+       - PATH KEPT           a file that is gone, and where it is kept
+       / FOLDER              the folder itself, as long as the one above it isn't synced
+
+   With POWERLESS_STANDS=FILE a sync stands still as long as FILE is there. */
 
 #define _GNU_SOURCE
 #include <dlfcn.h>
@@ -25,7 +35,8 @@
 enum { FILES = 1024, NAMES = 256, SECTOR = 512 };
 
 struct file {
-    int kind; /* 0: not ours, 1: a file that is written, 2: the folder */
+    int kind; /* 0: not ours, 1: a file that is written, 2: the folder; 3 to 5 the folder, the one above and a file, whose
+                 bytes are there at once */
     char *waiting;
     size_t length, synced;
 };
@@ -46,6 +57,10 @@ static const char *folder(void) {
     return name ? name : "";
 }
 
+static const char *names(void) {
+    return getenv("POWERLESS_NAMES");
+}
+
 static int is_ours(const char *path) {
     size_t length = strlen(folder());
     return length && !strncmp(path, folder(), length) && path[length] == '/' && !strstr(path, "/lock");
@@ -62,6 +77,28 @@ static void step(void) {
     const char *ends = getenv("POWERLESS_ENDS");
     if (ends && ++steps == atoi(ends))
         kill(getpid(), SIGKILL);
+}
+
+/* Notes a name that isn't synced. */
+static void note(const char *line) {
+    FILE *out = fopen(names(), "a");
+    if (!out || fprintf(out, "%s\n", line) < 0 || fclose(out))
+        abort();
+}
+
+/* A sync of the folder, or of the one above it: what was noted of its names goes. */
+static void forget_names(int is_above) {
+    char kept[NAMES][1100];
+    int count = 0;
+    FILE *in = fopen(names(), "r");
+    while (in && count < NAMES && fgets(kept[count], sizeof kept[0], in))
+        count += (kept[count][0] == '/') != is_above;
+    if (in)
+        fclose(in);
+    FILE *out = fopen(names(), "w");
+    for (int at = 0; at < count; at++)
+        fputs(kept[at], out);
+    fclose(out);
 }
 
 /* Where a new file stands until its name is synced. */
@@ -103,9 +140,24 @@ int open64(const char *path, int flags, ...) {
     va_end(rest);
     pthread_mutex_lock(&lock);
     int kind = !strcmp(path, folder()) ? 2 : is_ours(path) && (flags & (O_WRONLY | O_RDWR)) ? 1 : 0;
-    char place[512];
+    char place[512], line[1100];
     really(path, place);
     struct stat there;
+    if (names()) {
+        size_t length = strlen(path);
+        int is_above = strlen(folder()) > length && !strncmp(folder(), path, length) && folder()[length] == '/' &&
+                       !strchr(folder() + length + 1, '/');
+        if (kind == 1 && (flags & O_CREAT) && stat(path, &there)) {
+            step();
+            snprintf(line, sizeof line, "+ %s", path);
+            note(line);
+        }
+        int file = next(path, flags, mode);
+        if (file >= 0 && file < FILES)
+            files[file].kind = kind == 2 ? 3 : is_above ? 4 : kind == 1 ? 5 : 0;
+        pthread_mutex_unlock(&lock);
+        return file;
+    }
     if (kind == 1 && (flags & O_CREAT) && stat(place, &there)) {
         hidden(path, place);
         forget(place);
@@ -130,7 +182,7 @@ ssize_t write(int file, const void *data, size_t length) {
     if (!next)
         next = (ssize_t (*)(int, const void *, size_t))dlsym(RTLD_NEXT, "write");
     struct file *ours = file_of(file);
-    if (!ours)
+    if (!ours || ours->kind > 2)
         return next(file, data, length);
     pthread_mutex_lock(&lock);
     ours->waiting = realloc(ours->waiting, ours->length + length);
@@ -191,13 +243,21 @@ static int sync_one(int file) {
     struct file *ours = file_of(file);
     if (!ours)
         return 0;
+    const char *stands = getenv("POWERLESS_STANDS");
+    struct stat there;
+    while (stands && !stat(stands, &there))
+        usleep(10000);
     pthread_mutex_lock(&lock);
-    step();
+    if (ours->kind < 5)
+        step();
     const char *fails = getenv("POWERLESS_FAILS");
     int result = 0;
     if (fails && ++syncs >= atoi(fails)) {
         errno = EIO;
         result = -1;
+    } else if (ours->kind > 2) {
+        if (ours->kind < 5)
+            forget_names(ours->kind == 4);
     } else if (ours->kind == 2) {
         change_names();
     } else if (ours->length && getenv("POWERLESS_LIES")) {
@@ -217,7 +277,8 @@ static int sync_one(int file) {
     } else if (ours->length) {
         write_out(file, ours);
     }
-    step();
+    if (ours->kind < 5)
+        step();
     pthread_mutex_unlock(&lock);
     return result;
 }
@@ -249,9 +310,32 @@ int rename(const char *from, const char *to) {
     if (!is_ours(from))
         return next(from, to);
     pthread_mutex_lock(&lock);
-    change(from, to);
+    int result = 0;
+    if (names()) {
+        char line[1100];
+        step();
+        snprintf(line, sizeof line, "> %s %s", from, to);
+        note(line);
+        result = next(from, to);
+    } else {
+        change(from, to);
+    }
     pthread_mutex_unlock(&lock);
-    return 0;
+    return result;
+}
+
+int mkdir(const char *path, mode_t mode) {
+    static int (*next)(const char *, mode_t);
+    if (!next)
+        next = (int (*)(const char *, mode_t))dlsym(RTLD_NEXT, "mkdir");
+    int result = next(path, mode);
+    if (!result && names() && !strcmp(path, folder())) {
+        char line[1100];
+        snprintf(line, sizeof line, "/ %s", path);
+        note(line);
+        step();
+    }
+    return result;
 }
 
 int unlink(const char *path) {
@@ -265,8 +349,18 @@ int unlink(const char *path) {
     really(path, place);
     struct stat there;
     int is_there = !stat(place, &there);
-    if (is_there)
+    if (is_there && names()) {
+        static int kept;
+        char line[1100];
+        snprintf(place, sizeof place, "%s.%d.%d", names(), (int)getpid(), kept++);
+        snprintf(line, sizeof line, "- %s %s", path, place);
+        step();
+        note(line);
+        if (link(path, place) || next(path))
+            abort();
+    } else if (is_there) {
         change(path, "");
+    }
     pthread_mutex_unlock(&lock);
     errno = ENOENT;
     return is_there ? 0 : -1;

@@ -24,7 +24,7 @@ use super::{body_of, spelling_in, wait_in};
 use crate::core::Core;
 use crate::door::Length;
 use crate::http::{Request, Response};
-use crate::journal::Form;
+use crate::journal::{Form, Ticket};
 use crate::outcome::Outcome;
 use crate::query::{arguments, number_of, percent_decoded};
 use crate::refusal::Refusal;
@@ -40,6 +40,7 @@ struct Read {
     timestamp: u64,
     value: Option<Vec<u8>>,
     version: Option<u64>,
+    rests: Ticket,
 }
 
 /// `GET /key/KEY`.
@@ -48,10 +49,10 @@ pub async fn get(server: &Arc<Server>, request: Request) -> Result<Response, Ref
     let (key, spelling) = (key_in(&request)?, spelling_in(&given)?);
     let tags = Tags::of(&request, "if-none-match")?;
     let (start, hold) = (Instant::now(), Wanted::of(&request, &given)?);
-    let Read { timestamp, value, version } =
+    let Read { timestamp, value, version, rests } =
         read(server, &key, given.number("at"), &hold, start + wait_in(&given)?).await?;
     server.metrics.transactions.note(start.elapsed());
-    let Some(value) = value else { return Err(no_value(timestamp)) };
+    let Some(value) = value else { return Err(no_value(timestamp).resting_on(rests)) };
     let tag = version.map_or_else(String::new, |version| format!("\"{version}\""));
     let response = if tags.is_some_and(|tags| tags.names(version)) {
         Response::empty(304)
@@ -67,7 +68,8 @@ pub async fn get(server: &Arc<Server>, request: Request) -> Result<Response, Ref
         .with("etag", tag)
         .with("ripsawbean-timestamp", timestamp.to_string())
         .with("cache-control", "no-cache")
-        .with("vary", "Accept"))
+        .with("vary", "Accept")
+        .resting_on(rests))
 }
 
 /// `PUT /key/KEY`.
@@ -124,6 +126,7 @@ async fn read(server: &Server, key: &[u8], at: Option<u64>, hold: &Wanted, until
 
 fn read_at(core: &mut Core, key: &[u8], at: u64) -> Result<Read, Refusal> {
     let mut value = None;
+    core.journal.begin();
     match core.show(Owner::Server, Command::ReadAt { t: at, key }, &mut |event| value = event.value()) {
         Ok(Outcome::Nothing) => {}
         Ok(Outcome::Refused(Refused::BelowHorizon(horizon))) => return Err(Stop::BelowHorizon(horizon).refusal()),
@@ -133,7 +136,7 @@ fn read_at(core: &mut Core, key: &[u8], at: u64) -> Result<Read, Refusal> {
         Some(_) => core.versions_at(at, &[key]).map_err(|_| Stop::NoMemory.refusal())?.pop().flatten(),
         None => None,
     };
-    Ok(Read { timestamp: at, value, version })
+    Ok(Read { timestamp: at, value, version, rests: core.journal.needed() })
 }
 
 async fn read_by_transaction(server: &Server, key: &[u8], until: Instant) -> Result<Read, Refusal> {
@@ -141,8 +144,9 @@ async fn read_by_transaction(server: &Server, key: &[u8], until: Instant) -> Res
     let End::Committed(mut committed) = run_until(server, &plan, until, None, None).await? else {
         return Err(Stop::Unexpected.refusal());
     };
+    let Committed { timestamp, rests, .. } = committed;
     match committed.results.pop() {
-        Some(Told::Row(Row { value, version, .. })) => Ok(Read { timestamp: committed.timestamp, value, version }),
+        Some(Told::Row(Row { value, version, .. })) => Ok(Read { timestamp, value, version, rests }),
         _ => Err(Stop::Unexpected.refusal()),
     }
 }

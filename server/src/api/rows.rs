@@ -21,6 +21,7 @@ use crate::budget::Held;
 use crate::core::Core;
 use crate::door::{Length, TURN};
 use crate::http::{Request, Response};
+use crate::journal::Ticket;
 use crate::outcome::Outcome;
 use crate::query::{arguments, percent_encoded, Arguments};
 use crate::refusal::Refusal;
@@ -39,6 +40,7 @@ struct Shown {
     timestamp: u64,
     rows: Vec<Row<'static>>,
     next: Option<Vec<u8>>,
+    rests: Ticket,
 }
 
 pub async fn rows(server: &Arc<Server>, request: Request) -> Result<Response, Refusal> {
@@ -51,7 +53,7 @@ pub async fn rows(server: &Arc<Server>, request: Request) -> Result<Response, Re
     let mut place = super::place_of_answer(server, &request)?;
     let start = Instant::now();
     let until = start + wait;
-    let Shown { timestamp, rows, next } =
+    let Shown { timestamp, rows, next, rests } =
         in_turns(server, span, given.number("at"), until, limit, &hold, &place.unread).await?;
     let next = next.map(|lo| path_of(&given, &lo, timestamp));
     let mut out = format!("{{\"timestamp\":\"{timestamp}\",\"rows\":").into_bytes();
@@ -66,7 +68,8 @@ pub async fn rows(server: &Arc<Server>, request: Request) -> Result<Response, Re
     let response = Response::whole("application/json; charset=utf-8", out)
         .with("ripsawbean-timestamp", timestamp.to_string())
         .with("cache-control", "no-cache")
-        .keeping(place);
+        .keeping(place)
+        .resting_on(rests);
     Ok(match next {
         Some(next) => response.with("link", format!("<{next}>; rel=\"next\"")),
         None => response,
@@ -93,7 +96,9 @@ async fn in_turns(
         });
         match part.await? {
             (timestamp, Read::Part(next)) => (at, span.lo, length) = (Some(timestamp), Cow::Owned(next), Length::Long),
-            (timestamp, Read::All(next)) => return Ok(Shown { timestamp, rows: reading.take(), next }),
+            (timestamp, Read::All(next)) => {
+                return Ok(Shown { timestamp, rows: reading.take(), next, rests: reading.rests });
+            }
         }
         tokio::task::yield_now().await;
     }
@@ -135,6 +140,7 @@ struct Reading<'s> {
     rows: Vec<Row<'static>>,
     left: Room,
     protection: Option<u64>,
+    rests: Ticket,
 }
 
 /// Where what is behind a part begins.
@@ -148,12 +154,14 @@ enum Read {
 impl Reading<'_> {
     fn new(server: &Server, limit: usize) -> Reading<'_> {
         let left = Room { rows: limit as u64, bytes: MOST_BYTES };
-        Reading { server, rows: Vec::new(), left, protection: None }
+        Reading { server, rows: Vec::new(), left, protection: None, rests: Ticket::NONE }
     }
 
     fn part(&mut self, core: &mut Core, span: &Bounds<'_>, timestamp: u64, hold: &Wanted) -> Result<Read, Refusal> {
         let room = Room { rows: self.left.rows.min(PART.rows), bytes: self.left.bytes.min(PART.bytes) };
+        core.journal.begin();
         let page = core.page_until(span.span(), timestamp, room, Instant::now() + TURN);
+        self.rests = self.rests.max(core.journal.needed());
         let page = page.map_err(|unread| Stop::from(unread).refusal())?;
         let keys: Vec<&[u8]> = page.rows.iter().map(|(key, _)| key.as_slice()).collect();
         let versions = core.versions_at(timestamp, &keys).map_err(|_| Stop::NoMemory.refusal())?;
@@ -310,7 +318,7 @@ mod tests {
         // By the first one it is let go what was held, and by the next one it is collected.
         let tidied = || (0..2).for_each(|_| server.door.run(tidy));
         tidied();
-        let Shown { timestamp, rows, next } = page.await.expect("a page");
+        let Shown { timestamp, rows, next, .. } = page.await.expect("a page");
         assert_eq!((timestamp, rows.len(), next, protections(&server)), (1, 3000, None, 0));
         tidied();
         assert_eq!(server.door.run(|core| core.ledger.horizon), 2);

@@ -25,7 +25,9 @@
 //!    it, --max-age does it. Whoever lets go of a plan between two turns aborts it.
 //! 4. It reads at most `MOST_ROWS` rows by scans, passes over at most `cuts::MOST` parts of spans, and tells at most
 //!    --max-reply bytes. A turn reads what takes some 2 milliseconds, and one part more; the last turn writes all.
-//! 5. A short one is stopped where it has read and written what takes some 2 milliseconds: `Stop::Long`.
+//! 5. It rests on its own commit, or on those of the keys that it has read. Its timestamp is at or below the mark that is
+//!    durable before it begins. Else a crash could take back what someone was told, or give a timestamp twice.
+//! 6. A short one is stopped where it has read and written what takes some 2 milliseconds: `Stop::Long`.
 
 mod scan;
 mod stop;
@@ -36,7 +38,8 @@ use super::bytes::length_of;
 use super::plan::{Condition, Plan, Step, Test, SHORT, STEP};
 use super::remembered::Keep;
 use crate::core::Core;
-use crate::journal::Form;
+use crate::journal::rules::{holds, Rule};
+use crate::journal::{Form, Ticket};
 use crate::outcome::Outcome;
 use crate::seats::Owner;
 use ripsawbean::{CallError, Command, Refusal as Refused};
@@ -71,6 +74,8 @@ pub struct Committed<'p> {
     pub results: Vec<Told<'p>>,
     /// How it is told, where that is remembered.
     pub form: Option<Form>,
+    /// What it rests on.
+    pub rests: Ticket,
 }
 
 /// Conditions don't hold, and there is no `else`.
@@ -79,6 +84,8 @@ pub struct Failed<'p> {
     pub timestamp: u64,
     /// Each condition that doesn't hold, by its place, with what its key was.
     pub found: Vec<(usize, Option<Row<'p>>)>,
+    /// What it rests on.
+    pub rests: Ticket,
 }
 
 #[derive(Clone, Copy, Debug, PartialEq, Eq)]
@@ -165,6 +172,8 @@ pub struct Running<'p> {
     turn: usize,
     /// Bytes that are told.
     bytes: usize,
+    /// What they rest on.
+    rests: Ticket,
 }
 
 /// What a condition has found.
@@ -176,10 +185,12 @@ enum Looked<'p> {
 impl<'p> Running<'p> {
     pub fn begin(core: &mut Core, plan: &'p Plan<'_>, pace: Pace) -> Result<Running<'p>, Stop> {
         check(core, plan)?;
+        let timestamp = core.ledger.next_timestamp();
+        core.journal.cover(timestamp).map_err(Stop::Until)?;
         let running = Running {
             plan,
             pace,
-            timestamp: core.ledger.next_timestamp(),
+            timestamp,
             was_cut: false,
             looked: Vec::with_capacity(plan.conditions.len()),
             branch: None,
@@ -192,6 +203,7 @@ impl<'p> Running<'p> {
             weight: 0,
             turn: 0,
             bytes: 0,
+            rests: Ticket::NONE,
         };
         match core.ask(Owner::Server, Command::Begin { ts: running.timestamp }) {
             Ok(Outcome::Started { .. }) => Ok(running),
@@ -207,11 +219,21 @@ impl<'p> Running<'p> {
     /// One turn of it: how it has ended, where it has.
     pub fn turn(&mut self, core: &mut Core, keep: Option<&Keep<'_>>) -> Result<Option<End<'p>>, Stop> {
         self.turn = 0;
-        let ended = self.go_on(core).and_then(|end| end.map(|end| self.commit(core, end, keep)).transpose());
+        core.journal.begin();
+        let mut ended = self.go_on(core).and_then(|end| end.map(|end| self.commit(core, end, keep)).transpose());
         if !matches!(ended, Ok(None | Some(End::Committed(_))) | Err(Stop::Lost)) {
             self.abort(core);
         }
         self.was_cut = true;
+        if holds(Rule::RequestsWait) {
+            self.rests = self.rests.max(core.journal.needed());
+        }
+        match &mut ended {
+            Ok(Some(End::Committed(Committed { rests, .. }) | End::Failed(Failed { rests, .. }))) => {
+                *rests = self.rests
+            }
+            _ => {}
+        }
         ended
     }
 
@@ -266,7 +288,8 @@ impl<'p> Running<'p> {
         let mut results = std::mem::take(&mut self.results);
         self.tell_versions(core, &mut results)?;
         let (timestamp, written) = (self.timestamp, self.own.len() as u64);
-        Ok(Some(End::Committed(Committed { timestamp, branch, written, results, form: None })))
+        let told = Committed { timestamp, branch, written, results, form: None, rests: Ticket::NONE };
+        Ok(Some(End::Committed(told)))
     }
 
     /// Whether all conditions were looked at. Those behind one that doesn't hold are too, so that all are told.
@@ -293,7 +316,7 @@ impl<'p> Running<'p> {
         self.branch = match (found.is_empty(), &self.plan.otherwise) {
             (true, _) => Some(Branch::Then),
             (false, Some(_)) => Some(Branch::Else),
-            (false, None) => return Ok(Some(Failed { timestamp: self.timestamp, found })),
+            (false, None) => return Ok(Some(Failed { timestamp: self.timestamp, found, rests: Ticket::NONE })),
         };
         Ok(None)
     }

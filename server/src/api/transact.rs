@@ -66,9 +66,12 @@ pub async fn answer_once(
     match run_until(server, plan, until, Some(&Keep { running: &running, form_of }), unread).await? {
         End::Committed(mut committed) => {
             let form = committed.form.take().unwrap_or_else(|| form_of(&committed));
-            Ok(Answer::new(committed.timestamp, form))
+            Ok(Answer::new(committed.timestamp, form).resting_on(committed.rests))
         }
-        End::Failed(failed) => Err(refused(failed)),
+        End::Failed(failed) => {
+            let rests = failed.rests;
+            Err(refused(failed).resting_on(rests))
+        }
     }
 }
 
@@ -89,6 +92,7 @@ pub async fn run_until<'p>(
             Ok(end) => return Ok(end),
             Err(Stop::Long) => pace = Pace::Turns,
             Err(Stop::Overtaken) => pace = Pace::Whole,
+            Err(Stop::Until(ticket)) => server.door.until(ticket).await,
             Err(Stop::Blocked(by, mut decision)) => {
                 if tokio::time::timeout_at(until.into(), decision.changed()).await.is_err() {
                     return Err(Stop::Blocked(by, decision).refusal());

@@ -96,6 +96,7 @@ fn an_answer_that_is_not_foretold_is_shouted() {
     core.ledger.undecided.clear();
     core.close();
     assert_eq!(core.shouts, 1);
+    core.log.flush();
     assert!(said.text().contains("close 1 => closed 0 0, and not closed 1 0"), "{}", said.text());
 }
 

@@ -10,7 +10,12 @@
 //! finished           | series before 3 go
 //! ```
 //!
-//! A checkpoint that fails costs nothing but room: it is said in the log, and comes again.
+//! 1. The switch comes first, and the copy reaches all that began before it. Else a commit stands in neither.
+//! 2. It is finished once all that it has is durable in the journal. Else a crash keeps commits of which nobody was told,
+//!    without those before them.
+//! 3. Names stand in the new series' head, and answers in the checkpoint, as older series go with theirs. Else a consumer
+//!    loses its place, and a request is done twice.
+//! 4. One that fails costs nothing, and leaves nothing: it is said in the log, and comes again.
 
 use super::copy::{Broken, Copy, Next};
 use super::rules::{holds, Rule};

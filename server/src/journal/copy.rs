@@ -14,9 +14,10 @@
 //! The dump of the whole database would close at all that began. Whoever is undecided then, and commits later, would be
 //! refused behind it. So the copy ends at a timestamp to which closed comes first, and has an end of its own there.
 //!
-//! 1. A piece has rows at or below closed alone: nothing commits there any more.
+//! 1. A piece has rows at or below closed alone: nothing commits there any more. Else a commit is left out.
 //! 2. It has exactly what was committed at or below `to`, and what is dead at the horizon is left out.
-//! 3. A protection holds the horizon until the copy is dropped by `end`. Where that is released it is broken.
+//! 3. A protection holds the horizon until the copy is dropped by `end`. Where that is released it is broken: a row would
+//!    come back that was deleted meanwhile, because the copy has its older version and not the delete.
 
 use super::answers::Answered;
 use super::frame::Chain;

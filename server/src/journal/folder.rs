@@ -1,14 +1,18 @@
 //! A journal in a folder: each series is a file.
 //!
 //! ```text
-//! FOLDER/lock                          held as long as the process lives
+//! FOLDER                               locked as long as the process lives, and so is
+//! FOLDER/lock                          for people and older servers: who removes it lets nobody in
 //! FOLDER/journal-000003.script         appended to, and synced after each batch
 //! FOLDER/checkpoint-000003.script      under its name once it is whole
-//! FOLDER/checkpoint-000004.script.new  begun, and not finished: it goes at the next start
+//! FOLDER/checkpoint-000004.script.new  begun, and not finished: it goes with its draft, or at the next start
 //! ```
 //!
-//! 1. `fdatasync` is enough for a file that grows. A new name, and one that changes, need the folder's `fsync`.
-//! 2. A second server on the folder is refused, by `flock`.
+//! 1. `fdatasync` is enough for a file that grows. A new name, and one that changes, need the folder's `fsync`: else a
+//!    loss of power takes the file, with all that was acknowledged in it.
+//! 2. Names that a process left that died are synced before anything is read: else what is appended to such a file, and
+//!    what is removed because of it, outlives the name itself. The folder's own name, too.
+//! 3. A second server on the folder is refused, by `flock`: else both append, and no later start finds a right series.
 
 use super::store::{Draft, Kind, Place, Series, Store};
 use super::Failure;
@@ -22,10 +26,10 @@ use std::sync::Arc;
 const NEW: &str = "new";
 const ENDING: &str = ".script";
 
-/// The folder's files, for whoever writes to them. The lock is held while one of them is there.
+/// The folder's files, for whoever writes to them. The locks are held while one of them is there.
 struct Files {
     path: PathBuf,
-    _lock: File,
+    _locks: [File; 2],
 }
 
 pub struct Folder {
@@ -44,16 +48,41 @@ impl Folder {
             _ => {}
         }
         let path = path.canonicalize().map_err(|error| Failure::file(path, error))?;
-        let name = path.join("lock");
-        let mut options = OpenOptions::new();
-        let lock = options.read(true).write(true).create(true).truncate(false).mode(0o600).open(&name);
-        let lock = lock.map_err(|error| Failure::file(&name, error))?;
-        match lock.try_lock() {
-            Ok(()) => {}
-            Err(TryLockError::WouldBlock) => return Err(Failure::Taken(path)),
-            Err(TryLockError::Error(error)) => return Err(Failure::file(&name, error)),
+        let files = Files { _locks: lock(&path)?, path };
+        sync_name(&files.path)?;
+        files.sync()?;
+        Ok(Folder { files: Arc::new(files), last: None })
+    }
+}
+
+/// Locks a folder, and a file in it.
+fn lock(path: &Path) -> Result<[File; 2], Failure> {
+    let of_path = |error| Failure::file(path, error);
+    let folder = File::open(path).map_err(of_path)?;
+    // Where a network's file system locks no folders, the file's lock is all that there is.
+    if matches!(folder.try_lock(), Err(TryLockError::WouldBlock)) {
+        return Err(Failure::Taken(path.to_path_buf()));
+    }
+    let name = path.join("lock");
+    let mut options = OpenOptions::new();
+    let file = options.read(true).write(true).create(true).truncate(false).mode(0o600).open(&name);
+    let file = file.map_err(|error| Failure::file(&name, error))?;
+    match file.try_lock() {
+        Ok(()) => Ok([folder, file]),
+        Err(TryLockError::WouldBlock) => Err(Failure::Taken(path.to_path_buf())),
+        Err(TryLockError::Error(error)) => Err(Failure::file(&name, error)),
+    }
+}
+
+/// Makes a folder's own name durable. Whoever may not open its parent, or has none that can be synced, hasn't made it.
+fn sync_name(path: &Path) -> Result<(), Failure> {
+    use io::ErrorKind::{InvalidInput, PermissionDenied, ReadOnlyFilesystem};
+    let Some(parent) = path.parent() else { return Ok(()) };
+    match File::open(parent).and_then(|parent| parent.sync_all()) {
+        Err(error) if !matches!(error.kind(), InvalidInput | PermissionDenied | ReadOnlyFilesystem) => {
+            Err(Failure::file(parent, error))
         }
-        Ok(Folder { files: Arc::new(Files { path, _lock: lock }), last: None })
+        _ => Ok(()),
     }
 }
 
@@ -155,12 +184,11 @@ impl Store for Folder {
     fn draft(&mut self, number: u64) -> Result<Box<dyn Draft>, Failure> {
         let series = Series::checkpoint(number);
         let path = self.files.path(series).with_extension(format!("script.{NEW}"));
-        self.files.remove(&path)?;
         let file = self.files.create(&path)?;
         Ok(Box::new(FileDraft { files: self.files.clone(), series, path, file }))
     }
 
-    /// What a draft has left goes too. So the server asks for it once all was read.
+    /// What drafts have left goes too, also one of the server's own: it asks for this before it has any.
     fn drop_below(&mut self, number: u64) -> Result<(), Failure> {
         for name in self.files.names()? {
             if Path::new(&name).extension().is_some_and(|ending| ending == NEW) {
@@ -194,8 +222,16 @@ impl Draft for FileDraft {
         let of_path = |error| Failure::file(&self.path, error);
         self.file.sync_all().map_err(of_path)?;
         fs::rename(&self.path, self.files.path(self.series)).map_err(of_path)?;
+        // Else what is older could be gone, and the new name too.
         self.files.sync()?;
         self.files.drop_below(self.series.number)
+    }
+}
+
+impl Drop for FileDraft {
+    /// One that failed leaves its room to the journal. One that is finished has another name.
+    fn drop(&mut self) {
+        let _ = self.files.remove(&self.path);
     }
 }
 
@@ -241,10 +277,22 @@ mod tests {
         all.sort();
         assert_eq!(all, [Series::checkpoint(2), Series::journal(2)]);
         assert_eq!(text(&mut one, Series::checkpoint(2)), "c");
-        one.draft(3).expect("it is begun");
-        drop(one);
-        Folder::take(&path).expect("it is free").drop_below(2).expect("they are dropped");
         assert_eq!(fs::read_dir(&path).expect("it is there").count(), 3);
+    }
+
+    #[test]
+    fn a_draft_that_is_dropped_or_was_left_is_gone() {
+        let path = folder();
+        let left = path.join("checkpoint-000002.script.new");
+        fs::write(&left, "c").expect("it is written");
+        let mut one = Folder::take(&path).expect("it is free");
+        one.drop_below(1).expect("they are dropped");
+        assert!(!left.exists());
+        let mut draft = one.draft(2).expect("it is begun");
+        draft.write(b"c").expect("it is written");
+        assert!(left.exists());
+        drop(draft);
+        assert!(!left.exists() && one.all().expect("they are read").is_empty());
     }
 
     #[test]
@@ -271,7 +319,15 @@ mod tests {
         let path = folder();
         let one = Folder::take(&path).expect("it is free");
         assert!(matches!(Folder::take(&path), Err(Failure::Taken(_))));
+        // Nor where somebody takes the file of a server that runs for one that was left.
+        fs::remove_file(path.join("lock")).expect("it is there");
+        assert!(matches!(Folder::take(&path), Err(Failure::Taken(_))));
         drop(one);
+        // And a server that locks the file alone keeps others out.
+        let older = File::create(path.join("lock")).expect("it is made");
+        older.lock().expect("it is free");
+        assert!(matches!(Folder::take(&path), Err(Failure::Taken(_))));
+        drop(older);
         assert!(Folder::take(&path).is_ok());
     }
 

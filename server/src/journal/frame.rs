@@ -17,7 +17,8 @@
 //! 1. The checksum of the lines goes on from the batch before, and begins with the database's identity and the series.
 //!    So a batch that stands in another place, or is missing, is found.
 //! 2. A tail is torn if a crash in the middle of a write may leave it: a beginning of one batch, in which whole sectors
-//!    may be zeros, with no whole head behind it. Everything else is damage, also in the last batch.
+//!    may be zeros, with no whole head behind it. Everything else is damage, also in the last batch: taken for torn, what
+//!    was acknowledged would go in silence.
 //! 3. A client's words have no space and no newline, so no line of a client looks like a head.
 
 use super::note::Note;

@@ -3,15 +3,17 @@
 //!
 //! ```text
 //! ripsawbean_journal (kind, series, piece, bytes)     the pieces of each series; a checkpoint counts once it has a row
-//!                                                     of kind `finished`
+//!                                                     of kind `finished`, whose piece is the number of its pieces
 //! ripsawbean_owner (epoch)                            who may write: raised by each server that starts
 //! ```
 //!
 //! 1. A server holds an advisory lock as long as its connection lives. Another one waits for it: it is a standby.
-//! 2. Each write is made only under the server's own epoch. So one that was cut off from the lock, and doesn't know it
-//!    yet, writes nothing: its next write fails, and it ends.
-//! 3. A server that has nothing to write asks each second whether its connection is there, and ends where it isn't.
-//!    Until then it may answer reads that a later server's commits are missing in.
+//! 2. Each statement changes rows only under the server's own epoch. So one that was cut off from the lock, and doesn't
+//!    know it yet, changes nothing, also by what it has sent before and PostgreSQL sees late: else it would delete the
+//!    pieces of its successor's checkpoint, behind which the journal before it goes.
+//! 3. A checkpoint is finished where all its pieces are there, and read where they still are.
+//! 4. A server that has nothing to write asks each second whether its connection is there, and ends where it isn't, or
+//!    where no answer comes for a minute. Until then it may answer reads that a later server's commits are missing in.
 
 use super::store::{Draft, Kind, Place, Series, Store};
 use super::Failure;
@@ -19,6 +21,7 @@ use std::future::Future;
 use std::io::{self, Read};
 use std::time::Duration;
 use tokio::runtime::Runtime;
+use tokio_postgres::types::ToSql;
 use tokio_postgres::{Client, Config, NoTls, Row};
 
 /// How long PostgreSQL may take for anything but the lock.
@@ -35,14 +38,25 @@ const TABLES: &str = "
 const RAISE: &str = "
     INSERT INTO ripsawbean_owner VALUES (1, 1) ON CONFLICT (one) DO UPDATE SET epoch = ripsawbean_owner.epoch + 1
     RETURNING epoch";
-/// Writes a row under the epoch that is still the owner's, or none.
+/// Statements under the epoch that is still the owner's. Under another one they change nothing.
 const WRITE: &str = "
     WITH owner AS (SELECT FROM ripsawbean_owner WHERE epoch = $1 FOR SHARE)
     INSERT INTO ripsawbean_journal SELECT $2, $3, $4, $5 FROM owner";
+const FINISH: &str = "
+    WITH owner AS (SELECT FROM ripsawbean_owner WHERE epoch = $1 FOR SHARE)
+    INSERT INTO ripsawbean_journal SELECT 'finished', $2::bigint, $3::bigint, ''::bytea FROM owner
+        WHERE $3 = (SELECT count(*) FROM ripsawbean_journal WHERE kind = 'checkpoint' AND series = $2)";
 const DROP_DRAFTS: &str = "
-    DELETE FROM ripsawbean_journal WHERE kind = 'checkpoint' AND series NOT IN
-        (SELECT series FROM ripsawbean_journal WHERE kind = 'finished')";
-const DROP_BELOW: &str = "DELETE FROM ripsawbean_journal WHERE series < $1";
+    WITH owner AS (SELECT FROM ripsawbean_owner WHERE epoch = $1 FOR SHARE)
+    DELETE FROM ripsawbean_journal WHERE kind = 'checkpoint' AND series <= $2 AND EXISTS (SELECT FROM owner) AND
+        series NOT IN (SELECT series FROM ripsawbean_journal WHERE kind = 'finished')";
+const DROP_BELOW: &str = "
+    WITH owner AS (SELECT FROM ripsawbean_owner WHERE epoch = $1 FOR SHARE)
+    DELETE FROM ripsawbean_journal WHERE series < $2 AND EXISTS (SELECT FROM owner)";
+const PIECES_THERE: &str = "SELECT count(*) FROM ripsawbean_journal WHERE kind = 'checkpoint' AND series = $1";
+/// 0 where an older server has finished it.
+const PIECES_WANTED: &str = "
+    SELECT coalesce(max(piece), 0) FROM ripsawbean_journal WHERE kind = 'finished' AND series = $1";
 
 /// A connection, with what makes its calls.
 struct Session {
@@ -87,12 +101,28 @@ impl Session {
         answered.map_err(|_| failure("it doesn't answer"))?.map_err(|error| failure_of(&error))
     }
 
+    /// Changes rows by one of the statements under the epoch: how many.
+    fn change(&self, statement: &str, words: &[&(dyn ToSql + Sync)]) -> Result<u64, Failure> {
+        let all = [&[&self.epoch as &(dyn ToSql + Sync)], words].concat();
+        self.ask(self.client.execute(statement, &all))
+    }
+
     /// Writes one row, where this server is still the owner.
     fn write(&self, kind: &str, series: u64, piece: i64, bytes: &[u8]) -> Result<(), Failure> {
-        let series = number(series);
-        match self.ask(self.client.execute(WRITE, &[&self.epoch, &kind, &series, &piece, &bytes]))? {
+        match self.change(WRITE, &[&kind, &number(series), &piece, &bytes])? {
             0 => Err(Failure::Fenced),
             _ => Ok(()),
+        }
+    }
+
+    fn number(&self, query: &str, series: Series) -> Result<i64, Failure> {
+        Ok(self.ask(self.client.query_one(query, &[&number(series.number)]))?.get(0))
+    }
+
+    fn check_pieces(&self, checkpoint: Series, wanted: i64) -> Result<(), Failure> {
+        match self.number(PIECES_THERE, checkpoint)? {
+            found if found == wanted => Ok(()),
+            found => Err(Failure::Pieces { name: name_of(checkpoint), found, wanted }),
         }
     }
 }
@@ -107,6 +137,10 @@ fn kind_of(series: Series) -> &'static str {
         Kind::Checkpoint => "checkpoint",
         Kind::Journal => "journal",
     }
+}
+
+fn name_of(series: Series) -> String {
+    format!("{series} in PostgreSQL")
 }
 
 impl Postgres {
@@ -150,11 +184,17 @@ impl Store for Postgres {
     }
 
     fn read(&mut self, series: Series) -> Result<Box<dyn Read + '_>, Failure> {
+        if series.kind == Kind::Checkpoint {
+            let wanted = self.session.number(PIECES_WANTED, series)?;
+            if wanted > 0 {
+                self.session.check_pieces(series, wanted)?;
+            }
+        }
         Ok(Box::new(Pieces { postgres: self, series, last: i64::MIN, bytes: Vec::new(), taken: 0 }))
     }
 
     fn name(&self, series: Series) -> String {
-        format!("{series} in PostgreSQL")
+        name_of(series)
     }
 
     /// A transaction is there as a whole or not at all, so nothing is torn.
@@ -179,13 +219,12 @@ impl Store for Postgres {
 
     fn draft(&mut self, number: u64) -> Result<Box<dyn Draft>, Failure> {
         let session = Session { epoch: self.session.epoch, ..Session::connect(&self.config)? };
-        session.ask(session.client.batch_execute(DROP_DRAFTS))?;
         Ok(Box::new(RowDraft { session, number, piece: 0 }))
     }
 
     fn drop_below(&mut self, below: u64) -> Result<(), Failure> {
-        self.session.ask(self.session.client.batch_execute(DROP_DRAFTS))?;
-        self.session.ask(self.session.client.execute(DROP_BELOW, &[&number(below)])).map(drop)
+        self.session.change(DROP_DRAFTS, &[&i64::MAX])?;
+        self.session.change(DROP_BELOW, &[&number(below)]).map(drop)
     }
 
     fn place(&self) -> Option<Place> {
@@ -237,7 +276,19 @@ impl Draft for RowDraft {
     }
 
     fn finish(self: Box<Self>) -> Result<(), Failure> {
-        self.session.write("finished", self.number, 0, b"")?;
-        self.session.ask(self.session.client.execute(DROP_BELOW, &[&number(self.number)])).map(drop)
+        let series = number(self.number);
+        if self.session.change(FINISH, &[&series, &self.piece])? == 0 {
+            self.session.check_pieces(Series::checkpoint(self.number), self.piece)?;
+            return Err(Failure::Fenced);
+        }
+        self.session.change(DROP_BELOW, &[&series]).map(drop)
+    }
+}
+
+impl Drop for RowDraft {
+    /// One that failed leaves its room. It is asked behind what was asked to finish it, on the same connection: where that
+    /// has come to its end, the draft is none any more.
+    fn drop(&mut self) {
+        let _ = self.session.change(DROP_DRAFTS, &[&number(self.number)]);
     }
 }

@@ -1,7 +1,6 @@
 //! What each event means for the journal: what is recorded of it, and what its answer rests on.
 //!
-//! `core` calls `note` after each event of the database, and `consumers` tells each name's place. Nothing here waits but
-//! `cover_now`.
+//! `core` calls `note` after each event of the database, and `consumers` tells each name's place. Nothing here waits.
 //!
 //! ```text
 //! begin 7, put 7 a 1           kept: `0 put 7 a 1`
@@ -12,8 +11,11 @@
 //!
 //! A commit of a request with a key has the key's lines beside it (`set_beside`), in one batch.
 //!
-//! 1. `writes` has what each undecided transaction has written, and nothing of others.
-//! 2. A key is in `fresh` as long as a commit of it isn't durable.
+//! 1. `writes` has what each undecided transaction has written, and nothing of others. Else a commit comes back with
+//!    other values.
+//! 2. A key is in `fresh` as long as a commit of it isn't durable. Else a read tells of a commit that a crash takes back.
+//! 3. No call brings a timestamp in above the mark that is durable. Else a crash gives it twice, and closed falls.
+//! 4. Behind the end nothing is called, and nothing is told: the last mark is lower, and no batch comes behind it.
 
 use super::note::{Kept, Note};
 use super::rules::{holds, Rule};
@@ -128,13 +130,9 @@ impl Journal {
     /// Whether a call may bring this timestamp into the database: it is at or below the mark that is durable. If not, the
     /// call has to wait for the ticket. None may once the last batch is on its way, because that has a lower mark.
     pub fn cover(&mut self, timestamp: u64) -> Result<(), Ticket> {
-        match self.is_over {
-            true => Err(Ticket::NEVER),
-            false => self.raise(timestamp),
+        if self.is_over {
+            return Err(Ticket::NEVER);
         }
-    }
-
-    fn raise(&mut self, timestamp: u64) -> Result<(), Ticket> {
         let Some(writer) = self.writer.as_ref().filter(|_| timestamp <= GREATEST) else { return Ok(()) };
         let is_durable = timestamp <= writer.durable_mark();
         if is_durable && timestamp.saturating_add(AHEAD / 2) <= self.mark {
@@ -146,15 +144,6 @@ impl Journal {
             Ok(())
         } else {
             Err(ticket)
-        }
-    }
-
-    /// Waits for the mark where `cover` wasn't asked. Everyone waits meanwhile. Behind the end nobody is told of it.
-    pub fn cover_now(&mut self, timestamp: u64) {
-        if !self.is_over && self.raise(timestamp).is_err() {
-            if let Some(writer) = &self.writer {
-                writer.wait_for_mark(timestamp);
-            }
         }
     }
 
@@ -187,13 +176,19 @@ impl Journal {
     pub fn note(&mut self, record: &Record, line: &[u8], closed: u64) {
         use ripsawbean::Outcome as Did;
         let Some(writer) = &self.writer else { return };
+        if self.is_over {
+            self.needed = Ticket::NEVER;
+        }
         match record.outcome {
             Did::Written => self.writes.entry(record.at).or_default().add(line),
             Did::Committed(_) => self.committed(record.at),
             Did::Aborted => drop(self.writes.remove(&record.at)),
             Did::Closed(closed) if closed.aborted > 0 => self.writes.retain(|ts, _| *ts > closed.at),
             Did::Value(_) | Did::None => self.need_by(Rule::ReadsWait, self.fresh.ticket(writer, key_of(line))),
-            Did::Rows(_) => self.need_by(Rule::ScansWait, self.fresh.greatest(writer)),
+            // Which transaction blocks a scan first rests on what was committed before it.
+            Did::Rows(_) | Did::Refused(Refusal::Blocked(_)) => {
+                self.need_by(Rule::ScansWait, self.fresh.greatest(writer));
+            }
             Did::Collected { horizon, .. } => self.collected(horizon, closed),
             // It may rest on a read that nobody is told of.
             Did::Refused(Refusal::TooLate) => {
@@ -345,7 +340,7 @@ struct Fresh {
 impl Fresh {
     fn add(&mut self, ticket: Ticket, keys: Vec<Box<[u8]>>) {
         if ticket != self.now.0 {
-            // What was before this is durable: one batch is on its way at a time.
+            // What was before these two is durable: one batch is on its way at a time. Behind the end nothing is told.
             std::mem::swap(&mut self.now, &mut self.before);
             self.now.0 = ticket;
             self.now.1.clear();

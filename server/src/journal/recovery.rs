@@ -6,9 +6,12 @@
 //! closehard MARK          what a crash is
 //! ```
 //!
-//! 1. Each line has one right answer. Where another one comes nothing is changed, and the server doesn't start.
-//! 2. What stands in the journal at or below G stands in the checkpoint too: there its lines are refused.
-//! 3. A torn batch goes, and older series, only after all that stands was read.
+//! 1. Each line has one right answer. Where another one comes nothing is changed, and the server doesn't start: another
+//!    history would be served under this identity.
+//! 2. What stands in the journal at or below G stands in the checkpoint too: there its lines are refused, and nowhere else.
+//! 3. A torn batch goes, and older series, only after all that stands was read: what is removed can't be asked for again.
+//! 4. No journal is missing from the checkpoint on, and each goes on where the one before it has ended. Else what a lost
+//!    file or lost batches had is missing from the middle, in silence.
 
 use super::answers::{Answered, Answers};
 use super::copy::is_end;
@@ -132,7 +135,10 @@ fn found(store: &mut dyn Store) -> Result<Found, Failure> {
     let numbers = |kind| all.iter().filter(move |series| series.kind == kind).map(|series| series.number);
     let checkpoint = numbers(Kind::Checkpoint).max();
     let (base, last) = (checkpoint.unwrap_or(1), numbers(Kind::Journal).max());
-    let wanted = base..=last.or(checkpoint).unwrap_or(0);
+    if checkpoint == Some(1) && last.is_none() {
+        return Err(Failure::HalfRestored(store.name(Series::checkpoint(1))));
+    }
+    let wanted = base..=last.max(checkpoint).unwrap_or(0);
     match wanted.into_iter().find(|number| numbers(Kind::Journal).all(|one| one != *number)) {
         Some(number) => Err(Failure::Missing(store.name(Series::journal(number)))),
         None => Ok(Found { base, has_checkpoint: checkpoint.is_some(), last }),
@@ -143,6 +149,8 @@ struct Reading {
     database: Database,
     told: Told,
     position: Option<Position>,
+    /// The number of the first batch of the series that was read last.
+    first: Option<u64>,
     /// Of the last series: its name, where its whole batches end, and the bytes behind them.
     last: Series,
     whole: u64,
@@ -169,7 +177,8 @@ struct Told {
 
 impl Reading {
     fn new(database: Database) -> Reading {
-        Reading { database, told: Told::default(), position: None, last: Series::journal(1), whole: 0, torn: 0 }
+        let (told, last) = (Told::default(), Series::journal(1));
+        Reading { database, told, position: None, first: None, last, whole: 0, torn: 0 }
     }
 
     fn take_all(&mut self, store: &mut dyn Store, all: &Found) -> Result<(), Failure> {
@@ -185,7 +194,7 @@ impl Reading {
             if self.torn > 0 {
                 return Err(Failure::Torn { name: store.name(self.last), at: self.whole });
             }
-            self.take(store, Series::journal(number))?;
+            self.follow(store, Series::journal(number), number == all.base)?;
             // A checkpoint is finished once the journal's head is durable, which has the names.
             if all.has_checkpoint && self.position.is_none() {
                 return Err(Failure::NotWhole { name: store.name(self.last), at: self.whole });
@@ -198,11 +207,27 @@ impl Reading {
         Ok(())
     }
 
+    /// Reads a journal, which goes on where the one before it has ended: with the batch that was cut between the two, or,
+    /// behind a crash, with the next.
+    fn follow(&mut self, store: &mut dyn Store, series: Series, is_first: bool) -> Result<(), Failure> {
+        let (before, last, at) = (self.position, self.last, self.whole);
+        self.take(store, series)?;
+        let number = before.map_or(0, |before| before.number);
+        match self.first {
+            Some(first) if !is_first && first != number && first != number + 1 => {
+                Err(Failure::NotWhole { name: store.name(last), at })
+            }
+            _ => Ok(()),
+        }
+    }
+
     /// Reads a series: whether its last batch ends as a copy does.
     fn take(&mut self, store: &mut dyn Store, series: Series) -> Result<bool, Failure> {
         let (name, mut is_whole) = (store.name(series), false);
+        self.first = None;
         let mut batches = Batches::new(store.read(series)?, series);
         while let Some(batch) = batches.next().map_err(|fault| failure_of(&name, fault))? {
+            self.first = self.first.or(Some(batch.number));
             if holds(Rule::TheMarkIsWritten) {
                 // At a clean end it falls to where it really stands.
                 self.told.mark = batch.mark;

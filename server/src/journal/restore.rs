@@ -17,10 +17,14 @@ pub const DUMP: Series = Series { kind: super::store::Kind::Checkpoint, number: 
 
 /// Puts a dump into an empty store, under a new identity.
 pub fn restore(store: &mut dyn Store, file: &Path, identity: &str) -> Result<(), Failure> {
-    if let Some(series) = store.all()?.first() {
-        return Err(Failure::NotEmpty(store.name(*series)));
+    let (half, all) = (Series::checkpoint(1), store.all()?);
+    match all.first() {
+        Some(_) if all == [half] => return Err(Failure::HalfRestored(store.name(half))),
+        Some(series) => return Err(Failure::NotEmpty(store.name(*series))),
+        // What one has left that was cut still earlier.
+        None => store.drop_below(half.number)?,
     }
-    let (name, series) = (file.display().to_string(), Series::checkpoint(1));
+    let (name, series) = (file.display().to_string(), half);
     let mut batches = Batches::new(File::open(file).map_err(|error| Failure::file(file, error))?, DUMP);
     let mut draft = store.draft(series.number)?;
     let (mut chain, mut is_whole) = (Chain::new(identity, series), false);

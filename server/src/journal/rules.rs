@@ -10,6 +10,7 @@
 #[derive(Clone, Copy, Debug, PartialEq, Eq)]
 pub enum Rule {
     // What waits until it is told.
+    RequestsWait,
     CommitsWait,
     ReadsWait,
     ScansWait,

@@ -5,9 +5,11 @@
 //!            checkpoint-2                  the database as it was where journal-2 begins: what is older may go
 //! ```
 //!
-//! 1. What `append` was given is durable once it returns. After an error nobody knows, so the process has to end.
-//! 2. A checkpoint is there as a whole, or not at all.
-//! 3. One process writes at a time. Where another has taken its place, an append fails and writes nothing.
+//! 1. What `append` was given is durable once it returns. After an error nobody knows, so the process has to end: what
+//!    is told behind it could be lost.
+//! 2. A checkpoint is there as a whole, or not at all: what is older goes once it is there.
+//! 3. One process writes at a time. Where another has taken its place, whatever this one asks for changes nothing: else
+//!    it would cut or delete what the other one has acknowledged.
 
 use super::Failure;
 use std::fmt;
@@ -66,7 +68,7 @@ pub trait Store: Send {
     /// A checkpoint that isn't there until it is finished.
     fn draft(&mut self, number: u64) -> Result<Box<dyn Draft>, Failure>;
 
-    /// Drops all series below this number, and drafts.
+    /// Drops all series below this number, and what drafts have left. Nobody writes one meanwhile.
     fn drop_below(&mut self, number: u64) -> Result<(), Failure>;
 
     /// The host and the place where it stands, as far as that can be known: a copy stands elsewhere.
@@ -78,7 +80,7 @@ pub trait Store: Send {
     }
 }
 
-/// A checkpoint while it is written. Dropped, it leaves nothing that counts.
+/// A checkpoint while it is written. Dropped, it leaves nothing.
 pub trait Draft: Send {
     fn write(&mut self, bytes: &[u8]) -> Result<(), Failure>;
 

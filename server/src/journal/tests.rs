@@ -20,6 +20,8 @@ mod disk;
 mod ghost;
 mod keys;
 mod model;
+mod rests;
+mod series;
 
 const NO_HISTORY: [&str; 2] = ["--history", "0"];
 
@@ -145,13 +147,6 @@ fn no_timestamp_is_above_the_mark() {
     wait_for(&core, ticket);
     assert!(core_in(&crashed(&place)).ledger.closed >= 500_000);
     assert_eq!(lines.turn(&mut core, &mut one, far), Ok(crate::door::Turn::Done));
-    // A call of the server's own waits by itself.
-    core.demand(
-        Owner::Server,
-        Command::CloseHard { to: 900_000 },
-        &crate::outcome::Outcome::Closed { at: 900_000, aborted: 1 },
-    );
-    assert!(core_in(&crashed(&place)).ledger.closed >= 900_000);
 }
 
 #[test]

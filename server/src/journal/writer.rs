@@ -6,7 +6,8 @@
 //! told                    what rests on 7     what rests on 8
 //! ```
 //!
-//! 1. One batch is on its way at a time. So what isn't durable is one batch, at the end of the last series.
+//! 1. One batch is on its way at a time. So what isn't durable is one batch, at the end of the last series. Of two, a
+//!    crash may leave the second without the first.
 //! 2. Where a batch can't be written the process ends at once, before anyone is told of it.
 //! 3. What a large transaction wrote is handed on from `recorder` to the disk, and never copied. So however much waits for
 //!    a slow disk, it takes the memory that it took before its commit.
@@ -19,6 +20,7 @@ use super::frame::Chain;
 use super::rules::{holds, Rule};
 use super::store::{Draft, Series, Store};
 use super::Failure;
+use crate::log::last_words;
 use parking_lot::{Condvar, Mutex};
 use pieces::{Pieces, ROOM};
 use std::sync::atomic::{AtomicU64, Ordering::Relaxed};
@@ -110,7 +112,6 @@ struct Queue {
     is_raised: bool,
     switch: Option<Switch>,
     is_over: bool,
-    durable_mark: u64,
     /// Since when a batch is on its way.
     writing: Option<Instant>,
 }
@@ -125,8 +126,6 @@ struct Shared {
     queue: Mutex<Queue>,
     /// There is something to write.
     gathered: Condvar,
-    /// A batch was written.
-    written: Condvar,
     durable_mark: AtomicU64,
     durable: watch::Sender<u64>,
     counts: Arc<Counts>,
@@ -156,13 +155,11 @@ impl Writer {
             is_raised: false,
             switch: None,
             is_over: false,
-            durable_mark: mark,
             writing: None,
         };
         let shared = Arc::new(Shared {
             queue: Mutex::new(queue),
             gathered: Condvar::new(),
-            written: Condvar::new(),
             durable_mark: AtomicU64::new(mark),
             durable: watch::channel(number).0,
             counts,
@@ -215,18 +212,6 @@ impl Writer {
         }
         // The batch that is on its way has the mark as it stood, unless it was raised since.
         Ticket(if queue.is_raised { queue.number } else { queue.number - 1 })
-    }
-
-    /// Waits, and holds up its thread, until the mark is durable.
-    pub fn wait_for_mark(&self, timestamp: u64) {
-        #[cfg(test)]
-        if by_hand::is_held() {
-            return by_hand::finish_until(|| self.durable_mark() >= timestamp);
-        }
-        let mut queue = self.shared.queue.lock();
-        while queue.durable_mark < timestamp {
-            self.shared.written.wait(&mut queue);
-        }
     }
 
     /// What is added from here on goes to a new series. Gives where its checkpoint comes from, once it has begun; there is
@@ -341,13 +326,9 @@ impl Thread {
     }
 
     fn is_durable(&self, work: &Work) {
-        let mut queue = self.shared.queue.lock();
-        queue.durable_mark = work.mark;
-        queue.writing = None;
-        drop(queue);
+        self.shared.queue.lock().writing = None;
         self.shared.durable_mark.store(work.mark, Relaxed);
         self.shared.durable.send_replace(work.number);
-        self.shared.written.notify_all();
     }
 }
 
@@ -380,6 +361,6 @@ fn write(
 
 /// Ends the process: nothing that isn't durable may be told any more.
 fn give_up(failure: &Failure) -> ! {
-    eprintln!("ripsawbean-server: the journal can't be written: {failure}. Nothing was told that isn't durable.");
+    last_words(format!("the journal can't be written: {failure}. Nothing was told that isn't durable."));
     std::process::exit(1);
 }

@@ -344,19 +344,24 @@ fn who_has_a_feed_or_a_protection_may_end_it() {
 fn the_log_says_who_has_ended_what_is_anothers() {
     let (mut core, said) = crate::testing::core_and_log(&[]);
     let (mut one, mut two) = (session(&mut core), session(&mut core));
-    answers(&mut core, &mut one, "begin 5\nopen - - 0\nopen - - 0\nprotect 0\nprotect 0\ncancel 1\nrelease 1\n");
+    answers(
+        &mut core,
+        &mut one,
+        "begin 5\nbegin 6\nopen - - 0\nopen - - 0\nprotect 0\nprotect 0\ncancel 1\nrelease 1\n",
+    );
     let told = answers(&mut core, &mut two, "closehard 1\ncancel 2\nrelease 2\nclosehard 7\ncancel 2\nrelease 2\n");
-    assert_eq!(told, ["closed 1 0", "cancelled", "released", "closed 7 1", "feedcancelled", "noprotection"]);
+    assert_eq!(told, ["closed 1 0", "cancelled", "released", "closed 7 2", "feedcancelled", "noprotection"]);
     answers(&mut core, &mut one, "open - - 7\n");
     assert!(answers(&mut core, &mut two, "cancel 3")[0].ends_with(" 7 nonewline"));
+    core.log.flush();
     let text = said.text();
     let lines: Vec<&str> = text.lines().filter_map(|line| Some(line.split_once(" info ")?.1)).collect();
     let seat = two.seat;
     assert_eq!(
         lines,
-        ["cancel 2", "release 2", "closehard 7"].map(|what| {
-            let (event, number) = what.split_once(' ').expect("two words");
-            format!("{event} number={number} seat={seat} by=\"\"")
+        ["cancel number=2", "release number=2", "closehard number=7"].map(|what| {
+            let count = 1 + usize::from(what.starts_with("closehard"));
+            format!("{what} seat={seat} by=\"\" of=127.0.0.1:1 count={count}")
         })
     );
 }

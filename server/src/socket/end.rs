@@ -149,6 +149,7 @@ mod tests {
         for end in [End::SHUTDOWN, End::Gone, End::ByClient(None), broken] {
             end.tell(&log, 8, "192.0.2.1:9");
         }
+        log.flush();
         let text = said.text();
         assert_eq!(text.matches("warn session_let_go seat=7 peer=192.0.2.1:9 why=").count(), 6, "{text}");
         assert!(text.lines().count() == 6 && text.contains("why=heartbeat\n"), "{text}");

@@ -2,6 +2,7 @@
 
 use crate::api::pages::Unread;
 use crate::cuts;
+use crate::journal::Ticket;
 use crate::refusal::Refusal;
 use ripsawbean::MOST_ROWS;
 use tokio::sync::watch;
@@ -22,6 +23,8 @@ pub enum Stop {
     Draining,
     TooMuch,
     ReplyTooLong,
+    /// Its timestamp is above the mark that is durable: it is run once this is.
+    Until(Ticket),
     /// It is longer than it may be: nothing was changed, and it is run anew in turns.
     Long,
     /// Between two of its turns another one got in its way: nothing was changed, and it is run anew at once.
@@ -68,8 +71,8 @@ impl Stop {
                 let why = "the answer would be longer than --max-reply: nothing was changed";
                 Refusal::new(422, "replytoolong", why)
             }
-            // Who runs it runs one anew that is long, or was overtaken.
-            Stop::Long | Stop::Overtaken | Stop::Unexpected => {
+            // Who runs it runs one anew that has to wait, is long, or was overtaken.
+            Stop::Until(_) | Stop::Long | Stop::Overtaken | Stop::Unexpected => {
                 Refusal::new(500, "unexpected", "the server's log says more: nothing was changed")
             }
             Stop::Lost => Refusal::new(500, "unwritten", "it may have committed: there is no memory for its answer"),

@@ -30,6 +30,9 @@ async fn ask(core: &mut Core, remembered: &Remembered, key: &str, body: &str) ->
         Begun::Told(answer) => return (false, answer.form().clone()),
         Begun::Runs(running) => running,
     };
+    while let Err(ticket) = core.journal.cover(core.ledger.next_timestamp()) {
+        wait_for(core, ticket);
+    }
     let end = run(core, &plan, Pace::Whole, Some(&Keep { running: &running, form_of: &form_of }));
     core.settle(Instant::now());
     match end.expect("it is done") {

@@ -73,11 +73,3 @@ pub fn finish() -> Result<(), Failure> {
         written
     })
 }
-
-/// Writes until the mark is there.
-pub(super) fn finish_until(has_come: impl Fn() -> bool) {
-    while !has_come() {
-        assert!(take() | is_writing(), "nothing raises the mark");
-        finish().expect("no disk fails while everyone waits");
-    }
-}

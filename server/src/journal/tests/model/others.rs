@@ -4,7 +4,7 @@ use super::super::keys::form_of;
 use super::*;
 use crate::api::plan::Plan;
 use crate::api::remembered::{Asked, Begun, Keep};
-use crate::api::run::{run, End, Pace};
+use crate::api::run::{run, Committed, End, Failed, Pace};
 use crate::testing::tidy;
 
 const NAMES: [&str; 2] = ["x", "y"];
@@ -50,15 +50,19 @@ impl Model {
                 let ended =
                     run(&mut life.core, &plan, Pace::Whole, Some(&Keep { running: &running, form_of: &form_of }));
                 drop(running);
+                let rests = match &ended {
+                    Ok(End::Committed(Committed { rests, .. }) | End::Failed(Failed { rests, .. })) => *rests,
+                    Err(_) => life.core.journal.all(),
+                };
                 if let Ok(End::Committed(committed)) = ended {
                     if let Some(last) = done.last() {
                         return Err(format!("{key} was done at {}, and at {}", last.timestamp, committed.timestamp));
                     }
-                    let (timestamp, rests) = (committed.timestamp, life.core.journal.all());
-                    done.push(Done { timestamp, form: committed.form.expect("it has a key"), rests });
+                    let (timestamp, form) = (committed.timestamp, committed.form.expect("it has a key"));
+                    done.push(Done { timestamp, form, rests });
                 }
                 let events = before..life.core.transcript.next();
-                life.answers.push_back(Untold { events, rests: life.core.journal.all() });
+                life.answers.push_back(Untold { events, rests });
             }
         }
         Ok(())

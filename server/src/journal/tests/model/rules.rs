@@ -38,6 +38,7 @@ fn with_all_rules_nothing_is_contradicted() {
 #[test]
 fn each_rule_that_is_left_out_is_noticed() {
     let all = [
+        Rule::RequestsWait,
         Rule::CommitsWait,
         Rule::ReadsWait,
         Rule::ScansWait,
