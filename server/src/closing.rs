@@ -27,6 +27,7 @@ use crate::memory::{Growing, Memory, ROW};
 use crate::options::Options;
 use crate::outcome::Outcome;
 use crate::seats::{EndedBy, Owner};
+use crate::shares::Client;
 use ripsawbean::Command;
 use std::time::{Duration, Instant};
 
@@ -381,7 +382,7 @@ pub async fn tidy(door: &Door, resident: Option<u64>) {
             core.closing.length = length;
             step(core, until)
         };
-        door.turns(turn).await;
+        door.turns(&Client::SERVER, turn).await;
     }
     door.ring();
 }

@@ -17,13 +17,13 @@
 //! 4. What `--max-held` allows is no part: it has a share of its own while memory is full, as all that `growth` counts.
 
 use crate::api::pages;
-use crate::budget::FREE;
 use crate::journal;
 use crate::memory;
 use crate::options::Options;
 use crate::reports;
 use crate::seats::SEATS;
 use crate::session;
+use crate::shares::FREE;
 use crate::socket;
 
 /// The program itself, its tables, and what the C library keeps between its pieces.

@@ -20,6 +20,7 @@ use super::Answer;
 use crate::http::Request;
 use crate::journal::{Answered, Form, MOST, MOST_BYTES};
 use crate::refusal::Refusal;
+use crate::shares::Client;
 use parking_lot::Mutex;
 use sha2::{Digest, Sha256};
 use std::collections::{HashMap, HashSet, VecDeque};
@@ -56,17 +57,23 @@ enum Entry {
     Answered(Answered),
 }
 
-/// What a request with a key asks.
-#[derive(Clone, Copy)]
+/// Who asks, and what, where it has a key.
 pub struct Asked {
+    pub client: Client,
+    key: Option<Key>,
+}
+
+#[derive(Clone, Copy)]
+struct Key {
     named: u128,
     asked: u128,
 }
 
 impl Asked {
     /// By the token's name, its key, and the parts of its request.
-    pub fn new(who: &str, key: &str, request: &[&[u8]]) -> Asked {
-        Asked { named: digest(&[who.as_bytes(), key.as_bytes()]), asked: digest(request) }
+    pub fn new(client: &Client, who: &str, key: &str, request: &[&[u8]]) -> Asked {
+        let key = Key { named: digest(&[who.as_bytes(), key.as_bytes()]), asked: digest(request) };
+        Asked { client: client.clone(), key: Some(key) }
     }
 }
 
@@ -100,23 +107,26 @@ impl Remembered {
         Remembered { time, began, before, table: Mutex::new(table) }
     }
 
-    /// What a request asks, where it has a key.
-    pub fn asked(&self, request: &Request, body: &[u8]) -> Result<Option<Asked>, Refusal> {
-        let Some(header) = request.header("idempotency-key") else { return Ok(None) };
+    /// What a request asks.
+    pub fn asked(&self, request: &Request, body: &[u8]) -> Result<Asked, Refusal> {
+        let client = &request.client;
+        let Some(header) = request.header("idempotency-key") else {
+            return Ok(Asked { client: client.clone(), key: None });
+        };
         let key = key_in(header).ok_or_else(|| {
             let why = "an Idempotency-Key has 1 to 64 printable characters without a space, quote or backslash";
             Refusal::new(400, "idempotencykey", why)
         })?;
         let [matched, others] = ["if-match", "if-none-match"].map(|name| request.list(name));
         let head = [request.method.name(), &request.path, &request.query, &matched, &others].map(str::as_bytes);
-        Ok(Some(Asked::new(request.who.name(), &key, &[&head[..], &[body]].concat())))
+        Ok(Asked::new(client, request.who.name(), &key, &[&head[..], &[body]].concat()))
     }
 
     /// The answer that was given before, or the word to run. A request that runs is waited for until then.
-    pub async fn begin(&self, asked: Option<Asked>, until: Instant) -> Result<Begun<'_>, Refusal> {
-        if let Some(asked) = asked {
+    pub async fn begin(&self, asked: &Asked, until: Instant) -> Result<Begun<'_>, Refusal> {
+        if let Some(key) = asked.key {
             loop {
-                match self.find(asked)? {
+                match self.find(key)? {
                     Found::Answer(answer) => return Ok(Begun::Told(answer)),
                     Found::Nothing => break,
                     Found::Running(mut end) => {
@@ -128,15 +138,15 @@ impl Remembered {
                 }
             }
         }
-        Ok(Begun::Runs(Running { remembered: self, asked }))
+        Ok(Begun::Runs(Running { remembered: self, key: asked.key }))
     }
 
     /// Looks for an answer. Where there is nothing, it is noted that the request runs.
-    fn find(&self, asked: Asked) -> Result<Found, Refusal> {
+    fn find(&self, key: Key) -> Result<Found, Refusal> {
         let mut table = self.table.lock();
         table.forget(Instant::now());
-        match table.entries.get(&asked.named) {
-            Some(Entry::Answered(answered)) if answered.asked != asked.asked => {
+        match table.entries.get(&key.named) {
+            Some(Entry::Answered(answered)) if answered.asked != key.asked => {
                 Err(Refusal::new(422, "idempotencykey", "another request had this Idempotency-Key"))
             }
             Some(Entry::Answered(answered)) => Ok(Found::Answer(Answer::again(answered))),
@@ -145,7 +155,7 @@ impl Remembered {
                 Err(Refusal::busy("remembered", "too many answers are remembered: nothing was changed"))
             }
             None => {
-                table.entries.insert(asked.named, Entry::Running(watch::channel(()).0));
+                table.entries.insert(key.named, Entry::Running(watch::channel(()).0));
                 Ok(Found::Nothing)
             }
         }
@@ -213,13 +223,13 @@ fn digest(parts: &[&[u8]]) -> u128 {
 /// A request that runs. Where it ends without an answer, its key is free.
 pub struct Running<'a> {
     remembered: &'a Remembered,
-    asked: Option<Asked>,
+    key: Option<Key>,
 }
 
 impl Running<'_> {
     /// What is remembered of a commit, where the request has a key.
     fn answered(&self, timestamp: u64, form: impl FnOnce() -> Form) -> Option<Answered> {
-        let Asked { named, asked } = self.asked?;
+        let Key { named, asked } = self.key?;
         let passed = u64::try_from(self.remembered.began.elapsed().as_millis()).unwrap_or(u64::MAX);
         let time = self.remembered.before.saturating_add(passed);
         Some(Answered { time, named, asked, timestamp, form: form() })
@@ -232,7 +242,7 @@ impl Running<'_> {
 
 impl Drop for Running<'_> {
     fn drop(&mut self) {
-        let Some(Asked { named, .. }) = self.asked else { return };
+        let Some(Key { named, .. }) = self.key else { return };
         let mut table = self.remembered.table.lock();
         if let Some(Entry::Running(_)) = table.entries.get(&named) {
             table.entries.remove(&named);

@@ -19,7 +19,6 @@ use super::plan::Plan;
 use super::remembered::{Asked, Begun, Keep};
 use super::run::{Branch, Committed, End, Failed, Pace, Row, Running, Stop, Told};
 use super::{body_of, spelling_in, wait_in, Answer};
-use crate::budget::Held;
 use crate::core::Core;
 use crate::door::Length;
 use crate::http::{Request, Response};
@@ -27,6 +26,8 @@ use crate::journal::Form;
 use crate::query::arguments;
 use crate::refusal::Refusal;
 use crate::routes::Server;
+use crate::session::place_of_answer;
+use crate::shares::{Client, Held};
 use serde_json::{json, Value};
 use std::io::Write;
 use std::sync::Arc;
@@ -40,11 +41,11 @@ pub async fn transact(server: &Arc<Server>, mut request: Request) -> Result<Resp
     let asked = server.remembered.asked(&request, &body)?;
     let plan = Plan::of(&body)?;
     plan.check(&request.who)?;
-    let place = plan.answers_at_length().then(|| super::place_of_answer(server, &request)).transpose()?;
+    let place = plan.answers_at_length().then(|| place_of_answer(server, &request.client)).transpose()?;
     let form_of = |committed: &Committed<'_>| Form::Text(text_of(committed, spelling).into());
     let refused = |failed: Failed<'_>| refusal_of(&failed, spelling);
     let unread = place.as_ref().map(|place| &place.unread);
-    let answered = answer_once(server, asked, &plan, start + wait, &form_of, refused, unread).await;
+    let answered = answer_once(server, &asked, &plan, start + wait, &form_of, refused, unread).await;
     server.metrics.transactions.note(start.elapsed());
     Ok(answered?.into_response(place))
 }
@@ -52,7 +53,7 @@ pub async fn transact(server: &Arc<Server>, mut request: Request) -> Result<Resp
 /// Runs a plan, or gives the answer that its key had before.
 pub async fn answer_once(
     server: &Server,
-    asked: Option<Asked>,
+    asked: &Asked,
     plan: &Plan<'_>,
     until: Instant,
     form_of: &(dyn Fn(&Committed<'_>) -> Form + Sync),
@@ -63,7 +64,7 @@ pub async fn answer_once(
         Begun::Told(answer) => return Ok(answer),
         Begun::Runs(running) => running,
     };
-    match run_until(server, plan, until, Some(&Keep { running: &running, form_of }), unread).await? {
+    match run_until(server, &asked.client, plan, until, Some(&Keep { running: &running, form_of }), unread).await? {
         End::Committed(mut committed) => {
             let form = committed.form.take().unwrap_or_else(|| form_of(&committed));
             Ok(Answer::new(committed.timestamp, form))
@@ -75,6 +76,7 @@ pub async fn answer_once(
 /// Runs a plan, anew as long as it is blocked, until then. Where its answer may be long it says what counts it.
 pub async fn run_until<'p>(
     server: &Server,
+    client: &Client,
     plan: &'p Plan<'_>,
     until: Instant,
     keep: Option<&Keep<'_>>,
@@ -85,7 +87,7 @@ pub async fn run_until<'p>(
         Length::Long => Pace::Turns,
     };
     loop {
-        match run_once(server, plan, pace, keep, unread).await {
+        match run_once(server, client, plan, pace, keep, unread).await {
             Ok(end) => return Ok(end),
             Err(Stop::Long) => pace = Pace::Turns,
             Err(Stop::Overtaken) => pace = Pace::Whole,
@@ -102,6 +104,7 @@ pub async fn run_until<'p>(
 /// Runs a plan once, in the lane where it isn't short.
 async fn run_once<'p>(
     server: &Server,
+    client: &Client,
     plan: &'p Plan<'_>,
     pace: Pace,
     keep: Option<&Keep<'_>>,
@@ -111,7 +114,7 @@ async fn run_once<'p>(
     let turn = |core: &mut Core, _| turns.turn(core, plan, pace, keep, unread).transpose();
     match pace {
         Pace::Short => server.door.turn(turn).unwrap_or(Err(Stop::Long)),
-        Pace::Turns | Pace::Whole => server.door.turns_in_lane(turn).await,
+        Pace::Turns | Pace::Whole => server.door.turns_in_lane(client, turn).await,
     }
 }
 
@@ -252,18 +255,18 @@ mod tests {
     #[tokio::test]
     async fn who_goes_away_between_two_turns_leaves_nothing() {
         let (server, plan) = (with_rows(), Plan::of(LONG.as_bytes()).expect("a plan"));
-        let mut run = Box::pin(run_until(&server, &plan, Instant::now(), None, None));
+        let mut run = Box::pin(run_until(&server, &crate::shares::LOOPBACK, &plan, Instant::now(), None, None));
         assert!(waits(run.as_mut()).await && undecided(&server) == 1);
         drop(run);
         assert_eq!((undecided(&server), server.door.run(|core| core.shouts)), (0, 0));
         // The lane is free.
-        assert!(run_until(&server, &plan, Instant::now(), None, None).await.is_ok());
+        assert!(run_until(&server, &crate::shares::LOOPBACK, &plan, Instant::now(), None, None).await.is_ok());
     }
 
     #[tokio::test]
     async fn a_plan_that_was_overtaken_commits_all_the_same() {
         let (server, plan) = (with_rows(), Plan::of(LONG.as_bytes()).expect("a plan"));
-        let mut run = Box::pin(run_until(&server, &plan, Instant::now(), None, None));
+        let mut run = Box::pin(run_until(&server, &crate::shares::LOOPBACK, &plan, Instant::now(), None, None));
         assert!(waits(run.as_mut()).await);
         let later = server.door.run(|core| {
             let mut one = session(core);
@@ -282,13 +285,13 @@ mod tests {
             r#"{"then":[{"put":"b","value":"1"}]}"#,
         ];
         let ask = |body: &'static str| {
-            let (server, asked) = (&server, Asked::new("", body, &[body.as_bytes()]));
+            let (server, asked) = (&server, Asked::new(&crate::shares::LOOPBACK, "", body, &[body.as_bytes()]));
             async move {
                 let plan = Plan::of(body.as_bytes()).expect("a plan");
                 let form_of = |_: &Committed<'_>| Form::Put;
                 let refused = |failed: Failed<'_>| refusal_of(&failed, Spelling::Text);
                 // It is no longer waited for others' transactions.
-                answer_once(server, Some(asked), &plan, Instant::now(), &form_of, refused, None).await
+                answer_once(server, &asked, &plan, Instant::now(), &form_of, refused, None).await
             }
         };
         let within = |body| tokio::time::timeout(Duration::from_secs(60), ask(body));

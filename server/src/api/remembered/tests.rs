@@ -10,8 +10,9 @@ fn remembered(seconds: u64) -> Remembered {
     Remembered::new(Duration::from_secs(seconds), VecDeque::new())
 }
 
-fn asked(who: &str, key: &str, body: &str) -> Option<Asked> {
-    Some(Asked::new(who, key, &[b"POST", b"/transact", body.as_bytes()]))
+fn asked(who: &str, key: &str, body: &str) -> Asked {
+    let client = Client::new([127, 0, 0, 1].into(), &Who::of(who, &[Right::Write]));
+    Asked::new(&client, who, key, &[b"POST", b"/transact", body.as_bytes()])
 }
 
 fn form(text: &str) -> Form {
@@ -27,7 +28,7 @@ fn text_of(answer: &Answer) -> String {
 
 /// What a request is answered, and whether it has run.
 async fn ask(remembered: &Remembered, who: &str, key: &str, body: &str) -> (Result<String, &'static str>, bool) {
-    match remembered.begin(asked(who, key, body), Instant::now()).await {
+    match remembered.begin(&asked(who, key, body), Instant::now()).await {
         Ok(Begun::Told(answer)) => (Ok(text_of(&answer)), false),
         Ok(Begun::Runs(running)) => {
             running.keep(running.answered(5, || form(body)).expect("it has a key"));
@@ -54,7 +55,7 @@ async fn a_key_is_of_a_token_and_stands_for_all_of_a_request() {
     let server = server(&[]);
     let asked = |name: &str, line: &str, headers: &[(&str, &str)], body: &str| {
         let request = Request::of(&server, &Who::of(name, &[Right::Write]), line, headers, body);
-        let asked = server.remembered.asked(&request, body.as_bytes()).expect("a key").expect("it is given");
+        let asked = server.remembered.asked(&request, body.as_bytes()).expect("a key").key.expect("it is given");
         (asked.named, asked.asked)
     };
     let (key, line) = (("idempotency-key", "k"), "PUT /key/a?wait=1");
@@ -82,7 +83,7 @@ async fn a_key_is_of_a_token_and_stands_for_all_of_a_request() {
 #[tokio::test]
 async fn what_failed_is_run_again() {
     let remembered = remembered(60);
-    assert!(matches!(remembered.begin(asked("", "k", "1"), Instant::now()).await, Ok(Begun::Runs(_))));
+    assert!(matches!(remembered.begin(&asked("", "k", "1"), Instant::now()).await, Ok(Begun::Runs(_))));
     assert_eq!(ask(&remembered, "", "k", "1").await, (Ok("1".into()), true));
 }
 
@@ -99,11 +100,12 @@ async fn it_is_forgotten_after_its_time() {
 #[tokio::test]
 async fn of_two_at_once_the_second_waits() {
     let remembered = Arc::new(remembered(60));
-    let Ok(Begun::Runs(first)) = remembered.begin(asked("", "k", "1"), Instant::now()).await else { panic!("it runs") };
+    let one = asked("", "k", "1");
+    let Ok(Begun::Runs(first)) = remembered.begin(&one, Instant::now()).await else { panic!("it runs") };
     assert_eq!(ask(&remembered, "", "k", "1").await, (Err("running"), false));
     let second = {
         let (remembered, far) = (remembered.clone(), Instant::now() + Duration::from_secs(60));
-        tokio::spawn(async move { remembered.begin(asked("", "k", "1"), far).await.map(|begun| is_told(&begun)) })
+        tokio::spawn(async move { remembered.begin(&asked("", "k", "1"), far).await.map(|begun| is_told(&begun)) })
     };
     tokio::task::yield_now().await;
     first.keep(first.answered(5, || form("1")).expect("it has a key"));
@@ -119,7 +121,8 @@ fn is_told(begun: &Begun<'_>) -> bool {
 async fn a_request_that_is_dropped_frees_its_key() {
     let remembered = remembered(60);
     let mut dropped = Box::pin(async {
-        let _running = remembered.begin(asked("", "k", "1"), Instant::now()).await;
+        let one = asked("", "k", "1");
+        let _running = remembered.begin(&one, Instant::now()).await;
         std::future::pending::<()>().await;
     });
     let waits = tokio::select! {
@@ -146,7 +149,7 @@ async fn where_there_is_no_room_nothing_is_run() {
 /// Answers of these keys and times.
 fn answers(all: &[(&str, u64)]) -> VecDeque<Answered> {
     let one = |&(key, time): &(&str, u64)| {
-        let Asked { named, asked } = asked("", key, &time.to_string()).expect("it has a key");
+        let Key { named, asked } = asked("", key, &time.to_string()).key.expect("it has a key");
         Answered { time, named, asked, timestamp: time, form: form(&time.to_string()) }
     };
     all.iter().map(one).collect()

@@ -5,6 +5,7 @@ use super::*;
 use crate::api::plan::Plan;
 use crate::api::remembered::{Asked, Begun, Keep};
 use crate::api::run::{run, End, Pace};
+use crate::shares;
 use crate::testing::tidy;
 
 const NAMES: [&str; 2] = ["x", "y"];
@@ -82,7 +83,7 @@ impl Model {
             4..=8 => {
                 let (closed, line) = (life.core.ledger.closed, life.core.line_of(&name.into()));
                 let generation = number_of(&line, "generation").unwrap_or(0);
-                if life.core.store(&name.into(), closed, generation).is_ok() {
+                if life.core.store(&name.into(), closed, generation, &shares::Client::SERVER).is_ok() {
                     life.facts.push_back((life.core.journal.all(), Fact::Stored(name, closed)));
                 }
             }
@@ -165,8 +166,8 @@ fn step_of(
 
 fn begun<'a>(remembered: &'a Remembered, key: &str, body: &str) -> Begun<'a> {
     let runtime = tokio::runtime::Builder::new_current_thread().enable_time().build().expect("a runtime");
-    let asked = Some(Asked::new("", key, &[body.as_bytes()]));
-    runtime.block_on(remembered.begin(asked, Instant::now())).expect("there is room")
+    let asked = Asked::new(&shares::Client::SERVER, "", key, &[body.as_bytes()]);
+    runtime.block_on(remembered.begin(&asked, Instant::now())).expect("there is room")
 }
 
 fn number_of(line: &str, member: &str) -> Option<u64> {
