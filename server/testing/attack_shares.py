@@ -26,8 +26,9 @@ def started_of(answer: str) -> int:
 
 def fill(server: Server, rows: int, size: int) -> None:
     """Rows of so many bytes, written by the other one."""
-    for first in range(0, rows, 1000):
-        puts = "".join("put . k%06d %s\n" % (row, "x" * size) for row in range(first, min(first + 1000, rows)))
+    some = min(1000, 800_000 // size)
+    for first in range(0, rows, some):
+        puts = "".join("put . k%06d %s\n" % (row, "x" * size) for row in range(first, min(first + some, rows)))
         assert "=> committed" in server.ask("POST", "/call", ("begin\n%scommit .\n" % puts).encode(), shown(WRITE))[1]
 
 
@@ -107,7 +108,7 @@ def test_sessions(room: Room, scale: Scale) -> str:
     with with_tokens(room) as (server, _):
         taken: list[Wire] = []
         with contextlib.suppress(Refused):
-            while len(taken) < 62:
+            while len(taken) < 64:
                 taken.append(Session(server.port, READ))
         with all_closed(taken):
             return "%d sessions, %s" % (len(taken), others_are_served(server))
@@ -137,6 +138,22 @@ def test_answers_that_are_not_read(room: Room, scale: Scale) -> str:
         with all_closed(asked(server.port, 70, "/rows?limit=560", READ)):
             time.sleep(1)
             return others_are_served(server)
+
+
+def test_answers_that_are_remembered(room: Room, scale: Scale) -> str:
+    """Long reads with keys, and as many keys of a writer as it gets: others' payments are done, and done once."""
+    with with_tokens(room) as (server, _):
+        fill(server, 1000, 6 * KILOBYTE)
+        read = json.dumps({"then": [{"scan": ["k", "l"], "limit": 1000}]}).encode()
+        for number in range(12):
+            status, _ = server.ask("POST", "/transact", read, {**shown(READ), "Idempotency-Key": "read-%d" % number})
+            assert status == 200, status
+        write = json.dumps({"then": [{"put": "paid", "value": "1"}, {"scan": ["k", "l"], "limit": 600}]}).encode()
+        key = {**shown(WRITE), "Idempotency-Key": "paid"}
+        first, again = (json.loads(server.ask("POST", "/transact", write, key)[1]) for _ in range(2))
+        assert first["timestamp"] == again["timestamp"] and len(first["results"][1]["rows"]) == 600, again
+        assert again["results"] is None and len(again["digest"]) == 64, again
+        return others_are_served(server)
 
 
 TESTS: list[Callable[[Room, Scale], str]] = [one for name, one in list(globals().items()) if name.startswith("test_")]

@@ -137,12 +137,7 @@ fn read_at(core: &mut Core, key: &[u8], at: u64) -> Result<Read, Refusal> {
     Ok(Read { timestamp: at, value, version })
 }
 
-async fn read_by_transaction(
-    server: &Server,
-    client: &Client,
-    key: &[u8],
-    until: Instant,
-) -> Result<Read, Refusal> {
+async fn read_by_transaction(server: &Server, client: &Client, key: &[u8], until: Instant) -> Result<Read, Refusal> {
     let plan = Plan { then: vec![Step::Get { key: Cow::Borrowed(key) }], ..Plan::default() };
     let End::Committed(mut committed) = run_until(server, client, &plan, until, None, None).await? else {
         return Err(Stop::Unexpected.refusal());

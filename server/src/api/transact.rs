@@ -29,6 +29,7 @@ use crate::routes::Server;
 use crate::session::place_of_answer;
 use crate::shares::{Client, Held};
 use serde_json::{json, Value};
+use sha2::{Digest, Sha256};
 use std::io::Write;
 use std::sync::Arc;
 use std::time::Instant;
@@ -155,13 +156,8 @@ impl Drop for Turns<'_, '_> {
 
 fn text_of(committed: &Committed<'_>, spelling: Spelling) -> Vec<u8> {
     let mut out = Vec::with_capacity(100 + 50 * committed.results.len());
-    let branch = match committed.branch {
-        Branch::Then => "then",
-        Branch::Else => "else",
-    };
-    let Committed { timestamp, written, .. } = committed;
-    // Writing to a vector can't fail.
-    let _ = write!(out, "{{\"timestamp\":\"{timestamp}\",\"branch\":\"{branch}\",\"written\":{written},\"results\":[");
+    tell_head(&mut out, committed);
+    out.push(b'[');
     for (at, result) in committed.results.iter().enumerate() {
         if at > 0 {
             out.push(b',');
@@ -178,6 +174,25 @@ fn text_of(committed: &Committed<'_>, spelling: Spelling) -> Vec<u8> {
     }
     out.extend_from_slice(b"]}\n");
     out
+}
+
+/// What is told again of a text that is too long to be remembered: all but its results, and a digest of it.
+pub fn head_of(committed: &Committed<'_>, text: &[u8]) -> Vec<u8> {
+    let mut out = Vec::new();
+    tell_head(&mut out, committed);
+    // Writing to a vector can't fail.
+    let _ = writeln!(out, "null,\"digest\":\"{:x}\"}}", Sha256::digest(text));
+    out
+}
+
+/// All up to the results.
+fn tell_head(out: &mut Vec<u8>, Committed { timestamp, branch, written, .. }: &Committed<'_>) {
+    let branch = match branch {
+        Branch::Then => "then",
+        Branch::Else => "else",
+    };
+    // Writing to a vector can't fail.
+    let _ = write!(out, "{{\"timestamp\":\"{timestamp}\",\"branch\":\"{branch}\",\"written\":{written},\"results\":");
 }
 
 /// Rows as a list.
@@ -310,5 +325,40 @@ mod tests {
         let again = within(long).await.expect("the lane is free");
         assert_eq!(again.map(|answer| (answer.timestamp, answer.is_again)).ok(), Some((2, true)));
         assert_eq!(server.door.run(|core| core.ledger.greatest), 2);
+    }
+
+    /// What a keyed request is told, and whether that was told before.
+    async fn told(server: &Server, key: &str, body: &str) -> (String, bool) {
+        let plan = Plan::of(body.as_bytes()).expect("a plan");
+        let asked = Asked::new(&crate::shares::LOOPBACK, "", key, &[body.as_bytes()]);
+        let form_of = |committed: &Committed<'_>| Form::Text(text_of(committed, Spelling::Text).into());
+        let refused = |failed: Failed<'_>| refusal_of(&failed, Spelling::Text);
+        let answer = answer_once(server, &asked, &plan, Instant::now(), &form_of, refused, None).await;
+        match answer.expect("it commits") {
+            Answer { form: Form::Text(text), is_again, .. } => {
+                (String::from_utf8(text.to_vec()).expect("text"), is_again)
+            }
+            other => panic!("{other:?}"),
+        }
+    }
+
+    #[tokio::test]
+    async fn a_read_is_done_anew_and_of_a_long_answer_a_digest_is_told_again() {
+        let server = server(&[]);
+        let put = r#"{"then":[{"put":"a","value":"VALUE"},{"get":"a"}]}"#;
+        let (short, long) = (put.replace("VALUE", "1"), put.replace("VALUE", &"x".repeat(5000)));
+        let first = told(&server, "short", &short).await;
+        assert_eq!(told(&server, "short", &short).await, (first.0, true));
+        let (text, is_again) = told(&server, "long", &long).await;
+        assert!(text.len() > 5000 && !is_again);
+        let digest = format!("{:x}", Sha256::digest(&text));
+        let head = format!(
+            "{{\"timestamp\":\"2\",\"branch\":\"then\",\"written\":1,\"results\":null,\"digest\":\"{digest}\"}}\n"
+        );
+        assert_eq!(told(&server, "long", &long).await, (head, true));
+        let read = r#"{"then":[{"get":"a"}]}"#;
+        let count = server.remembered.count();
+        assert!(!told(&server, "read", read).await.1 && !told(&server, "read", read).await.1);
+        assert_eq!(server.remembered.count(), count);
     }
 }

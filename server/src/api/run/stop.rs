@@ -20,6 +20,8 @@ pub enum Stop {
     /// Unread answers leave no room for a long one.
     Crowded,
     Draining,
+    /// There is no room to remember its answer.
+    NotRemembered(Refusal),
     TooMuch,
     ReplyTooLong,
     /// It is longer than it may be: nothing was changed, and it is run anew in turns.
@@ -55,6 +57,7 @@ impl Stop {
             }
             Stop::Crowded => Refusal::crowded(),
             Stop::Draining => Refusal::busy("draining", "the server is about to end"),
+            Stop::NotRemembered(refusal) => refusal,
             Stop::TooMuch => Refusal::new(
                 422,
                 "toomuch",

@@ -55,8 +55,6 @@ async fn a_repeat_behind_a_crash_has_its_answer() {
     for number in 0..4 {
         told.push(ask(&mut core, &remembered, &format!("key{number}"), &raise(number)).await.1);
     }
-    // One that has written nothing, and one without an answer of its own length.
-    told.push(ask(&mut core, &remembered, "reads", r#"{"then":[{"get":"k0"}]}"#).await.1);
     sync(&core);
     for _ in 0..2 {
         let (mut after, remembered) = keyed_in(&crashed(&place));
@@ -65,7 +63,6 @@ async fn a_repeat_behind_a_crash_has_its_answer() {
             let again = ask(&mut after, &remembered, &format!("key{number}"), &raise(number)).await;
             assert_eq!(again, (false, told.clone()));
         }
-        assert_eq!(ask(&mut after, &remembered, "reads", r#"{"then":[{"get":"k0"}]}"#).await, (false, told[4].clone()));
         assert_eq!((count(&mut after), after.shouts), (rows, 0));
         let other = Asked::new(&shares::Client::SERVER, "", "key1", &[b"other"]);
         assert!(remembered.begin(&other, Instant::now()).await.is_err());

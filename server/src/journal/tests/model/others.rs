@@ -4,7 +4,7 @@ use super::super::keys::form_of;
 use super::*;
 use crate::api::plan::Plan;
 use crate::api::remembered::{Asked, Begun, Keep};
-use crate::api::run::{run, End, Pace};
+use crate::api::run::{run, Committed, End, Pace};
 use crate::shares;
 use crate::testing::tidy;
 
@@ -51,12 +51,12 @@ impl Model {
                 let ended =
                     run(&mut life.core, &plan, Pace::Whole, Some(&Keep { running: &running, form_of: &form_of }));
                 drop(running);
-                if let Ok(End::Committed(committed)) = ended {
+                // What has written nothing is done anew.
+                if let Ok(End::Committed(Committed { timestamp, form: Some(form), .. })) = ended {
                     if let Some(last) = done.last() {
-                        return Err(format!("{key} was done at {}, and at {}", last.timestamp, committed.timestamp));
+                        return Err(format!("{key} was done at {}, and at {timestamp}", last.timestamp));
                     }
-                    let (timestamp, rests) = (committed.timestamp, life.core.journal.all());
-                    done.push(Done { timestamp, form: committed.form.expect("it has a key"), rests });
+                    done.push(Done { timestamp, form, rests: life.core.journal.all() });
                 }
                 let events = before..life.core.transcript.next();
                 life.answers.push_back(Untold { events, rests: life.core.journal.all() });
