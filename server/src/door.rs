@@ -24,6 +24,7 @@
 //! ```text
 //! door.run(|core| core.ledger.closed)                       a short look
 //! door.turns(client, |core, until, _| ..).await             work that can be cut: 5 ms, and again
+//! door.turns_aside(|core, until| ..).await                  the same of the server's own, which waits for no lane
 //! door.turn_of(Length::Long, client, |core, _| ..).await    work that can't: in the lane
 //! door.turns_in_lane(client, |core, _| ..).await            work of many turns, beside which no other long work goes on
 //! ```
@@ -202,14 +203,11 @@ impl Door {
         self.lane.take(&crate::shares::LOOPBACK).await
     }
 
-    /// Waits for the lane, and until it has rested. The server itself does neither.
-    async fn lane(&self, client: &Client) -> Option<InLane<'_>> {
-        if *client == Client::SERVER {
-            return None;
-        }
+    /// Waits for the lane, and until it has rested.
+    async fn lane(&self, client: &Client) -> InLane<'_> {
         let lane = self.lane.take(client).await;
         self.rested().await;
-        Some(lane)
+        lane
     }
 
     /// Waits until the lane has rested.
@@ -234,6 +232,13 @@ impl Door {
             }
             (result, if over > MUCH { Length::Long } else { Length::Short })
         })
+    }
+
+    /// The server's own work in turns, to its end.
+    pub async fn turns_aside(&self, mut work: impl FnMut(&mut Core, Instant) -> Turn) {
+        while aside(|| self.turn(&mut work)) != Turn::Done {
+            tokio::task::yield_now().await;
+        }
     }
 
     /// Work in turns, to its end. It is told how long its next call may be.
@@ -288,6 +293,7 @@ fn aside<R>(work: impl FnOnce() -> R) -> R {
 #[cfg(test)]
 mod tests {
     use super::*;
+    use crate::gate::Who;
     use crate::shares::LOOPBACK;
     use crate::testing::{server, waits};
     use std::future::Future;
@@ -422,6 +428,25 @@ mod tests {
         let all = async { tokio::join!(behind, given_back) };
         tokio::time::timeout(Duration::from_secs(60), all).await.expect("who went away isn't waited for");
         assert_eq!(*order.lock(), [1, 2, 3]);
+    }
+
+    #[tokio::test(start_paused = true)]
+    async fn who_has_much_long_work_is_waited_for_once() {
+        let server = server(&[]);
+        let (door, order) = (&server.door, Mutex::new(Vec::new()));
+        let [taker, other] = [1, 2].map(|last| Client::new([192, 0, 2, last].into(), &Who::anyone()));
+        let long = |client, name| {
+            let order = &order;
+            async move { door.turn_of(Length::Long, client, |_, _| order.lock().push(name)).await }
+        };
+        let first = door.lane(&taker).await;
+        let takers = async { tokio::join!(long(&taker, 1), long(&taker, 2), long(&taker, 3)) };
+        let given_back = async { drop(first) };
+        tokio::join!(takers, long(&other, 9), given_back);
+        assert_eq!(*order.lock(), [9, 1, 2, 3]);
+        // Who has none takes no memory.
+        drop(door.lane(&other).await);
+        assert_eq!(door.lane.of.lock().len(), 1);
     }
 
     #[tokio::test]

@@ -25,7 +25,7 @@ use crate::reserve::{max_memory, reserve};
 use crate::routes::Server;
 use crate::seats::SEATS;
 use crate::session;
-use crate::shares::{Client, Table};
+use crate::shares::Table;
 use crate::streams::Streams;
 use crate::tasks::Tasks;
 use crate::tls::{self, Acceptor};
@@ -358,7 +358,7 @@ async fn each_second(server: Arc<Server>) {
 
 async fn end(server: &Arc<Server>) {
     drain(server).await;
-    server.door.turns(&Client::SERVER, |core, until, _| stop_feeds(core, until)).await;
+    server.door.turns_aside(stop_feeds).await;
     server.is_ending.send_replace(true);
     let _ = timeout(END, server.tasks.all_ended()).await;
     let last = server.door.run(|core| core.journal.end(core.ledger.greatest.max(core.ledger.closed)));

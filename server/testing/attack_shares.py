@@ -6,13 +6,14 @@ Each function is a test. It gets a room, and how heavy the load is to be.
 
 import contextlib
 import json
+import threading
 import time
 from collections.abc import Callable, Iterator
 
 from attack_beside import Scale
 from attack_tokens import OPERATE, READ, WRITE, shown, with_tokens
 from handmade import Refused, Session, Wire, bearer
-from machine import Room, Server
+from machine import Room, Server, wait_for
 
 SECONDS = 3.0  # how long the other one asks beside the taker
 SOON = 5.0  # seconds within which a feed is told, on a machine that is busy with much else
@@ -154,6 +155,36 @@ def test_answers_that_are_remembered(room: Room, scale: Scale) -> str:
         assert first["timestamp"] == again["timestamp"] and len(first["results"][1]["rows"]) == 600, again
         assert again["results"] is None and len(again["digest"]) == 64, again
         return others_are_served(server)
+
+
+def test_long_reads(room: Room, scale: Scale) -> str:
+    """Each waits for the lane. Others' long reads wait for one of them, and closing and ages for none."""
+    with with_tokens(room, "--max-age", "3") as (server, _):
+        fill(server, 30_000, 10)
+        read = json.dumps({"then": [{"scan": ["k", "l"], "limit": 10000}] * 3}).encode()
+        over = threading.Event()
+
+        def reads() -> None:
+            while not over.is_set():
+                server.ask("POST", "/transact", read, shown(READ))
+
+        threads = [threading.Thread(target=reads) for _ in range(62)]
+        for one in threads:
+            one.start()
+        try:
+            told, waited = others_are_served(server), max(told_of_feed(server, WRITE) for _ in range(3))
+            assert waited < SOON, "a feed was told behind %.1f s" % waited
+            with contextlib.closing(Session(server.port, WRITE)) as session:
+                session.call("begin\n")
+                began = time.monotonic()
+                wait_for(lambda: all(one["seat"] == 63 for one in server.holders("transaction")), "its age")
+                age = time.monotonic() - began
+            assert age < 3 + SOON, "a transaction was aborted behind %.1f s" % age
+            return "%s, then %.0f ms, an abort behind %.1f s" % (told, 1000 * waited, age)
+        finally:
+            over.set()
+            for one in threads:
+                one.join()
 
 
 TESTS: list[Callable[[Room, Scale], str]] = [one for name, one in list(globals().items()) if name.startswith("test_")]
