@@ -36,7 +36,8 @@ type Result struct {
 	More bool  `json:"more"`
 }
 
-// Done is a transaction that committed. Branch is "then" or "else".
+// Done is a transaction that committed. Branch is "then" or "else". Results is nil where it wrote, and its answer had
+// more than 4096 bytes and was lost: read anew.
 type Done struct {
 	Timestamp Timestamp
 	Branch    string

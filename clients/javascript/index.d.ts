@@ -28,6 +28,7 @@ export interface Done {
   timestamp: Timestamp;
   branch: "then" | "else";
   written: number;
+  /** null itself where it wrote, and its answer had more than 4096 bytes and was lost: read anew. */
   results: (null | Row | Rows)[];
 }
 

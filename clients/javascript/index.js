@@ -73,7 +73,7 @@ export class Client {
     const body = JSON.stringify({ ...(conditions && conditions.length !== 0 && { if: conditions }), then, ...(otherwise && { else: otherwise }) });
     const headers = { "Idempotency-Key": keyOfWrite(), "Content-Type": "application/json" };
     const told = (await this._call("POST", "/transact", body, headers)).json();
-    return { timestamp: told.timestamp, branch: told.branch, written: told.written, results: told.results.map(resultOf) };
+    return { timestamp: told.timestamp, branch: told.branch, written: told.written, results: told.results && told.results.map(resultOf) };
   }
 
   async transact(work) {

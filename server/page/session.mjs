@@ -2,7 +2,7 @@
 
 import { textOf } from "./live.mjs";
 
-const SEATS = 64;
+const SHARE = 48; // of 64 seats: one client has no more
 const IDLE = 5; // seconds of silence after which the server aborts what is undecided: nobody is to wait for a page
 
 export class Session {
@@ -65,7 +65,7 @@ export class Session {
 async function refusal() {
   try {
     const { sessions } = JSON.parse((await textOf("/holders")).split("\n")[0]);
-    if (sessions >= SEATS) return "seats: all 64 seats are taken. End a session, or try again once one has ended.";
+    if (sessions >= SHARE) return "seats: no seat is left for this client. End a session, or try again once one has ended.";
     return "no session: the server refuses one.";
   } catch {
     return "no session: the server doesn't answer.";

@@ -99,8 +99,11 @@ class Ours(Loaded):
     kinds = {"requests": "call", "transactions": "transact", "keyed": "keyed", "messages": "session", "lines": "lines"}
 
     def __init__(self, *options: str, environment: dict[str, str] | None = None):
-        port = free_port()
-        command = [os.environ.get("SERVER") or str(SERVER / "run"), "--port", str(port), *options]
+        port, tokens = free_port(), LOAD.with_name("tokens")
+        # One client doesn't get all seats.
+        line = "load{0} read,write,operate - - load-{0}-0123456789abcdef\n"
+        tokens.write_text("".join(line.format(one) for one in (0, 1)))
+        command = [os.environ.get("SERVER") or str(SERVER / "run"), "--port", str(port), "--tokens", str(tokens), *options]
         super().__init__(command, port, environment)
 
 

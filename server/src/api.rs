@@ -33,7 +33,7 @@ use crate::journal::{Answered, Form, Ticket};
 use crate::query::Arguments;
 use crate::refusal::Refusal;
 use crate::routes::Server;
-use crate::session::{self, Place};
+use crate::session::Place;
 use ::bytes::Bytes;
 use std::time::Duration;
 
@@ -107,12 +107,6 @@ async fn body_of(server: &Server, request: &mut Request, most: usize) -> Result<
         None | Some(b"identity") => Ok(body),
         Some(_) => Err(Refusal::new(415, "encoding", "a body is taken as it is, and isn't decoded")),
     }
-}
-
-/// A place of an answer that may be long, so that slow readers don't fill the memory.
-fn place_of_answer(server: &Server, request: &Request) -> Result<Place, Refusal> {
-    let busy = |_| Refusal::busy("answers", "as many long answers wait for their readers as may");
-    session::place_of_answer(server, &request.who, &request.connection).map_err(busy)
 }
 
 /// How bytes are told.

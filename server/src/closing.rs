@@ -19,7 +19,7 @@
 //! metrics.
 
 use crate::core::Core;
-use crate::door::{Door, Length, Turn};
+use crate::door::{Door, Turn};
 use crate::growth::Grown;
 use crate::lag::Amount;
 use crate::ledger::Reason;
@@ -56,8 +56,6 @@ pub struct Closing {
     waits: Option<(u64, Instant)>,
     /// As far as collections may go by now.
     aim: u64,
-    /// How long a call of the work of each second may be. Who has the lock sets it.
-    length: Length,
 }
 
 /// What has to be told once the lock is given back.
@@ -83,7 +81,6 @@ impl Closing {
             is_told: false,
             waits: None,
             aim: 0,
-            length: Length::Long,
         }
     }
 
@@ -168,9 +165,6 @@ impl Core {
         let most = self.most_age();
         while let Some((since, ts)) = self.ledger.eldest().filter(|(since, _)| since.elapsed() > most) {
             let Some(transaction) = self.ledger.undecided.get(&ts) else { break };
-            if self.waits_for_the_lane(ts) {
-                return Turn::Long;
-            }
             self.abort("old_transaction", transaction.owner, ts);
             if self.ledger.eldest() == Some((since, ts)) {
                 break; // for want of memory: again in a second
@@ -201,9 +195,6 @@ impl Core {
 
     fn abort_idle(&mut self, until: Instant) -> Turn {
         while let Some((seat, ts)) = self.seats.idle() {
-            if self.waits_for_the_lane(ts) {
-                return Turn::Long;
-            }
             self.abort("idle_transaction", Owner::Seat(seat), ts);
             if self.ledger.undecided.contains_key(&ts) {
                 break; // for want of memory: again in a second
@@ -213,11 +204,6 @@ impl Core {
             }
         }
         Turn::Done
-    }
-
-    /// Whether the abort of a transaction is longer than it may be.
-    fn waits_for_the_lane(&self, ts: u64) -> bool {
-        self.closing.length == Length::Short && self.ledger.takes_long_to_decide(ts)
     }
 
     fn abort(&mut self, why: &'static str, owner: Owner, ts: u64) {
@@ -377,11 +363,7 @@ pub async fn tidy(door: &Door, resident: Option<u64>) {
         door.run(|core| core.watch_memory(resident));
     }
     for step in STEPS {
-        let turn = |core: &mut Core, until, length| {
-            core.closing.length = length;
-            step(core, until)
-        };
-        door.turns(turn).await;
+        door.turns_aside(step).await;
     }
     door.ring();
 }

@@ -15,13 +15,16 @@
 //!
 //! 1. At most `most` have a place, each from `come` until it is cut, or until its last `Arc` is dropped.
 //! 2. One that is worked for, streams a feed or has a session is never cut to make room. See `silences` for the others.
-//! 3. To make room, to become busy and to become silent cost O(log n).
+//! 3. Those of one client that are busy have their share: a request beyond it is refused. So some are silent always,
+//!    unless several clients are busy, and a new one finds room.
+//! 4. To make room, to become busy and to become silent cost O(log n).
 
 mod silences;
 mod watched;
 
+use crate::refusal::Refusal;
+use crate::shares::{network_of, Client, Held, Table as Shared};
 use parking_lot::Mutex;
-pub use silences::network_of;
 use silences::Silences;
 use std::collections::{BTreeSet, HashMap};
 use std::net::{IpAddr, SocketAddr};
@@ -38,6 +41,8 @@ pub struct Connections {
     most: usize,
     patience: Duration,
     table: Mutex<Table>,
+    /// Those that are busy.
+    busy: Arc<Shared>,
     /// Bytes that all connections together have read and written.
     read: AtomicU64,
     written: AtomicU64,
@@ -56,15 +61,17 @@ struct Table {
 struct Entry {
     connection: Weak<Connection>,
     network: IpAddr,
-    /// Requests that are not answered yet.
+    /// Requests that are not answered yet, and what they count for.
     busy: usize,
+    held: Option<Held>,
     silence: Option<(u64, Instant)>,
 }
 
 impl Connections {
     pub fn new(most: usize, patience: Duration) -> Arc<Connections> {
         let (read, written) = (AtomicU64::new(0), AtomicU64::new(0));
-        Arc::new(Connections { most, patience, table: Mutex::default(), read, written })
+        let busy = Shared::of_places(most, "connections", "connections with a request that isn't answered");
+        Arc::new(Connections { most, patience, table: Mutex::default(), busy, read, written })
     }
 
     /// A new connection that may be served, or `None` where there are too many and none makes room.
@@ -112,7 +119,7 @@ fn cut_all(connections: impl IntoIterator<Item = Weak<Connection>>) {
 impl Table {
     fn add(&mut self, number: u64, connection: &Arc<Connection>) {
         let network = network_of(connection.peer.ip());
-        let entry = Entry { connection: Arc::downgrade(connection), network, busy: 0, silence: None };
+        let entry = Entry { connection: Arc::downgrade(connection), network, busy: 0, held: None, silence: None };
         self.open.insert(number, entry);
         self.silent.come(network);
         self.rests(number, HEAD);
@@ -195,14 +202,17 @@ impl Connection {
         Connection { peer, number, all, is_cut, is_exempt, cut: Notify::new() }
     }
 
-    /// A request has passed the gate.
-    pub fn asks(self: &Arc<Connection>) -> Busy {
+    /// A request of a client has passed the gate. Where it is refused the connection stays silent.
+    pub fn asks(self: &Arc<Connection>, client: &Client) -> Result<Busy, Refusal> {
         let mut table = self.all.table.lock();
-        table.speaks(self.number);
         if let Some(entry) = table.open.get_mut(&self.number) {
+            if entry.busy == 0 {
+                entry.held = Some(self.all.busy.take(client)?);
+            }
             entry.busy += 1;
         }
-        Busy(self.clone())
+        table.speaks(self.number);
+        Ok(Busy(self.clone()))
     }
 
     /// It waits for a body, from the first byte to the last one.
@@ -268,6 +278,7 @@ impl Drop for Busy {
         let Some(entry) = table.open.get_mut(&self.0.number) else { return };
         entry.busy -= 1;
         if entry.busy == 0 {
+            entry.held = None;
             self.0.is_exempt.store(false, Ordering::Release);
             table.rests(self.0.number, REST);
         }

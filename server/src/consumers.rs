@@ -31,7 +31,7 @@ pub async fn get(server: &Arc<Server>, request: Request) -> Result<Response, Ref
     let name = name_of_path(&request)?;
     let given = arguments(&request.path, &request.query, &["identity"])?;
     server.door.run(|core| {
-        core.names.check_room(&name)?;
+        core.names.check_room(&name, &request.client)?;
         core.check_identity(&given, false)?;
         Ok(json::lines(core.line_of(&name)))
     })
@@ -41,9 +41,9 @@ pub async fn post(server: &Arc<Server>, request: Request) -> Result<Response, Re
     let name = name_of_path(&request)?;
     let given = arguments(&request.path, &request.query, &["identity", "stored", "generation"])?;
     server.door.run(|core| {
-        core.names.check_room(&name)?;
+        core.names.check_room(&name, &request.client)?;
         core.check_identity(&given, true)?;
-        core.store(&name, needed(&given, "stored")?, needed(&given, "generation")?)?;
+        core.store(&name, needed(&given, "stored")?, needed(&given, "generation")?, &request.client)?;
         core.give_name(&name, &request.who);
         Ok(json::lines(core.line_of(&name)))
     })

@@ -7,33 +7,39 @@
 //! 2. When the lock is given back, closing was done where it is due, or its time is known to `due`.
 //! 3. How full memory is was looked at soon after the last rows were written.
 //! 4. `moved` changes after the lock was given back, so who is woken finds it free.
-//! 5. Work that may hold the lock for longer than a turn goes one at a time, in the order in which it came: who has such
-//!    work takes the lane for it before it waits for the lock. So who comes with short work waits for one such at most.
-//!    A transaction that is read in turns keeps the lane between them: so one is undecided meanwhile.
+//! 5. Work that may hold the lock for longer than a turn goes one at a time: who has such work takes the lane for it
+//!    before it waits for the lock. So who comes with short work waits for one such at most. A transaction that is read
+//!    in turns keeps the lane between them: so one is undecided meanwhile.
 //! 6. Behind work that took too long while others waited, the lane rests. So long work leaves two thirds of the time
 //!    to others, however much of it there is.
 //! 7. Who works in the lane holds up its own thread alone. A thread of the runtime looks after the sockets of all
 //!    others too, so it hands that on before.
 //! 8. No one has the lane who waits for anything but a turn, the lane's rest and the lock. Who goes away gives it back.
+//! 9. One of each client's waits for the lane, in the order in which they came, and its others wait for that one. So who
+//!    comes waits for one of each other client at most. The server's own work doesn't wait for it at all.
 //!
 //! What is long is known before, by its size, or shows itself within the time of a short one, and then begins anew in the
 //! lane. What isn't found out so is known behind it: who overran its turn takes the lane for the next one.
 //!
 //! ```text
 //! door.run(|core| core.ledger.closed)                       a short look
-//! door.turns(|core, until, _| ..).await                     work that can be cut: 5 ms, and again
-//! door.turn_of(Length::Long, |core, _| ..).await            work that can't: in the lane
-//! door.turns_in_lane(|core, _| plan.turn(core)).await       work of many turns, beside which no other long work goes on
+//! door.turns(client, |core, until, _| ..).await             work that can be cut: 5 ms, and again
+//! door.turns_aside(|core, until| ..).await                  the same of the server's own, which waits for no lane
+//! door.turn_of(Length::Long, client, |core, _| ..).await    work that can't: in the lane
+//! door.turns_in_lane(client, |core, _| ..).await            work of many turns, beside which no other long work goes on
 //! ```
 
 use crate::core::Core;
 use crate::journal::{Durable, Ticket};
 use crate::process;
+use crate::shares::Client;
 use parking_lot::{Mutex, MutexGuard};
+use std::collections::HashMap;
 use std::sync::atomic::{AtomicUsize, Ordering::Relaxed};
+use std::sync::Arc;
 use std::time::{Duration, Instant};
 use tokio::runtime::{Handle, RuntimeFlavor};
-use tokio::sync::{watch, Notify, Semaphore, SemaphorePermit};
+use tokio::sync::{watch, Notify, OwnedSemaphorePermit, Semaphore, SemaphorePermit};
 use tokio::task::block_in_place;
 use tokio::time::sleep;
 
@@ -78,12 +84,37 @@ impl Turn {
     }
 }
 
+/// Where long work goes one at a time.
+struct Lane {
+    /// Who has its permit has the lane. It is fair.
+    one: Semaphore,
+    /// Of each client that has the lane or waits for it, who has its permit.
+    of: Mutex<HashMap<Client, Arc<Semaphore>>>,
+}
+
+/// The lane, and the place of its client.
+pub struct InLane<'a> {
+    _one: SemaphorePermit<'a>,
+    _own: OwnedSemaphorePermit,
+}
+
+impl Lane {
+    async fn take(&self, client: &Client) -> InLane<'_> {
+        let own = {
+            let mut of = self.of.lock();
+            of.retain(|_, own| Arc::strong_count(own) > 1);
+            of.entry(client.clone()).or_insert_with(|| Arc::new(Semaphore::new(1))).clone()
+        };
+        let _own = own.acquire_owned().await.expect("it is never closed");
+        InLane { _one: self.one.acquire().await.expect("it is never closed"), _own }
+    }
+}
+
 pub struct Door {
     core: Mutex<Core>,
     /// How many wait for the lock.
     waiting: AtomicUsize,
-    /// Who has its permit has the lane. It is fair.
-    lane: Semaphore,
+    lane: Lane,
     /// Until when the lane rests.
     rests: Mutex<Instant>,
     durable: Durable,
@@ -95,7 +126,8 @@ impl Door {
     pub fn new(core: Core) -> Door {
         let durable = core.journal.durable();
         let (waiting, moved) = (AtomicUsize::new(0), watch::channel(0).0);
-        let (lane, rests) = (Semaphore::new(1), Mutex::new(Instant::now()));
+        let lane = Lane { one: Semaphore::new(1), of: Mutex::default() };
+        let rests = Mutex::new(Instant::now());
         Door { core: Mutex::new(core), waiting, lane, rests, durable, moved, due: Notify::new() }
     }
 
@@ -136,11 +168,16 @@ impl Door {
     }
 
     /// The same of work that may be so long: in the lane, where it may be long. And how long it was.
-    pub async fn turn_of<R>(&self, length: Length, work: impl FnOnce(&mut Core, Instant) -> R) -> (R, Length) {
+    pub async fn turn_of<R>(
+        &self,
+        length: Length,
+        client: &Client,
+        work: impl FnOnce(&mut Core, Instant) -> R,
+    ) -> (R, Length) {
         match length {
             Length::Short => self.measured(TURN, work),
             Length::Long => {
-                let _lane = self.lane().await;
+                let _lane = self.lane(client).await;
                 aside(|| self.measured(TURN, work))
             }
         }
@@ -149,8 +186,8 @@ impl Door {
     /// Work in turns, which keeps the lane from its first turn to its last one: that gives something. So other long work
     /// waits for all of it, and short work for one turn. The lane rests behind each of them, because together they are
     /// long.
-    pub async fn turns_in_lane<R>(&self, mut work: impl FnMut(&mut Core, Instant) -> Option<R>) -> R {
-        let _lane = self.lane().await;
+    pub async fn turns_in_lane<R>(&self, client: &Client, mut work: impl FnMut(&mut Core, Instant) -> Option<R>) -> R {
+        let _lane = self.lane(client).await;
         loop {
             if let (Some(result), _) = aside(|| self.measured(Duration::ZERO, &mut work)) {
                 return result;
@@ -162,13 +199,13 @@ impl Door {
 
     /// Keeps the lane, as long work does.
     #[cfg(test)]
-    pub async fn keep_lane(&self) -> SemaphorePermit<'_> {
-        self.lane().await
+    pub async fn keep_lane(&self) -> InLane<'_> {
+        self.lane.take(&crate::shares::LOOPBACK).await
     }
 
     /// Waits for the lane, and until it has rested.
-    async fn lane(&self) -> SemaphorePermit<'_> {
-        let lane = self.lane.acquire().await.expect("it is never closed");
+    async fn lane(&self, client: &Client) -> InLane<'_> {
+        let lane = self.lane.take(client).await;
         self.rested().await;
         lane
     }
@@ -197,11 +234,18 @@ impl Door {
         })
     }
 
+    /// The server's own work in turns, to its end.
+    pub async fn turns_aside(&self, mut work: impl FnMut(&mut Core, Instant) -> Turn) {
+        while aside(|| self.turn(&mut work)) != Turn::Done {
+            tokio::task::yield_now().await;
+        }
+    }
+
     /// Work in turns, to its end. It is told how long its next call may be.
-    pub async fn turns(&self, mut work: impl FnMut(&mut Core, Instant, Length) -> Turn) {
+    pub async fn turns(&self, client: &Client, mut work: impl FnMut(&mut Core, Instant, Length) -> Turn) {
         let mut length = Length::Short;
         loop {
-            let (turn, was) = self.turn_of(length, |core, until| work(core, until, length)).await;
+            let (turn, was) = self.turn_of(length, client, |core, until| work(core, until, length)).await;
             length = if turn == Turn::Long { Length::Long } else { was };
             match turn {
                 Turn::Done => return,
@@ -249,10 +293,11 @@ fn aside<R>(work: impl FnOnce() -> R) -> R {
 #[cfg(test)]
 mod tests {
     use super::*;
+    use crate::gate::Who;
+    use crate::shares::LOOPBACK;
     use crate::testing::{server, waits};
     use std::future::Future;
     use std::sync::atomic::{AtomicBool, Ordering::SeqCst};
-    use std::sync::Arc;
     use std::thread::{self, sleep, yield_now};
 
     const LONG: Duration = Duration::from_millis(45);
@@ -281,14 +326,14 @@ mod tests {
         let (door, has_begun, all_wait) = (&server.door, AtomicBool::new(false), AtomicBool::new(false));
         let others = || async {
             wait_until(|| has_begun.load(SeqCst));
-            let long = || door.turn_of(Length::Long, |_, _| {});
+            let long = || door.turn_of(Length::Long, &LOOPBACK, |_, _| {});
             // Each has asked for the lane when the last one is asked.
             let last = async { all_wait.store(true, SeqCst) };
             tokio::join!(long(), long(), long(), long(), long(), long(), long(), last);
         };
         let waiting = thread::scope(|scope| {
             let first = scope.spawn(|| {
-                let first = door.turn_of(Length::Long, |_, _| {
+                let first = door.turn_of(Length::Long, &LOOPBACK, |_, _| {
                     has_begun.store(true, SeqCst);
                     wait_until(|| all_wait.load(SeqCst) && door.waiting.load(Relaxed) > 0);
                     door.waiting.load(Relaxed)
@@ -301,21 +346,21 @@ mod tests {
             first.join().expect("it doesn't panic")
         });
         // No one but the short work waited for the lock.
-        assert_eq!((waiting, door.waiting.load(Relaxed), door.lane.available_permits()), (1, 0, 1));
+        assert_eq!((waiting, door.waiting.load(Relaxed), door.lane.one.available_permits()), (1, 0, 1));
     }
 
     #[test]
     fn the_lane_rests_behind_work_that_was_too_long_while_others_waited() {
         let server = server(&[]);
         let door = &server.door;
-        let next = || run(door.turn_of(Length::Long, |_, _| Instant::now())).0;
+        let next = || run(door.turn_of(Length::Long, &LOOPBACK, |_, _| Instant::now())).0;
         let rests = || *door.rests.lock();
-        let (before, (_, was)) = (rests(), run(door.turn_of(Length::Long, |_, _| sleep(LONG))));
+        let (before, (_, was)) = (rests(), run(door.turn_of(Length::Long, &LOOPBACK, |_, _| sleep(LONG))));
         assert_eq!((rests(), was), (before, Length::Long));
         // Also where it didn't have the lane.
         for length in [Length::Long, Length::Short] {
             thread::scope(|scope| {
-                let (end, was) = run(door.turn_of(length, |_, _| {
+                let (end, was) = run(door.turn_of(length, &LOOPBACK, |_, _| {
                     scope.spawn(|| door.run(|_| {}));
                     while_one_waits(door)
                 }));
@@ -330,7 +375,7 @@ mod tests {
         let door = &server.door;
         let mut ends = Vec::new();
         thread::scope(|scope| {
-            run(door.turns_in_lane(|_, _| {
+            run(door.turns_in_lane(&LOOPBACK, |_, _| {
                 let begun = Instant::now();
                 if let Some(&end) = ends.last() {
                     assert!(begun >= end + TURN / 2 * REST);
@@ -360,7 +405,7 @@ mod tests {
                     }
                 })
             };
-            server.door.turn_of(Length::Long, wait_for_another).await.0
+            server.door.turn_of(Length::Long, &LOOPBACK, wait_for_another).await.0
         });
         assert!(one.block_on(long).expect("it doesn't panic"));
     }
@@ -371,9 +416,9 @@ mod tests {
         let (door, order) = (&server.door, Mutex::new(Vec::new()));
         let long = |name: u8| {
             let order = &order;
-            async move { door.turn_of(Length::Long, |_, _| order.lock().push(name)).await }
+            async move { door.turn_of(Length::Long, &LOOPBACK, |_, _| order.lock().push(name)).await }
         };
-        let (first, mut goes) = (door.lane().await, Box::pin(door.lane()));
+        let (first, mut goes) = (door.lane(&LOOPBACK).await, Box::pin(door.lane(&LOOPBACK)));
         assert!(waits(goes.as_mut()).await);
         let behind = async { tokio::join!(long(1), long(2), long(3)) };
         let given_back = async {
@@ -385,28 +430,47 @@ mod tests {
         assert_eq!(*order.lock(), [1, 2, 3]);
     }
 
+    #[tokio::test(start_paused = true)]
+    async fn who_has_much_long_work_is_waited_for_once() {
+        let server = server(&[]);
+        let (door, order) = (&server.door, Mutex::new(Vec::new()));
+        let [taker, other] = [1, 2].map(|last| Client::new([192, 0, 2, last].into(), &Who::anyone()));
+        let long = |client, name| {
+            let order = &order;
+            async move { door.turn_of(Length::Long, client, |_, _| order.lock().push(name)).await }
+        };
+        let first = door.lane(&taker).await;
+        let takers = async { tokio::join!(long(&taker, 1), long(&taker, 2), long(&taker, 3)) };
+        let given_back = async { drop(first) };
+        tokio::join!(takers, long(&other, 9), given_back);
+        assert_eq!(*order.lock(), [9, 1, 2, 3]);
+        // Who has none takes no memory.
+        drop(door.lane(&other).await);
+        assert_eq!(door.lane.of.lock().len(), 1);
+    }
+
     #[tokio::test]
     async fn between_two_turns_in_the_lane_short_work_is_done_and_long_work_waits() {
         let server = server(&[]);
         let (door, order, mut turns) = (&server.door, Mutex::new(Vec::new()), 0);
-        let first = door.turns_in_lane(|_, _| {
+        let first = door.turns_in_lane(&LOOPBACK, |_, _| {
             order.lock().push("turn");
             turns += 1;
             (turns == 3).then_some(turns)
         });
-        let long = door.turn_of(Length::Long, |_, _| order.lock().push("long"));
+        let long = door.turn_of(Length::Long, &LOOPBACK, |_, _| order.lock().push("long"));
         let short = async { door.run(|_| order.lock().push("short")) };
         assert_eq!(tokio::join!(first, long, short).0, 3);
         assert_eq!(*order.lock(), ["turn", "short", "turn", "turn", "long"]);
-        assert_eq!(door.lane.available_permits(), 1);
+        assert_eq!(door.lane.one.available_permits(), 1);
     }
 
     #[tokio::test]
     async fn work_in_turns_takes_the_lane_where_it_asks_for_that() {
         let server = server(&[]);
         let (door, mut had) = (&server.door, Vec::new());
-        door.turns(|_, _, length| {
-            had.push((length, door.lane.available_permits()));
+        door.turns(&LOOPBACK, |_, _, length| {
+            had.push((length, door.lane.one.available_permits()));
             if length == Length::Short {
                 Turn::Long
             } else {
@@ -421,8 +485,8 @@ mod tests {
     async fn work_in_turns_takes_the_lane_behind_a_turn_that_was_long() {
         let server = server(&[]);
         let (door, mut had) = (&server.door, Vec::new());
-        door.turns(|_, _, _| {
-            had.push(door.lane.available_permits() == 0);
+        door.turns(&LOOPBACK, |_, _, _| {
+            had.push(door.lane.one.available_permits() == 0);
             if had.len() == 1 {
                 sleep(LONG);
             }

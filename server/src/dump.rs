@@ -5,7 +5,6 @@
 //! that it is whole. A protection holds the horizon meanwhile, so one that is read too slowly is cut as streams are. What
 //! waits for its reader counts as a report does.
 
-use crate::budget::Held;
 use crate::core::Core;
 use crate::http::{Request, Response, Sender};
 use crate::journal::copy::{Broken, Copy, Next};
@@ -13,6 +12,7 @@ use crate::journal::DUMP;
 use crate::query::arguments;
 use crate::refusal::Refusal;
 use crate::routes::Server;
+use crate::shares::Held;
 use crate::streams::Place;
 use std::sync::Arc;
 
@@ -24,9 +24,9 @@ pub async fn dump(server: &Arc<Server>, request: Request) -> Result<Response, Re
     if !request.who.keys().is_all() {
         return Err(Refusal::other_keys());
     }
-    let mut held = server.reports.begin(request.connection.peer.ip());
+    let mut held = server.reports.begin(&request.client);
     held.grow(BYTES)?;
-    let place = Place::take(server)?;
+    let place = Place::take(server, &request.client)?;
     let begin = |core: &mut Core| (Copy::begin(core, DUMP, core.ledger.closed), core.ledger.closed);
     let (copy, closed) = server.door.run(begin);
     let copy = copy.map_err(|Broken| Refusal::no_memory())?;

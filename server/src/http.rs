@@ -8,17 +8,17 @@
 //! let (response, sender) = Response::stream(..)              a body that comes piece by piece
 //! ```
 //!
-//! 1. A body has a limit of bytes and of time, and so have all together that aren't answered (`budget`). What is too long
+//! 1. A body has a limit of bytes and of time, and so have all together that aren't answered (`shares`). What is too long
 //!    is read away for a while, so that its client, which still sends, gets to read the answer.
 //! 2. A piece is handed over once the one before was taken, so at most two wait beside what the socket holds.
 //! 3. A connection that serves a request is busy until its answer was handed to the socket, but for `BUFFER` bytes.
 
-use crate::budget::{Budget, Held, FREE};
 use crate::connections::{Busy, Connection};
 use crate::gate::{Head, Who};
 use crate::journal::Ticket;
 use crate::refusal::Refusal;
 use crate::routes::{self, Server};
+use crate::shares::{Client, Held, Table, FREE};
 use bytes::Bytes;
 use http_body::SizeHint;
 use hyper::body::HttpBody;
@@ -89,8 +89,9 @@ pub struct Request {
     /// What stands behind the question mark, as it came.
     pub query: String,
     pub who: Who,
+    pub client: Client,
     pub connection: Arc<Connection>,
-    bodies: Arc<Budget>,
+    bodies: Arc<Table>,
     /// Its body counts as long as it is answered.
     held: Option<Held>,
     inner: hyper::Request<hyper::Body>,
@@ -100,7 +101,8 @@ impl Request {
     fn new(inner: hyper::Request<hyper::Body>, who: Who, connection: Arc<Connection>, server: &Server) -> Request {
         let (path, query) = (inner.uri().path().to_string(), inner.uri().query().unwrap_or("").to_string());
         let (method, bodies) = (method_of(&inner), server.bodies.clone());
-        Request { method, path, query, who, connection, bodies, held: None, inner }
+        let client = Client::new(connection.peer.ip(), &who);
+        Request { method, path, query, who, client, connection, bodies, held: None, inner }
     }
 
     /// A header's value, where it is given once or more: the first one.
@@ -116,7 +118,7 @@ impl Request {
     /// The body, of so many bytes at most, that comes within this time.
     pub async fn body(&mut self, most: usize, within: Duration) -> Result<Vec<u8>, Refusal> {
         let end = Instant::now() + within;
-        let mut held = self.bodies.begin(self.connection.peer.ip());
+        let mut held = self.bodies.begin(&self.client);
         let read = {
             // Also where it comes at once: else a crowd of half bodies is busy for a moment, and others make room.
             let _waits = self.connection.waits();
@@ -424,8 +426,13 @@ async fn answer(
 ) -> Result<hyper::Response<Body>, Infallible> {
     let right = routes::right_of(method_of(&inner), inner.uri().path());
     let judged = server.gate.check(&head_of(&inner), right);
-    let who = match judged.and_then(|who| check_coding(inner.headers()).map(|()| who)) {
-        Ok(who) => who,
+    let admitted = judged.and_then(|who| {
+        check_coding(inner.headers())?;
+        let busy = connection.asks(&Client::new(connection.peer.ip(), &who))?;
+        Ok((who, busy))
+    });
+    let (who, busy) = match admitted {
+        Ok(admitted) => admitted,
         Err(refusal) => {
             let fields = [("peer", connection.peer.to_string().into()), ("error", refusal.error.into())];
             server.log.info("refused", &fields);
@@ -433,7 +440,6 @@ async fn answer(
             return Ok(Response::refused(&refusal).into_inner(None));
         }
     };
-    let busy = connection.asks();
     let request = Request::new(inner, who, connection, &server);
     let answered = match request.header(IDENTITY).is_none_or(|named| named == server.identity.as_bytes()) {
         true => routes::handle(&server, request).await,

@@ -44,7 +44,7 @@ pub mod rules;
 mod store;
 mod writer;
 
-pub use answers::{Answered, Form, MOST, MOST_BYTES};
+pub use answers::{Answered, Form};
 pub use note::Kept;
 pub use recorder::Journal;
 pub use restore::DUMP;

@@ -31,7 +31,6 @@
 //! 5. A line whose call holds the lock for longer than a turn waits for the lane: `Lines::length`. A scan or a poll is
 //!    tried with a short answer before.
 
-use crate::budget::FREE;
 use crate::core::{may_be_long, Core};
 use crate::cuts;
 use crate::door::{Length, Turn};
@@ -41,6 +40,7 @@ use crate::journal::Ticket;
 use crate::options::Options;
 use crate::outcome::Outcome;
 use crate::seats::{Owner, Session};
+use crate::shares::FREE;
 use ripsawbean::{unspell, CallError};
 use std::collections::BTreeMap;
 use std::io::Write;

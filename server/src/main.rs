@@ -21,8 +21,8 @@
 //!
 //! Beside them: `door` (the lock, turns, and the lane of long work), `seats` (the 64 seats), `consumers` and `names`
 //! (what consumers have stored, held while they are down), `lag` (rows closed above a timestamp), `transcript` (the
-//! events kept), `reports`, `metrics`, `dump`, `connections` (how many, and which are silent or stuck), `budget` (bytes
-//! that wait), `ws`, `query`, `refusal`, `options`, `tokens`, `tls`, `notify`, `log`, `page`, `before` (values before a
+//! events kept), `reports`, `metrics`, `dump`, `connections` (how many, and which are silent or stuck), `shares` (what
+//! one client may take), `ws`, `query`, `refusal`, `options`, `tokens`, `tls`, `notify`, `log`, `page`, `before` (values before a
 //! feed's rows), `cuts` (where a long walk may be cut), `faults` (their words), `heap` (one for all threads), `memory`
 //! (how full it is), `growth` (what grows though it is full), `reserve` (what is taken beside the database).
 //!
@@ -33,7 +33,6 @@
 
 mod api;
 mod before;
-mod budget;
 mod closing;
 mod connections;
 mod consumers;
@@ -73,6 +72,7 @@ mod routes;
 mod seats;
 mod serving;
 mod session;
+mod shares;
 mod snapshot;
 mod socket;
 mod stream;

@@ -13,7 +13,8 @@
 //! 1. A name that is held has exactly one protection, at `stored`, and `stored` rises while the name stands.
 //! 2. Generations rise over all names, and a deleted name's are never given again. The consumer with the name's last
 //!    one is its owner.
-//! 3. At most one stream has a name.
+//! 3. At most one stream has a name. A name is of the client that came with it first, and behind a restart of the one
+//!    that comes first.
 //! 4. A timestamp above closed or below the horizon, an older timestamp and an older generation are refused with a
 //!    reason, and change nothing.
 
@@ -26,6 +27,7 @@ use crate::ledger::{Name, Reason};
 use crate::outcome::{name_of, Outcome};
 use crate::refusal::Refusal;
 use crate::seats::Owner;
+use crate::shares::{Client, Held, Table};
 use ripsawbean::{Command, Refusal as Refused};
 use std::collections::BTreeMap;
 use std::ops::Bound;
@@ -47,6 +49,8 @@ struct Consumer {
     generation: u64,
     /// The token by which it was taken or moved last, since the server began.
     by: Option<Arc<str>>,
+    /// Its place among --max-consumers.
+    place: Option<Arc<Held>>,
 }
 
 impl Consumer {
@@ -59,7 +63,7 @@ impl Consumer {
 /// All names. What needs the database is of `Core`.
 #[derive(Debug)]
 pub struct Names {
-    most: usize,
+    places: Arc<Table>,
     all: BTreeMap<Name, Consumer>,
     generation: u64,
 }
@@ -90,19 +94,32 @@ pub fn name_in(word: &[u8]) -> Result<Name, Refusal> {
 
 impl Names {
     pub fn new(most: usize) -> Names {
-        Names { most, all: BTreeMap::new(), generation: 0 }
+        Names { places: Table::of_places(most, "consumers", "names"), all: BTreeMap::new(), generation: 0 }
     }
 
     pub fn has(&self, name: &Name) -> bool {
         self.all.contains_key(name)
     }
 
-    /// Whether a name stands, or there is room for it.
-    pub fn check_room(&self, name: &Name) -> Result<(), Refusal> {
-        if self.has(name) || self.all.len() < self.most {
-            return Ok(());
+    /// Whether a name stands, or its client has room for it.
+    pub fn check_room(&self, name: &Name, client: &Client) -> Result<(), Refusal> {
+        match self.has(name) {
+            true => Ok(()),
+            false => self.places.check(client).map_err(of_names),
         }
-        Err(Refusal::new(429, "consumers", "the server keeps as many names as it may"))
+    }
+
+    /// A name with which a client comes, new or as it stands.
+    fn of(&self, name: &Name, client: &Client) -> Result<Consumer, Refusal> {
+        let mut consumer = self.all.get(name).cloned().unwrap_or_default();
+        if consumer.place.as_ref().is_none_or(|place| *place.client() == Client::SERVER) {
+            match self.places.take(client) {
+                Ok(place) => consumer.place = Some(place.into()),
+                Err(refusal) if consumer.place.is_none() => return Err(of_names(refusal)),
+                Err(_) => {}
+            }
+        }
+        Ok(consumer)
     }
 
     /// So many names behind one, in their order.
@@ -112,10 +129,16 @@ impl Names {
     }
 }
 
+/// A refusal for want of room, with the status that names have for it.
+fn of_names(mut refusal: Refusal) -> Refusal {
+    refusal.status = 429;
+    refusal
+}
+
 impl Core {
     /// A stream has opened its feed for this name. Gives the generation, and ends the stream before.
-    pub fn follow(&mut self, name: &Name, feed: u64) -> Result<u64, Refusal> {
-        let mut consumer = self.consumer(name);
+    pub fn follow(&mut self, name: &Name, feed: u64, client: &Client) -> Result<u64, Refusal> {
+        let mut consumer = self.names.of(name, client)?;
         if consumer.protection.is_none() {
             let floor = self.ledger.feeds.get(&feed).map_or(self.ledger.closed, |feed| feed.floor);
             self.hold(name, &mut consumer, floor)?;
@@ -133,8 +156,8 @@ impl Core {
     }
 
     /// A consumer has stored all up to a timestamp.
-    pub fn store(&mut self, name: &Name, stored: u64, generation: u64) -> Result<(), Refusal> {
-        let mut consumer = self.consumer(name);
+    pub fn store(&mut self, name: &Name, stored: u64, generation: u64, client: &Client) -> Result<(), Refusal> {
+        let mut consumer = self.names.of(name, client)?;
         self.check_stored(&consumer, stored, generation)?;
         if consumer.protection.is_none() || consumer.stored < Some(stored) {
             self.hold(name, &mut consumer, stored)?;
@@ -209,10 +232,6 @@ impl Core {
         consumer.stored.map(|_| self.ledger.rows.total - consumer.below)
     }
 
-    fn consumer(&self, name: &Name) -> Consumer {
-        self.names.all.get(name).cloned().unwrap_or_default()
-    }
-
     // ---- what outlives a restart
 
     fn keep_name(&mut self, name: &Name, consumer: Consumer) {
@@ -236,8 +255,9 @@ impl Core {
     pub fn recover_names(&mut self, generation: u64, names: BTreeMap<String, Kept>) {
         self.names.generation = generation;
         for (name, Kept { stored, generation, is_held }) in names {
-            let name: Name = name.into();
-            let mut consumer = Consumer { stored, generation, ..Consumer::default() };
+            let (name, mut place): (Name, _) = (name.into(), self.names.places.begin(&Client::SERVER));
+            place.set(1);
+            let mut consumer = Consumer { stored, generation, place: Some(place.into()), ..Consumer::default() };
             match stored.filter(|_| is_held).map(|stored| self.hold(&name, &mut consumer, stored)) {
                 Some(Err(_)) => self.shout(&format!("{name} isn't held any more at {stored:?}")),
                 Some(Ok(())) => {}
@@ -307,6 +327,8 @@ mod tests {
     use crate::testing::{core, put, session, IDENTITY};
     use ripsawbean::Span;
 
+    const ONE: Client = Client::SERVER;
+
     fn name(word: &str) -> Name {
         name_in(word.as_bytes()).expect("a name")
     }
@@ -322,7 +344,7 @@ mod tests {
 
     fn followed(core: &mut Core, word: &str) -> u64 {
         let feed = opened(core);
-        core.follow(&name(word), feed).expect("it is followed")
+        core.follow(&name(word), feed, &ONE).expect("it is followed")
     }
 
     fn refused<T>(result: Result<T, Refusal>) -> (u16, &'static str) {
@@ -345,20 +367,20 @@ mod tests {
     #[test]
     fn names_have_a_limit_and_those_that_stand_keep_their_place() {
         let mut core = core(&["--max-consumers", "1"]);
-        assert!(core.names.check_room(&name("a")).is_ok());
+        assert!(core.names.check_room(&name("a"), &ONE).is_ok());
         followed(&mut core, "a");
-        assert!(core.names.check_room(&name("a")).is_ok());
-        assert_eq!(refused(core.names.check_room(&name("b"))), (429, "consumers"));
+        assert!(core.names.check_room(&name("a"), &ONE).is_ok());
+        assert_eq!(refused(core.names.check_room(&name("b"), &ONE)), (429, "consumers"));
         core.forget(&name("b"));
         core.forget(&name("a"));
-        assert!(core.names.check_room(&name("b")).is_ok());
+        assert!(core.names.check_room(&name("b"), &ONE).is_ok());
     }
 
     #[test]
     fn generations_rise_over_all_names_and_the_stream_before_is_fenced() {
         let mut core = core(&[]);
         let first = opened(&mut core);
-        assert_eq!(core.follow(&name("a"), first).ok(), Some(1));
+        assert_eq!(core.follow(&name("a"), first, &ONE).ok(), Some(1));
         assert_eq!(followed(&mut core, "b"), 2);
         assert_eq!(followed(&mut core, "a"), 3);
         assert_eq!(core.ledger.take_end(first).map(|ended| ended.reason), Some(Reason::Fenced));
@@ -372,9 +394,9 @@ mod tests {
         let mut core = core(&[]);
         let mut session = session(&mut core);
         put(&mut core, &mut session, &[("a", "1"), ("a", "2"), ("a", "3")]);
-        core.store(&name("a"), 1, 0).expect("it is held");
-        core.store(&name("a"), 2, 0).expect("it moves up");
-        core.store(&name("a"), 2, 0).expect("a repeated one changes nothing");
+        core.store(&name("a"), 1, 0, &ONE).expect("it is held");
+        core.store(&name("a"), 2, 0, &ONE).expect("it moves up");
+        core.store(&name("a"), 2, 0, &ONE).expect("a repeated one changes nothing");
         let held: Vec<(u64, Option<&str>)> =
             core.ledger.protections.values().map(|one| (one.timestamp, one.consumer.as_deref())).collect();
         assert_eq!(held, [(2, Some("a"))]);
@@ -401,14 +423,18 @@ mod tests {
         for (stored, generation, expected) in
             [(4, 1, "notclosed"), (3, 0, "fenced"), (3, 2, "fenced"), (2, 1, "older"), (4, 2, "notclosed")]
         {
-            assert_eq!(refused(core.store(&name("a"), stored, generation)), (409, expected), "{stored} {generation}");
+            assert_eq!(
+                refused(core.store(&name("a"), stored, generation, &ONE)),
+                (409, expected),
+                "{stored} {generation}"
+            );
         }
         assert_eq!(core.line_of(&name("a")), before);
         assert!(matches!(
             core.ask(Owner::Server, Command::Collect { to: 3 }),
             Ok(Outcome::Collected { horizon: 3, .. })
         ));
-        assert_eq!(refused(core.store(&name("b"), 2, 0)), (409, "belowhorizon"));
+        assert_eq!(refused(core.store(&name("b"), 2, 0, &ONE)), (409, "belowhorizon"));
         assert_eq!(core.names.all.len(), 1);
     }
 
@@ -416,11 +442,11 @@ mod tests {
     fn names_that_lag_too_far_are_let_go_and_stand() {
         let mut core = core(&[]);
         for at in 0..LET_GO_A_TURN + 1 {
-            core.store(&name(&format!("late{at}")), 0, 0).expect("it is held");
+            core.store(&name(&format!("late{at}")), 0, 0, &ONE).expect("it is held");
         }
         let mut session = session(&mut core);
         put(&mut core, &mut session, &[("a", "1"), ("a", "2"), ("a", "3")]);
-        core.store(&name("early"), 1, 0).expect("it is held");
+        core.store(&name("early"), 1, 0, &ONE).expect("it is held");
         let most = Amount { rows: 2, bytes: u64::MAX };
         assert!(core.let_go_names_beyond(most));
         assert!(!core.let_go_names_beyond(most));

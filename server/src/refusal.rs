@@ -139,18 +139,6 @@ impl Refusal {
             .with_header("Sec-WebSocket-Version", "13")
     }
 
-    pub fn no_seats() -> Refusal {
-        Refusal::new(503, "seats", "all 64 seats are taken")
-    }
-
-    pub fn too_many_bodies() -> Refusal {
-        Refusal::busy("bodies", "bodies that aren't answered yet take as much memory as they may")
-    }
-
-    pub fn too_many_reports() -> Refusal {
-        Refusal::busy("reports", "reports that their readers haven't taken need as much memory as they may")
-    }
-
     pub fn crowded() -> Refusal {
         Refusal::busy("answers", "answers that their readers haven't taken need as much memory as they may")
     }
@@ -227,7 +215,6 @@ mod tests {
             (Refusal::no_method("GET"), 405, "method"),
             (Refusal::slow(), 408, "slow"),
             (Refusal::too_long(), 413, "toolong"),
-            (Refusal::no_seats(), 503, "seats"),
         ] {
             assert_eq!((refusal.status, refusal.error), (status, error), "{refusal}");
         }

@@ -14,7 +14,6 @@
 //! 3. A transcript is whole from its first event to below `Ripsawbean-Next`, or its connection is cut.
 //! 4. Who may see some keys alone is told of no others: no transcript, no state, and no bounds of a wider feed.
 
-use crate::budget::Held;
 use crate::consumers::lines_of_all;
 use crate::core::Core;
 use crate::door::Length;
@@ -27,6 +26,7 @@ use crate::query::arguments;
 use crate::refusal::Refusal;
 use crate::routes::Server;
 use crate::seats::{Owner, Taken};
+use crate::shares::Held;
 use bytes::Bytes;
 use std::sync::Arc;
 use std::time::Instant;
@@ -50,7 +50,7 @@ pub async fn state(server: &Arc<Server>, request: Request) -> Result<Response, R
         ..=SHORT => Length::Short,
         _ => Length::Long,
     };
-    let told = server.door.turn_of(length, |core, _| {
+    let told = server.door.turn_of(length, &request.client, |core, _| {
         report.will_have(most_of_state(core))?;
         core.state().ok_or_else(Refusal::no_memory)
     });
@@ -78,7 +78,7 @@ pub struct Report {
 
 impl Report {
     pub fn begin(server: &Server, request: &Request) -> Report {
-        Report { text: String::new(), held: server.reports.begin(request.connection.peer.ip()) }
+        Report { text: String::new(), held: server.reports.begin(&request.client) }
     }
 
     /// It will have so many bytes at most.
@@ -214,7 +214,7 @@ fn session(seat: u8, taken: &Taken, now: Instant) -> String {
     Object::new()
         .text("kind", "session")
         .count("seat", u64::from(seat))
-        .text("peer", taken.peer.as_str())
+        .text("peer", taken.peer.to_string().as_str())
         .seconds("age", now.saturating_duration_since(taken.since))
         .seconds("silent", now.saturating_duration_since(taken.heard))
         .line()
@@ -285,6 +285,8 @@ fn seat_of(owner: Owner) -> Option<u64> {
 #[cfg(test)]
 mod tests {
     use super::*;
+    use crate::gate::{Right, Who};
+    use crate::shares::Client;
     use crate::testing::{core, put, say, session, tidy, IDENTITY};
     use serde_json::Value;
 
@@ -379,8 +381,8 @@ mod tests {
     async fn reports_that_are_not_taken_have_a_bound() {
         let server = crate::testing::server(&[]);
         let report = |last: u8| {
-            let client = [192, 0, 2, last].into();
-            let mut report = Report { text: String::new(), held: server.reports.begin(client) };
+            let client = Client::new([192, 0, 2, last].into(), &Who::of("", &[Right::Read]));
+            let mut report = Report { text: String::new(), held: server.reports.begin(&client) };
             report.add("x".repeat(5 << 20)).map(|()| report.told())
         };
         let held: Vec<_> = [1, 1, 1, 2, 2, 2].map(report).into_iter().map(|it| it.expect("there is room")).collect();

@@ -16,14 +16,13 @@
 //! 3. What is committed and waits for the disk is no part: it stands where the transaction had it, which counts as rows.
 //! 4. What `--max-held` allows is no part: it has a share of its own while memory is full, as all that `growth` counts.
 
-use crate::api::pages;
-use crate::budget::FREE;
-use crate::journal;
+use crate::api::{pages, remembered};
 use crate::memory;
 use crate::options::Options;
 use crate::reports;
 use crate::seats::SEATS;
 use crate::session;
+use crate::shares::FREE;
 use crate::socket;
 
 /// The program itself, its tables, and what the C library keeps between its pieces.
@@ -47,8 +46,6 @@ const NAME: usize = 1 << 10;
 const BETWEEN_LOOKS: usize = 32 << 20;
 /// What an event of the transcript takes beside its text.
 const EVENT: usize = 32;
-/// What an answer that is remembered takes beside its text.
-const REMEMBERED: usize = 200;
 /// Bytes of text for a byte of a row: each may be spelled `%00`.
 const SPELLED: usize = 3;
 
@@ -83,7 +80,7 @@ fn parts(options: &Options, workers: usize) -> [usize; 10] {
         twice(reports::UNREAD),
         max_feeds.saturating_mul(PIECE * PIECES).saturating_add(MADE * PIECE * workers),
         options.max_consumers.saturating_mul(NAME),
-        journal::MOST_BYTES + journal::MOST * REMEMBERED,
+        remembered::MOST_BYTES,
     ]
 }
 

@@ -5,7 +5,6 @@
 //! and gives.
 
 use crate::api::{keys, openapi, remembered, rows, transact};
-use crate::budget::Budget;
 use crate::connections::Connections;
 use crate::door::Door;
 use crate::gate::{Gate, Right};
@@ -13,11 +12,12 @@ use crate::http::{Method, Request, Response};
 use crate::log::Log;
 use crate::options::Options;
 use crate::refusal::Refusal;
+use crate::shares::Table;
 use crate::tasks::Tasks;
 use crate::{consumers, dump, metrics, page, reports, session, streams};
 use std::future::Future;
 use std::sync::Arc;
-use tokio::sync::{watch, Semaphore};
+use tokio::sync::watch;
 
 /// The server's parts, put together. Each handler gets it.
 pub struct Server {
@@ -29,17 +29,17 @@ pub struct Server {
     pub log: Arc<Log>,
     pub connections: Arc<Connections>,
     /// Bytes of bodies that aren't answered yet.
-    pub bodies: Arc<Budget>,
+    pub bodies: Arc<Table>,
     /// Bytes of reports that aren't taken yet.
-    pub reports: Arc<Budget>,
+    pub reports: Arc<Table>,
     /// Bytes of answers to lines, and of rows and transactions, that aren't taken yet.
-    pub unread: Arc<Budget>,
+    pub unread: Arc<Table>,
     pub streams: streams::Streams,
     pub metrics: metrics::Metrics,
     pub remembered: remembered::Remembered,
     pub tasks: Tasks,
-    /// Places of the answers of `POST /call`, until they were handed to their sockets.
-    pub answers: Arc<Semaphore>,
+    /// Places of answers that may be long, until they were handed to their sockets.
+    pub answers: Arc<Table>,
     /// Whether the server ends.
     pub is_ending: watch::Sender<bool>,
 }

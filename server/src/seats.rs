@@ -3,12 +3,16 @@
 //! A session is one WebSocket, or one request of `POST /call`. The server makes its own calls and opens the feeds that
 //! it streams under the last seat, which a client's session may have as well: `Owner` keeps the two apart.
 //!
-//! 1. No two clients' sessions have one seat.
+//! 1. No two clients' sessions have one seat, and those of one client have no more than its share.
 //! 2. A `Taken` has what stands in the database under the seat by its session's own lines. All of it ends with the
 //!    session (`Core::end`), and only then is the seat given back.
 
 use crate::gate::Who;
+use crate::refusal::Refusal;
+use crate::shares::{Client, Held, Table};
 use std::collections::{BTreeSet, VecDeque};
+use std::net::SocketAddr;
+use std::sync::Arc;
 use std::time::{Duration, Instant};
 use tokio::sync::watch;
 
@@ -53,6 +57,7 @@ pub struct Session {
     /// The timestamp that it began last: what `.` stands for.
     pub last: Option<u64>,
     pub who: Who,
+    pub client: Client,
     end: watch::Receiver<Option<EndedBy>>,
 }
 
@@ -85,7 +90,8 @@ pub struct Taken {
     /// How long it may be silent before its undecided transactions are aborted, where it has said so.
     pub idle: Option<Duration>,
     /// The address of its client.
-    pub peer: String,
+    pub peer: SocketAddr,
+    _place: Held,
     pub begun: BTreeSet<u64>,
     pub feeds: BTreeSet<u64>,
     pub protections: BTreeSet<u64>,
@@ -104,33 +110,35 @@ impl Taken {
 pub struct Seats {
     free: VecDeque<u8>,
     taken: Vec<Option<Taken>>,
+    places: Arc<Table>,
 }
 
 impl Default for Seats {
     fn default() -> Seats {
-        Seats { free: (0..SEATS).collect(), taken: (0..SEATS).map(|_| None).collect() }
+        let places = Table::of_places(SEATS.into(), "seats", "sessions");
+        Seats { free: (0..SEATS).collect(), taken: (0..SEATS).map(|_| None).collect(), places }
     }
 }
 
 impl Seats {
-    /// A new session, or `None` where no more seats are free than so many, which are kept for others.
-    pub fn take(&mut self, peer: String, who: Who, kept: usize) -> Option<Session> {
-        if self.free.len() <= kept {
-            return None;
-        }
-        let seat = self.free.pop_front()?;
+    /// A new session, where there is room for it.
+    pub fn take(&mut self, peer: SocketAddr, who: Who) -> Result<Session, Refusal> {
+        let client = Client::new(peer.ip(), &who);
+        let place = self.places.take(&client)?;
+        let seat = self.free.pop_front().expect("as many are free as places aren't taken");
         let (now, (tell, end)) = (Instant::now(), watch::channel(None));
         self.taken[usize::from(seat)] = Some(Taken {
             since: now,
             heard: now,
             idle: None,
             peer,
+            _place: place,
             begun: BTreeSet::new(),
             feeds: BTreeSet::new(),
             protections: BTreeSet::new(),
             end: tell,
         });
-        Some(Session { seat, lines: 0, last: None, who, end })
+        Ok(Session { seat, lines: 0, last: None, who, client, end })
     }
 
     /// Frees a seat.
@@ -184,31 +192,45 @@ impl Seats {
 #[cfg(test)]
 mod tests {
     use super::*;
+    use crate::gate::Right;
+
+    fn taken(seats: &mut Seats, last: u8) -> Option<Session> {
+        seats.take(([192, 0, 2, last], 1).into(), Who::anyone()).ok()
+    }
+
+    /// As many sessions as one client gets.
+    fn all_of(seats: &mut Seats, last: u8) -> Vec<Session> {
+        std::iter::from_fn(|| taken(seats, last)).collect()
+    }
 
     #[test]
     fn no_two_sessions_have_one_seat() {
         let mut seats = Seats::default();
-        let sessions: Vec<Session> = std::iter::from_fn(|| seats.take("peer".into(), Who::anyone(), 0)).collect();
+        let sessions: Vec<Session> = [1, 2].into_iter().flat_map(|last| all_of(&mut seats, last)).collect();
         let distinct: BTreeSet<u8> = sessions.iter().map(|session| session.seat).collect();
         assert_eq!((sessions.len(), distinct.len(), seats.count()), (64, 64, 64));
         seats.give_back(7);
         seats.give_back(7);
-        assert_eq!(seats.take("peer".into(), Who::anyone(), 0).map(|session| session.seat), Some(7));
-        assert!(seats.take("peer".into(), Who::anyone(), 0).is_none());
+        assert_eq!(taken(&mut seats, 3).map(|session| session.seat), Some(7));
+        assert!(taken(&mut seats, 3).is_none());
     }
 
     #[test]
-    fn one_seat_can_be_kept() {
+    fn one_client_leaves_seats_to_others_and_the_last_one_is_an_operators() {
         let mut seats = Seats::default();
-        let count = std::iter::from_fn(|| seats.take("peer".into(), Who::anyone(), 1)).count();
-        assert_eq!(count, 63);
-        assert!(seats.take("operator".into(), Who::anyone(), 0).is_some());
+        let mut take = |name, rights: &[Right]| seats.take(([192, 0, 2, 1], 1).into(), Who::of(name, rights));
+        for (name, count, of) in [("reader", 48, "client"), ("writer", 15, "all")] {
+            (0..count).for_each(|_| drop(take(name, &[Right::Read]).expect("a seat")));
+            let refusal = take(name, &[Right::Read]).expect_err("its share is full");
+            assert_eq!((refusal.status, refusal.error, &refusal.members[0].1), (503, "seats", &of.into()), "{name}");
+        }
+        assert!(take("operator", &[Right::Operate]).is_ok());
     }
 
     #[tokio::test]
     async fn a_session_that_is_told_to_end_knows_it_from_then_on() {
         let mut seats = Seats::default();
-        let [one, other] = [0, 0].map(|kept| seats.take("peer".into(), Who::anyone(), kept).expect("a seat"));
+        let [one, other] = [1, 1].map(|last| taken(&mut seats, last).expect("a seat"));
         assert_eq!(one.ended_by(), None);
         seats.taken(one.seat).expect("it is taken").tell_to_end(EndedBy::Silence);
         assert_eq!(one.told_to_end().await, EndedBy::Silence);
@@ -219,7 +241,7 @@ mod tests {
     #[test]
     fn a_session_that_says_how_long_it_may_be_silent_is_idle_after_that() {
         let mut seats = Seats::default();
-        let [one, other] = [0, 0].map(|kept| seats.take("peer".into(), Who::anyone(), kept).expect("a seat").seat);
+        let [one, other] = [1, 1].map(|last| taken(&mut seats, last).expect("a seat").seat);
         for (seat, begun) in [(one, 7), (other, 3)] {
             seats.taken_mut(seat).expect("it is taken").begun.insert(begun);
         }
@@ -236,10 +258,8 @@ mod tests {
     #[test]
     fn the_seat_that_was_free_for_longest_comes_first() {
         let mut seats = Seats::default();
-        let first = seats.take("peer".into(), Who::anyone(), 0).expect("a seat");
+        let first = taken(&mut seats, 1).expect("a seat");
         seats.give_back(first.seat);
-        let others: Vec<u8> =
-            (0..63).map(|_| seats.take("peer".into(), Who::anyone(), 0).expect("a seat").seat).collect();
-        assert!(!others.contains(&first.seat));
+        assert!(all_of(&mut seats, 1).iter().all(|session| session.seat != first.seat));
     }
 }

@@ -7,7 +7,6 @@
 //! 2. The work on the database never stops in silence: a panic in it ends the process.
 
 use crate::api::remembered::Remembered;
-use crate::budget::Budget;
 use crate::closing;
 use crate::connections::Connections;
 use crate::core::Core;
@@ -21,12 +20,12 @@ use crate::metrics::Metrics;
 use crate::notify::Notify;
 use crate::options::Options;
 use crate::process;
-use crate::refusal::Refusal;
 use crate::reports;
 use crate::reserve::{max_memory, reserve};
 use crate::routes::Server;
 use crate::seats::SEATS;
 use crate::session;
+use crate::shares::Table;
 use crate::streams::Streams;
 use crate::tasks::Tasks;
 use crate::tls::{self, Acceptor};
@@ -41,7 +40,7 @@ use std::time::{Duration, Instant};
 use tokio::io::AsyncWriteExt;
 use tokio::net::{TcpListener, TcpSocket, TcpStream};
 use tokio::signal::unix::{signal, Signal, SignalKind};
-use tokio::sync::{watch, Semaphore};
+use tokio::sync::watch;
 use tokio::time::{interval, sleep, timeout, MissedTickBehavior};
 
 const SPARE_FILES: u64 = 1024; // beside the connections: as many as the kernel may hand over at once
@@ -167,14 +166,18 @@ fn put_together(opened: Opened, options: Options, address: SocketAddr, log: Arc<
         door: Door::new(core),
         gate: Gate::new(&options, address.port()).map_err(Failure::Tokens)?,
         connections: Connections::new(options.max_connections, options.patience),
-        bodies: Budget::new(options.max_message.saturating_mul(usize::from(SEATS)), Refusal::too_many_bodies),
-        reports: Budget::new(reports::UNREAD, Refusal::too_many_reports),
-        unread: Budget::new(session::UNREAD, Refusal::crowded),
-        streams: Streams::default(),
+        bodies: Table::of_bytes(
+            options.max_message.saturating_mul(usize::from(SEATS)),
+            "bodies",
+            "bytes of bodies that aren't answered",
+        ),
+        reports: Table::of_bytes(reports::UNREAD, "reports", "bytes of reports that aren't read"),
+        unread: Table::of_bytes(session::UNREAD, "answers", "bytes of answers that aren't read"),
+        streams: Streams::new(options.max_feeds),
         metrics: Metrics::default(),
         remembered: Remembered::new(options.remember, answers),
         tasks: Tasks::default(),
-        answers: Arc::new(Semaphore::new(usize::from(SEATS))),
+        answers: Table::of_places(SEATS.into(), "answers", "answers that wait for their readers"),
         is_ending: watch::channel(false).0,
         log,
         options,
@@ -360,7 +363,7 @@ async fn each_second(server: Arc<Server>) {
 
 async fn end(server: &Arc<Server>) {
     drain(server).await;
-    server.door.turns(|core, until, _| stop_feeds(core, until)).await;
+    server.door.turns_aside(stop_feeds).await;
     server.is_ending.send_replace(true);
     let _ = timeout(END, server.tasks.all_ended()).await;
     let last = server.door.run(|core| core.journal.end(core.ledger.greatest.max(core.ledger.closed)));

@@ -5,15 +5,14 @@
 //! 1. A session has a seat as long as its `Seated` lives. However that ends, what the session left in the database ends
 //!    with it, and then the seat is free.
 //! 2. Lines are taken in turns, and between two of them everyone else is let in.
-//! 3. No more calls' answers wait for their readers than there are seats, and all unread answers together have a bound
+//! 3. No more answers wait for their readers than there are seats, and all unread answers together have a bound
 //!    of bytes: `UNREAD`, and one message's answers more. A line whose answer may be long waits for the others' readers.
 //! 4. Where an answer's text was lost for want of memory, the session ends: nobody is told that a call wasn't made.
 //! 5. A line whose call is long waits for the lane, and with it the lines behind it.
 
-use crate::budget::Held;
 use crate::connections::Connection;
 use crate::door::{Length, Turn};
-use crate::gate::{Right, Who};
+use crate::gate::Who;
 use crate::http::{Request, Response};
 use crate::journal::Ticket;
 use crate::lines::{Lines, Lost, Told};
@@ -21,11 +20,11 @@ use crate::query::{arguments, flag_in, number_of, Arguments};
 use crate::refusal::Refusal;
 use crate::routes::Server;
 use crate::seats::{EndedBy, Session};
+use crate::shares::{Client, Held};
 use crate::socket::Socket;
 use crate::ws::{self, Asked};
 use std::sync::Arc;
 use std::time::{Duration, Instant};
-use tokio::sync::OwnedSemaphorePermit;
 
 /// Bytes that all answers may have which their clients haven't read, beside those of the message that is answered.
 pub const UNREAD: usize = 64 << 20;
@@ -45,11 +44,8 @@ pub struct Seated {
 }
 
 impl Seated {
-    /// Takes a seat. The last one is kept for those who may operate.
     fn take(server: &Arc<Server>, who: Who, connection: &Connection) -> Result<Seated, Refusal> {
-        let kept = usize::from(!who.may(Right::Operate));
-        let peer = connection.peer.to_string();
-        let session = server.door.run(|core| core.seats.take(peer, who, kept)).ok_or_else(Refusal::no_seats)?;
+        let session = server.door.run(|core| core.seats.take(connection.peer, who))?;
         Ok(Seated { server: server.clone(), session })
     }
 
@@ -66,8 +62,10 @@ impl Drop for Seated {
     fn drop(&mut self) {
         let seat = self.session.seat;
         if self.server.door.turn(|core, until| core.end(seat, until, Length::Short)) != Turn::Done {
-            let server = self.server.clone();
-            tokio::spawn(async move { server.door.turns(|core, until, length| core.end(seat, until, length)).await });
+            let (server, client) = (self.server.clone(), self.session.client.clone());
+            let end =
+                async move { server.door.turns(&client, |core, until, length| core.end(seat, until, length)).await };
+            tokio::spawn(end);
         }
     }
 }
@@ -87,14 +85,13 @@ pub async fn call(server: &Arc<Server>, mut request: Request) -> Result<Response
     let arguments = arguments(&request.path, &request.query, &["strict", "identity"])?;
     check_identity(server, &arguments)?;
     let is_strict = flag_in(&arguments, "strict")?;
-    let (who, connection) = (request.who.clone(), request.connection.clone());
     if data.last() != Some(&b'\n') {
         data.push(b'\n');
     }
     let start = Instant::now();
     // A body that comes slowly holds no seat. An answer that is taken slowly counts as one: it may be long.
-    let mut place = place_of_answer(server, &who, &connection)?;
-    let mut seated = Seated::take(server, who, &connection)?;
+    let mut place = place_of_answer(server, &request.client)?;
+    let mut seated = Seated::take(server, request.who.clone(), &request.connection)?;
     let mut lines = Lines::new(data);
     let told = answer(&mut seated, &mut lines, &mut place.unread).await;
     // Seats are free while the answer waits for the disk, and so is the place of a short one.
@@ -124,24 +121,22 @@ fn status_of(told: Told) -> u16 {
 
 /// The place of an answer until its client has taken it, and what it counts.
 pub struct Place {
-    _permit: OwnedSemaphorePermit,
+    _held: Held,
     pub unread: Held,
 }
 
-/// So many answers are there at once at most, the last one of someone who may operate.
-pub fn place_of_answer(server: &Server, who: &Who, connection: &Connection) -> Result<Place, Refusal> {
-    let kept = usize::from(!who.may(Right::Operate));
-    let permit = server.answers.clone().try_acquire_owned().ok().filter(|_| server.answers.available_permits() >= kept);
-    let unread = server.unread.begin(connection.peer.ip());
-    permit.map(|_permit| Place { _permit, unread }).ok_or_else(Refusal::no_seats)
+/// As many answers are there at once as there are seats.
+pub fn place_of_answer(server: &Server, client: &Client) -> Result<Place, Refusal> {
+    Ok(Place { _held: server.answers.take(client)?, unread: server.unread.begin(client) })
 }
 
 async fn answer(seated: &mut Seated, lines: &mut Lines, unread: &mut Held) -> Result<(), Refusal> {
     let Seated { server, session } = seated;
+    let client = session.client.clone();
     let refused = |error, why| Err(Refusal::new(500, error, why));
     let (mut length, mut crowded) = (Length::Short, None);
     loop {
-        let turned = server.door.turn_of(length, |core, until| {
+        let turned = server.door.turn_of(length, &client, |core, until| {
             core.seats.hears(session.seat);
             (lines.has_room, lines.length) = (unread.has_room(), length);
             let turn = lines.turn(core, session, until);
@@ -187,7 +182,7 @@ pub async fn session(server: &Arc<Server>, mut request: Request) -> Result<Respo
     let connection = request.connection.clone();
     let seated = Seated::take(server, request.who.clone(), &connection)?;
     seated.aborts_after(idle);
-    let busy = connection.asks();
+    let busy = connection.asks(&request.client)?;
     let upgraded = request.upgraded();
     let opened = [
         ("seat", seated.session.seat.into()),
@@ -225,7 +220,7 @@ pub async fn end(server: &Arc<Server>, request: Request) -> Result<Response, Ref
     let peer = server.door.run(|core| {
         let taken = core.seats.taken(seat).ok_or_else(no_session)?;
         taken.tell_to_end(EndedBy::Operator);
-        Ok(taken.peer.clone())
+        Ok(taken.peer.to_string())
     })?;
     let by: &Who = &request.who;
     server
@@ -241,6 +236,7 @@ fn no_session() -> Refusal {
 #[cfg(test)]
 mod tests {
     use super::*;
+    use crate::gate::Right;
     use crate::testing::server;
 
     fn connection(server: &Server, last: u8) -> Arc<Connection> {
@@ -248,24 +244,20 @@ mod tests {
     }
 
     #[test]
-    fn as_many_answers_wait_as_there_are_seats_and_the_last_is_an_operators() {
+    fn answers_that_one_client_leaves_unread_leave_places_to_others() {
         let server = server(&[]);
-        let (writer, connection) = (Who::of("writer", &[Right::Read, Right::Write]), connection(&server, 1));
-        let place = |who: &Who| place_of_answer(&server, who, &connection);
-        let mut places: Vec<_> = std::iter::from_fn(|| place(&writer).ok()).collect();
-        assert_eq!(places.len(), 63);
-        places.push(place(&Who::anyone()).expect("one is kept"));
-        assert!(place(&Who::anyone()).is_err());
-        places.pop();
-        assert!(place(&writer).is_err());
-        places.pop();
-        assert!(place(&writer).is_ok());
+        let place =
+            |name| place_of_answer(&server, &Client::new([192, 0, 2, 1].into(), &Who::of(name, &[Right::Read])));
+        let mut places: Vec<_> = std::iter::from_fn(|| place("reader").ok()).collect();
+        assert_eq!((places.len(), place("reader").err().map(|refusal| refusal.error)), (48, Some("answers")));
+        places.extend((0..15).map(|_| place("other").expect("the last quarter is for others")));
+        assert!(place("other").is_err() && place_of_answer(&server, &crate::shares::LOOPBACK).is_ok());
     }
 
     /// What a call of lines is refused with, and bytes of their answers.
     async fn told(server: &Arc<Server>, text: &str) -> (Option<(u16, &'static str)>, usize) {
         let (connection, who) = (connection(server, 1), Who::anyone());
-        let mut place = place_of_answer(server, &who, &connection).expect("a place");
+        let mut place = place_of_answer(server, &Client::new(connection.peer.ip(), &who)).expect("a place");
         let mut seated = Seated::take(server, who, &connection).expect("a seat");
         let mut lines = Lines::new(text.as_bytes().to_vec());
         let told = answer(&mut seated, &mut lines, &mut place.unread).await;
@@ -295,7 +287,7 @@ mod tests {
     #[tokio::test(start_paused = true)]
     async fn a_long_answer_waits_for_other_readers_and_a_short_one_does_not() {
         let server = server(&["--patience", "5"]);
-        let mut unread = server.unread.begin([192, 0, 2, 1].into());
+        let mut unread = server.unread.begin(&Client::new([192, 0, 2, 1].into(), &Who::anyone()));
         unread.set(UNREAD);
         let ask = |text: &'static str| told(&server, text);
         assert_eq!(ask("begin\nput . a 1\nget . a\ncommit .\n").await.0, None);

@@ -16,7 +16,6 @@
 
 mod end;
 
-use crate::budget::Held;
 use crate::connections::Connection;
 use crate::core::Core;
 use crate::door::{Length, Turn};
@@ -24,6 +23,7 @@ use crate::http::Stream;
 use crate::journal::Ticket;
 use crate::lines::{Lines, Lost};
 use crate::session::Seated;
+use crate::shares::Held;
 use crate::ws::{encode, Decoder, Incoming, Outgoing, HEAD};
 use bytes::BytesMut;
 use end::{say_goodbye, End, LINGER};
@@ -86,7 +86,7 @@ impl Socket {
         Socket {
             stream,
             decoder: Decoder::new(seated.server.options.max_message),
-            unread: seated.server.unread.begin(connection.peer.ip()),
+            unread: seated.server.unread.begin(&seated.session.client),
             length: Length::Short,
             crowded: None,
             connection,
@@ -279,7 +279,7 @@ impl Socket {
     async fn turn(&mut self) -> Result<Turn, End> {
         let Socket { seated, connection, waiting, ahead, out, unread, rests, length, .. } = self;
         let Seated { server, session } = seated;
-        let may_be = *length;
+        let (may_be, client) = (*length, session.client.clone());
         let work = |core: &mut Core, until| {
             core.seats.hears(session.seat);
             while let Some(first) = waiting.front_mut() {
@@ -303,7 +303,7 @@ impl Socket {
         };
         let (turn, _) = tokio::select! {
             biased; // without the lane it is done at once
-            turned = server.door.turn_of(may_be, work) => turned,
+            turned = server.door.turn_of(may_be, &client, work) => turned,
             () = connection.cut_off() => return Err(End::Stuck),
         };
         *length = turn.map_or(Length::Short, Turn::next);

@@ -209,7 +209,7 @@ impl Stream {
     /// The next messages.
     async fn look(&mut self) -> Result<Told, Stop> {
         self.moved.borrow_and_update();
-        let turned = self.place.server().door.turn_of(self.length, |core, _| {
+        let turned = self.place.server().door.turn_of(self.length, self.place.client(), |core, _| {
             if let Some(ended) = core.ledger.take_end(self.feed) {
                 return Err(Stop::Ended(ended));
             }

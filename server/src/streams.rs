@@ -23,22 +23,25 @@ use crate::query::{arguments, flag_in, Arguments};
 use crate::refusal::Refusal;
 use crate::routes::Server;
 use crate::seats::Owner;
+use crate::shares::{Client, Held, Table};
 use crate::snapshot::Snapshot;
 use crate::stream::{Before, Stream};
 use ripsawbean::{CallError, Command, Refusal as Refused, Span};
-use std::sync::atomic::{AtomicU64, AtomicUsize, Ordering::Relaxed};
+use std::sync::atomic::{AtomicU64, Ordering::Relaxed};
 use std::sync::Arc;
 
 /// What all streams have in common, as `metrics` tells it.
-#[derive(Default)]
 pub struct Streams {
-    open: AtomicUsize,
+    places: Arc<Table>,
     messages: AtomicU64,
     bytes: AtomicU64,
 }
 
 /// A stream's place among --max-feeds.
-pub struct Place(Arc<Server>);
+pub struct Place {
+    server: Arc<Server>,
+    held: Held,
+}
 
 /// What an answer's headers say of its stream.
 struct Opened {
@@ -49,9 +52,15 @@ struct Opened {
 }
 
 impl Streams {
+    /// So many may be open.
+    pub fn new(most: usize) -> Streams {
+        let places = Table::of_places(most, "feeds", "streams");
+        Streams { places, messages: AtomicU64::new(0), bytes: AtomicU64::new(0) }
+    }
+
     /// Streams that are open.
     pub fn open(&self) -> u64 {
-        self.open.load(Relaxed) as u64
+        self.places.taken() as u64
     }
 
     /// Messages that all streams were told, and bytes that they were sent.
@@ -66,22 +75,17 @@ impl Streams {
 }
 
 impl Place {
-    pub fn take(server: &Arc<Server>) -> Result<Place, Refusal> {
-        let most = server.options.max_feeds;
-        match server.streams.open.fetch_update(Relaxed, Relaxed, |open| (open < most).then_some(open + 1)) {
-            Ok(_) => Ok(Place(server.clone())),
-            Err(_) => Err(Refusal::new(503, "feeds", "the server streams as many feeds as it may")),
-        }
+    pub fn take(server: &Arc<Server>, client: &Client) -> Result<Place, Refusal> {
+        Ok(Place { held: server.streams.places.take(client)?, server: server.clone() })
     }
 
     pub fn server(&self) -> &Server {
-        &self.0
+        &self.server
     }
-}
 
-impl Drop for Place {
-    fn drop(&mut self) {
-        self.0.streams.open.fetch_sub(1, Relaxed);
+    /// Whose stream it is.
+    pub fn client(&self) -> &Client {
+        self.held.client()
     }
 }
 
@@ -112,7 +116,7 @@ pub async fn feed(server: &Arc<Server>, request: Request) -> Result<Response, Re
         return Err(Refusal::no_right(Right::Write));
     }
     let opened = server.door.run(|core| {
-        let opened = open(server, core, &given, name.as_ref());
+        let opened = open(server, core, &request.client, &given, name.as_ref());
         opened.inspect(|_| name.iter().for_each(|name| core.give_name(name, &request.who)))
     });
     let (place, opened, snapshot) = opened?;
@@ -158,18 +162,20 @@ fn place_in(id: &[u8]) -> Option<(&[u8], u64)> {
 fn open(
     server: &Arc<Server>,
     core: &mut Core,
+    client: &Client,
     given: &Arguments,
     name: Option<&Name>,
 ) -> Result<(Place, Opened, Option<Snapshot>), Refusal> {
-    name.map_or(Ok(()), |name| core.names.check_room(name))?;
+    name.map_or(Ok(()), |name| core.names.check_room(name, client))?;
     core.check_identity(given, given.has("from"))?;
     if given.number("from") > Some(core.ledger.closed) {
         return Err(not_closed(core.ledger.closed));
     }
-    let place = Place::take(server)?;
+    let place = Place::take(server, client)?;
     let snapshot = if given.has("from") { None } else { Snapshot::in_pages(core, span_of(given)) };
     let feed = open_feed(core, given, snapshot.is_some())?;
-    let generation = name.map(|name| core.follow(name, feed)).transpose().inspect_err(|_| core.end_stream(feed))?;
+    let generation =
+        name.map(|name| core.follow(name, feed, client)).transpose().inspect_err(|_| core.end_stream(feed))?;
     let from = core.ledger.feeds.get(&feed).map_or(core.ledger.closed, |feed| feed.floor);
     Ok((place, Opened { identity: core.identity.clone(), from, feed, generation }, snapshot))
 }
@@ -234,7 +240,7 @@ mod tests {
     async fn a_connection_whose_reader_takes_no_end_is_cut() {
         let server = crate::testing::server(&[]);
         let connection = server.connections.come(([127, 0, 0, 1], 1).into()).expect("a place");
-        let place = Place::take(&server).expect("a place");
+        let place = Place::take(&server, &crate::shares::LOOPBACK).expect("a place");
         let feed = server.door.run(|core| open_feed(core, &Arguments::default(), false)).expect("a feed");
         let (_response, sender) = Response::stream("application/x-ndjson");
         let stream = Stream::new(place, feed, Form::JsonLines, sender, connection.clone());

@@ -1,7 +1,6 @@
 //! What tests share: a core without sockets, and numbers that are drawn.
 
 use crate::api::remembered::Remembered;
-use crate::budget::Budget;
 use crate::closing;
 use crate::connections::Connections;
 use crate::core::Core;
@@ -18,6 +17,7 @@ use crate::reports;
 use crate::routes::{self, Server};
 use crate::seats::{Session, SEATS};
 use crate::session;
+use crate::shares::Table;
 use crate::streams::Streams;
 use crate::tasks::Tasks;
 use std::collections::VecDeque;
@@ -28,7 +28,7 @@ use std::pin::Pin;
 use std::sync::atomic::{AtomicU64, Ordering};
 use std::sync::{Arc, Mutex};
 use std::time::{Duration, Instant};
-use tokio::sync::{watch, Semaphore};
+use tokio::sync::watch;
 
 /// The identity of a test's database.
 pub const IDENTITY: &str = "0123456789abcdef";
@@ -86,14 +86,18 @@ pub fn server_of(core: Core, words: &[&str]) -> Arc<Server> {
         gate: Gate::new(&options, options.port).expect("a gate"),
         log: Arc::new(Log::to(Level::Error, false, Box::new(Said::default()))),
         connections: Connections::new(options.max_connections, options.patience),
-        bodies: Budget::new(options.max_message.saturating_mul(usize::from(SEATS)), Refusal::too_many_bodies),
-        reports: Budget::new(reports::UNREAD, Refusal::too_many_reports),
-        unread: Budget::new(session::UNREAD, Refusal::crowded),
-        streams: Streams::default(),
+        bodies: Table::of_bytes(
+            options.max_message.saturating_mul(usize::from(SEATS)),
+            "bodies",
+            "bytes of bodies that aren't answered",
+        ),
+        reports: Table::of_bytes(reports::UNREAD, "reports", "bytes of reports that aren't read"),
+        unread: Table::of_bytes(session::UNREAD, "answers", "bytes of answers that aren't read"),
+        streams: Streams::new(options.max_feeds),
         metrics: Metrics::default(),
         remembered: Remembered::new(options.remember, VecDeque::new()),
         tasks: Tasks::default(),
-        answers: Arc::new(Semaphore::new(usize::from(SEATS))),
+        answers: Table::of_places(SEATS.into(), "answers", "answers that wait for their readers"),
         is_ending: watch::channel(false).0,
         options,
     })
@@ -117,7 +121,12 @@ pub fn status(answered: Result<Response, Refusal>) -> (u16, &'static str) {
 
 /// A session of someone who may do everything.
 pub fn session(core: &mut Core) -> Session {
-    core.seats.take("127.0.0.1:1".into(), Who::anyone(), 0).expect("a seat is free")
+    session_of(core, 1)
+}
+
+/// The same of one of several clients, as one alone doesn't get all seats.
+pub fn session_of(core: &mut Core, client: u8) -> Session {
+    core.seats.take(([127, 0, 0, client], 1).into(), Who::anyone()).expect("a seat is free")
 }
 
 pub fn end(core: &mut Core, session: &Session) {

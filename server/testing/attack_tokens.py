@@ -34,7 +34,7 @@ def status_of(server: Server, path: str, token: str) -> int:
 
 
 @contextlib.contextmanager
-def with_tokens(room: Room) -> Iterator[tuple[Server, str]]:
+def with_tokens(room: Room, *options: str) -> Iterator[tuple[Server, str]]:
     """A server with five tokens, and their file."""
     path = room.file("tokens")
     with open(path, "w") as file:
@@ -42,7 +42,7 @@ def with_tokens(room: Room) -> Iterator[tuple[Server, str]]:
         file.write("operator read,write,operate - - %s\npart read,write b c %s\n" % (OPERATE, PART))
         file.write("sensor write b c %s\n" % SENSOR)
     os.chmod(path, 0o600)
-    yield started(room, "--tokens", path, token=OPERATE), path
+    yield started(room, "--tokens", path, *options, token=OPERATE), path
 
 
 def test_rights(room: Room, scale: Scale) -> str:
@@ -204,12 +204,14 @@ def test_wrong_token_files(room: Room, scale: Scale) -> str:
 def test_a_seat_is_kept_for_the_operator(room: Room, scale: Scale) -> str:
     """Those who may not operate take sixty-three seats, and an operator's call still has one."""
     with with_tokens(room) as (server, _):
-        taken = [Session(server.port, WRITE) for _ in range(63)]
-        try:
-            Session(server.port, WRITE)
-            raise AssertionError("a writer has the last seat")
-        except Refused as refused:
-            assert refused.status == 503 and b'"seats"' in refused.body, refused
+        taken = []
+        for token, count, of in ((WRITE, 48, b"client"), (READ, 15, b"all")):
+            taken += [Session(server.port, token) for _ in range(count)]
+            try:
+                Session(server.port, token)
+                raise AssertionError("a client has more than its share")
+            except Refused as refused:
+                assert refused.status == 503 and b'"seats"' in refused.body and of in refused.body, refused
         assert "=> stats" in server.ask("POST", "/call", b"stats\n", shown(OPERATE))[1]
         for one in taken:
             one.reset()
@@ -226,23 +228,24 @@ def first_page(server: Server, token: str, hold: str) -> tuple[int, dict[str, st
 
 
 def test_a_client_that_holds_many_snapshots(room: Room, scale: Scale) -> str:
-    """Who writes and asks for first pages in turn holds half of them: to others they are told meanwhile."""
+    """Who writes and asks for first pages in turn holds its share of them: to others they are told meanwhile."""
     with with_tokens(room) as (server, _):
         server.ask("POST", "/call", b"begin\nput . b/1 x\nput . b/2 x\ncommit .\n")
-        statuses = [first_page(server, WRITE, "&hold=300")[0] for _ in range(140)]
-        assert statuses == [200] * 128 + [503] * 12, statuses
+        statuses = [first_page(server, WRITE, "&hold=300")[0] for _ in range(200)]
+        assert statuses == [200] * 192 + [503] * 8, statuses
         assert [first_page(server, WRITE, "&hold=0")[0] for _ in range(20)] == [200] * 20
-        statuses = [first_page(server, PART, "&hold=300")[0] for _ in range(127)]
-        assert statuses == [200] * 127, statuses
+        statuses = [first_page(server, PART, "&hold=300")[0] for _ in range(59)]
+        assert statuses == [200] * 59, statuses
         assert first_page(server, PART, "&hold=5")[0] == 200
-        for token, of, least, most in ((WRITE, "client", 200, 300), (PART, "client", 1, 5), (OPERATE, "all", 1, 5)):
+        assert [first_page(server, OPERATE, "&hold=300")[0] for _ in range(4)] == [200] * 4
+        for token, of, least, most in ((WRITE, "client", 200, 300), (PART, "all", 1, 5), (OPERATE, "all", 1, 5)):
             status, headers, told = first_page(server, token, "")
             assert (status, told["error"], told["of"]) == (503, "holds", of), (token, told)
             assert least <= int(headers["retry-after"]) <= most, (token, headers)
         time.sleep(int(headers["retry-after"]))
         assert [first_page(server, token, "")[0] for token in (OPERATE, PART)] == [200, 503]
         assert len(server.holders("protection")) == 256
-    return "128 and 128"
+    return "192 and 64"
 
 
 TESTS: list[Callable[[Room, Scale], str]] = [one for name, one in list(globals().items()) if name.startswith("test_")]

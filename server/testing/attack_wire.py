@@ -20,7 +20,7 @@ from attack_slow import head
 from handmade import CLOSE, HANDSHAKE, PING, PONG, TEXT, Cut, Ended, Refused, Session, Wire, fill, framed
 from machine import LONGEST, SERVER, Room, wait_for
 
-SEATS = 64
+SEATS = 49  # of 64: what one client has that may operate
 STARTS_SECONDS = 15  # after which a server that should have ended counts as one that serves
 
 

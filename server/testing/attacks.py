@@ -18,6 +18,7 @@ import attack_http
 import attack_limits
 import attack_memory
 import attack_operating
+import attack_shares
 import attack_slow
 import attack_tokens
 import attack_wire
@@ -26,7 +27,7 @@ from machine import Program, Room
 from tally import Tally
 
 THEMES = (attack_beside, attack_memory, attack_growth, attack_slow, attack_wire, attack_http, attack_limits, attack_tokens,
-          attack_operating)
+          attack_shares, attack_operating)
 Test = Callable[[Room, Scale], str]
 
 

@@ -23,7 +23,7 @@ from ripsawbean import Event
 from search_index import Index
 
 OPTIONS = ("--max-age", "2", "--history", "0.2", "--max-lag", "20000")
-SEATS = 64
+SEATS = 49  # of 64: what one client has that may operate
 LAST = re.compile(rb'\{"end":.*\}\n')  # the message with which a stream ends
 
 
@@ -69,14 +69,14 @@ async def asked(socket, lines):
     return await socket.receive()
 
 
-def test_sixty_four_sessions_and_one_more(room, server):
+def test_sessions_of_one_client_and_one_more(room, server):
     async def work(client):
         sockets = [await client.ws_connect(server.url + "/session") for _ in range(SEATS)]
         answers = [await asked(one, "begin\nput . seat/%d x\ncommit .\n" % at) for at, one in enumerate(sockets)]
         assert all("=> committed 1\n" in one.data for one in answers)
         try:
             await client.ws_connect(server.url + "/session")
-            raise AssertionError("a sixty-fifth session was let in")
+            raise AssertionError("a client has more than its share")
         except aiohttp.WSServerHandshakeError as refused:
             assert refused.status == 503
         async with client.post(server.url + "/call", data="stats\n") as response:

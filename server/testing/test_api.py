@@ -16,7 +16,7 @@ sys.path[:0] = [os.path.dirname(os.path.abspath(__file__))]
 import aiohttp  # noqa: E402
 
 from machine import LONGEST  # noqa: E402
-from test_served import refusal, served, told  # noqa: E402
+from test_served import SHARE, refusal, served, told  # noqa: E402
 
 
 async def transact(client, body, query="", **headers):
@@ -143,7 +143,7 @@ class Transactions(unittest.IsolatedAsyncioTestCase):
 
     async def test_no_seat_is_taken(self):
         async with served() as client, contextlib.AsyncExitStack() as sessions:
-            for _ in range(64):
+            for _ in range(SHARE):
                 await sessions.enter_async_context(client.ws_connect("/session"))
             self.assertEqual(await refusal(await client.post("/call", data="stats")), (503, "seats"))
             self.assertEqual((await transact(client, put(("a", "1"))))[0], 200)
@@ -312,7 +312,7 @@ class Rows(unittest.IsolatedAsyncioTestCase):
             self.fail("it is held for ever")
 
     async def test_snapshots_that_are_held_are_bounded(self):
-        """One address holds half of them, and all together the whole. Who holds nothing is told all the same."""
+        """One address holds its share, and all together the whole. Who holds nothing is told all the same."""
         async with served("--history", "600") as client, at_address(client, "127.0.0.2") as second, \
                 at_address(client, "127.0.0.3") as third:
             await client.put("/key/b", data="1")
@@ -328,16 +328,15 @@ class Rows(unittest.IsolatedAsyncioTestCase):
                 self.assertTrue(100 < int(reply.headers["Retry-After"]) <= 300, reply.headers)
                 return json.loads(await reply.text())["of"]
 
-            self.assertEqual(await hold(client, 2, 129), {200})
-            for path in ("/key/a?hold=300&at=130", "/rows?limit=1", "/rows?hold=1"):
+            self.assertEqual(await hold(client, 2, 197), {200})
+            for path in ("/key/a?hold=300&at=198", "/rows?limit=1", "/rows?hold=1"):
                 self.assertEqual(await refused_to(client, path), "client", path)
             self.assertEqual(await hold(client, 2, 3), {200})
             self.assertEqual((await client.get("/rows")).status, 200)
-            self.assertEqual(await hold(second, 2, 2) | await hold(second, 130, 256), {200})
-            self.assertEqual(await refused_to(second, "/key/a?hold=1&at=257"), "client")
+            self.assertEqual(await hold(second, 2, 2) | await hold(second, 198, 256), {200})
             self.assertEqual(await hold(third, 257, 257), {200})
             self.assertEqual(await refused_to(third, "/key/a?hold=300&at=258"), "all")
-            self.assertEqual(await hold(third, 2, 129), {200, 503})
+            self.assertEqual(await hold(third, 2, 197), {200, 503})
 
     async def test_a_page_that_holds_nothing(self):
         """It is told, and so is the next one, as long as the snapshot is there."""

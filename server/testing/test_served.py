@@ -19,6 +19,7 @@ from machine import LONGEST, SERVER  # noqa: E402  it adds the folders of what f
 from ripsawbean import Database  # noqa: E402
 
 END_SECONDS = 10
+SHARE = 49  # of 64 sessions: what one client has that may operate
 ROW = "begin\nput . %s %s\ncommit .\n"
 
 
@@ -201,9 +202,9 @@ class Names(unittest.IsolatedAsyncioTestCase):
 
 
 class Seats(unittest.IsolatedAsyncioTestCase):
-    async def test_sixty_four_sessions_and_no_more(self):
+    async def test_sessions_of_one_client_and_no_more(self):
         async with served() as client:
-            sockets = [await client.ws_connect("/session") for _ in range(64)]
+            sockets = [await client.ws_connect("/session") for _ in range(SHARE)]
             for at, socket in enumerate(sockets):
                 await socket.send_str(ROW % ("k%d" % at, "v"))
             for socket in sockets:

@@ -39,7 +39,8 @@ class Rows(NamedTuple):
 
 
 class Done(NamedTuple):
-    """A transaction that committed. Results have None for a write, a Row for `get`, Rows for `scan`."""
+    """A transaction that committed. Results have None for a write, a Row for `get`, Rows for `scan`. They are None
+    themselves where it wrote, and its answer had more than 4096 bytes and was lost: read anew."""
 
     timestamp: int
     branch: str

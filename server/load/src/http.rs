@@ -8,6 +8,12 @@ pub fn request(method: &str, port: u16, path: &str, body: &str) -> Vec<u8> {
     request_with(method, port, path, "", body)
 }
 
+/// The head's line with one of the two tokens that the bench gives to this server, because one client doesn't get all
+/// seats. Without `--tokens` nobody looks at it.
+pub fn shown(client: usize) -> String {
+    format!("Authorization: Bearer load-{}-0123456789abcdef\r\n", client % 2)
+}
+
 /// The same with further headers, each with its end.
 pub fn request_with(method: &str, port: u16, path: &str, headers: &str, body: &str) -> Vec<u8> {
     let length = body.len();

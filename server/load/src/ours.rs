@@ -28,7 +28,7 @@ pub struct Ours {
 impl Ours {
     fn message(&self, text: &str) -> Vec<u8> {
         match self.way {
-            Way::Calls => http::request("POST", self.port, "/call", text),
+            Way::Calls => http::request_with("POST", self.port, "/call", &http::shown(0), text),
             Way::Messages | Way::Lines => websocket::framed(text.as_bytes()),
         }
     }
@@ -141,7 +141,7 @@ pub struct Feed {
 impl Feed {
     pub fn open(port: u16, path: &str) -> Result<Feed, Failure> {
         let mut wire = Wire::new(port)?;
-        wire.send(&http::request("GET", port, path, ""))?;
+        wire.send(&http::request_with("GET", port, path, &http::shown(0), ""))?;
         http::head(&mut wire)?;
         Ok(Feed { wire, held: Vec::new() })
     }

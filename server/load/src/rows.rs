@@ -41,7 +41,7 @@ fn walk(port: u16, limit: usize) -> Result<usize, Failure> {
     let (mut wire, mut page, mut count) = (Wire::new(port)?, Vec::new(), 0);
     let mut path = format!("/rows?{SPAN}&limit={limit}");
     loop {
-        wire.send(&http::request("GET", port, &path, ""))?;
+        wire.send(&http::request_with("GET", port, &path, &http::shown(0), ""))?;
         http::answer(&mut wire, &mut page)?;
         count += rows_in(&page);
         match next_in(&page) {
@@ -82,7 +82,7 @@ pub fn feeds(peer: &dyn Peer, port: u16, count: usize) -> Result<String, Failure
 /// The arguments of a feed that goes on from now, for which the server holds what comes.
 fn place(port: u16) -> Result<String, Failure> {
     let (mut wire, mut identity, mut timestamp) = (Wire::new(port)?, String::new(), String::new());
-    wire.send(&http::request("GET", port, &format!("/key/{FIRST}?hold=300"), ""))?;
+    wire.send(&http::request_with("GET", port, &format!("/key/{FIRST}?hold=300"), &http::shown(0), ""))?;
     http::head_with(&mut wire, |name, value| match name {
         "ripsawbean-identity" => identity = value.to_string(),
         "ripsawbean-timestamp" => timestamp = value.to_string(),

@@ -28,7 +28,8 @@ impl Transact {
     }
 
     fn then(&self, headers: &str, steps: &str) -> Vec<u8> {
-        http::request_with("POST", self.ours.port, "/transact", headers, &format!("{{\"then\":[{steps}]}}"))
+        let headers = http::shown(0) + headers;
+        http::request_with("POST", self.ours.port, "/transact", &headers, &format!("{{\"then\":[{steps}]}}"))
     }
 }
 

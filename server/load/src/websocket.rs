@@ -1,8 +1,10 @@
 //! The client's side of a WebSocket (RFC 6455), as far as a load needs it: whole texts out, whole texts in.
 
 use crate::failure::{refused, Failure};
+use crate::http;
 use crate::peer::Wire;
 use std::io::{self, BufRead, Read};
+use std::sync::atomic::{AtomicUsize, Ordering::Relaxed};
 
 const TEXT: u8 = 1;
 const CLOSE: u8 = 8;
@@ -12,10 +14,12 @@ const PONG: u8 = 10;
 const MASK: [u8; 4] = [0; 4];
 
 pub fn open(port: u16, path: &str) -> Result<Wire, Failure> {
+    static OPENED: AtomicUsize = AtomicUsize::new(0);
     let mut wire = Wire::new(port)?;
+    let shown = http::shown(OPENED.fetch_add(1, Relaxed));
     let head = format!(
         "GET {path} HTTP/1.1\r\nHost: 127.0.0.1:{port}\r\nUpgrade: websocket\r\nConnection: Upgrade\r\n\
-         Sec-WebSocket-Key: dGhlIHNhbXBsZSBub25jZQ==\r\nSec-WebSocket-Version: 13\r\n\r\n"
+         Sec-WebSocket-Key: dGhlIHNhbXBsZSBub25jZQ==\r\nSec-WebSocket-Version: 13\r\n{shown}\r\n"
     );
     wire.send(head.as_bytes())?;
     let mut answer = Vec::new();

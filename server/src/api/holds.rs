@@ -6,50 +6,30 @@
 //! GET /rows?hold=0    nothing is held: the page behind it is told as long as its snapshot is there
 //! ```
 //!
-//! A hold is of a client: its network, as connections count it, and its token's name where it has one.
-//!
 //! 1. There is one protection for each timestamp, and `MOST` of them at most. It lives as long as the longest hold of it.
-//! 2. A client holds `MOST_OF_ONE` of them at most. One that several hold counts for each of them.
+//! 2. A client holds its share of them (`shares`). One that several hold counts for each of them.
 //! 3. All holds together are `MOST_HOLDS` at most, because any number of clients may hold one snapshot.
 //! 4. A protection may be released before its time, where it lags more than --max-lag. Then it is held no longer.
 
 use super::seconds_in;
-use crate::connections::network_of;
 use crate::core::Core;
 use crate::door::Turn;
-use crate::gate::Who;
 use crate::http::Request;
 use crate::outcome::Outcome;
 use crate::query::Arguments;
 use crate::refusal::Refusal;
 use crate::seats::Owner;
+use crate::shares::{full, Client, Full};
 use ripsawbean::{Command, Refusal as Refused};
 use std::collections::BTreeMap;
-use std::net::IpAddr;
-use std::sync::Arc;
 use std::time::{Duration, Instant};
 
 /// Snapshots at once.
 const MOST: usize = 256;
-/// Those of one client, so that one leaves as many to the others.
-const MOST_OF_ONE: usize = MOST / 2;
 /// Holds of all clients. They take some two megabytes.
 const MOST_HOLDS: usize = 64 * MOST;
 /// Seconds for which a request may hold a snapshot.
 const LONGEST: f64 = 300.0;
-
-/// Whose a hold is.
-#[derive(Clone, Debug, PartialEq, Eq, PartialOrd, Ord)]
-pub struct Client {
-    network: IpAddr,
-    name: Arc<str>,
-}
-
-impl Client {
-    pub fn new(address: IpAddr, who: &Who) -> Client {
-        Client { network: network_of(address), name: who.shared_name() }
-    }
-}
 
 /// What a request asks to be held, for whom.
 #[derive(Clone, Debug)]
@@ -60,14 +40,17 @@ pub struct Wanted {
 
 impl Wanted {
     pub fn of(request: &Request, given: &Arguments) -> Result<Wanted, Refusal> {
-        let by = Client::new(request.connection.peer.ip(), &request.who);
-        Ok(Wanted { by, time: seconds_in(given, "hold", LONGEST)? })
+        Ok(Wanted { by: request.client.clone(), time: seconds_in(given, "hold", LONGEST)? })
     }
 
     /// What a request of a client of loopback asks that says nothing.
     #[cfg(test)]
     pub fn unsaid() -> Wanted {
-        Wanted { by: Client::new([127, 0, 0, 1].into(), &Who::anyone()), time: None }
+        Wanted { by: crate::shares::LOOPBACK.clone(), time: None }
+    }
+
+    pub fn by(&self) -> &Client {
+        &self.by
     }
 
     /// For how long, where `unsaid` is what nothing said stands for. `None`: not at all.
@@ -90,44 +73,21 @@ struct Snapshot {
     until: Instant,
 }
 
-/// Whose holds leave no room for one more, and when the first of them ends.
-#[derive(Clone, Copy, Debug)]
-enum Full {
-    OfOne(Instant),
-    OfAll(Instant),
-}
-
-impl Full {
-    fn until(self) -> Instant {
-        let (Full::OfOne(until) | Full::OfAll(until)) = self;
-        until
-    }
-
-    fn refusal(self, now: Instant) -> Refusal {
-        let (of, why) = match self {
-            Full::OfOne(_) => ("client", "this client holds as many snapshots as one may"),
-            Full::OfAll(_) => ("all", "all clients together hold as many snapshots as they may"),
-        };
-        Refusal::busy_for("holds", why, self.until().saturating_duration_since(now)).with("of", of)
-    }
-}
-
 impl Holds {
-    /// What is in the way of a client's hold of a snapshot.
-    fn full(&self, client: &Client, timestamp: u64) -> Option<Full> {
-        if !self.ends.contains_key(&(client.clone(), timestamp)) {
-            let own = self.ends.range((client.clone(), 0)..=(client.clone(), u64::MAX)).map(|(_, &end)| end);
-            if own.clone().count() >= MOST_OF_ONE {
-                return own.min().map(Full::OfOne);
-            }
-            if self.ends.len() >= MOST_HOLDS {
-                return self.ends.values().min().copied().map(Full::OfAll);
-            }
-        }
-        if self.snapshots.len() < MOST || self.snapshots.contains_key(&timestamp) {
-            return None;
-        }
-        self.snapshots.values().map(|snapshot| snapshot.until).min().map(Full::OfAll)
+    /// Whose holds leave no room for a client's hold of a snapshot, and when the first of them ends.
+    fn full(&self, client: &Client, timestamp: u64) -> Option<(Full, Instant)> {
+        let own = self.ends.range((client.clone(), 0)..=(client.clone(), u64::MAX)).map(|(_, &end)| end);
+        // What stands already counts no more.
+        let one_more = |is_held: bool, count: usize| if is_held { 0 } else { count + 1 };
+        let is_own = self.ends.contains_key(&(client.clone(), timestamp));
+        let all = one_more(self.snapshots.contains_key(&timestamp), self.snapshots.len());
+        let (full, first) = match full(MOST, client, one_more(is_own, own.clone().count()), all) {
+            Some(Full::OfOne) => (Full::OfOne, own.min()),
+            Some(Full::OfAll) => (Full::OfAll, self.snapshots.values().map(|snapshot| snapshot.until).min()),
+            None if one_more(is_own, self.ends.len()) > MOST_HOLDS => (Full::OfAll, self.ends.values().min().copied()),
+            None => return None,
+        };
+        first.map(|first| (full, first))
     }
 
     fn add(&mut self, client: &Client, timestamp: u64, protection: u64, until: Instant) {
@@ -149,12 +109,12 @@ impl Core {
 
     fn hold_by(&mut self, client: &Client, timestamp: u64, now: Instant, time: Duration) -> Result<(), Refusal> {
         let mut full = self.holds.full(client, timestamp);
-        if full.is_some_and(|full| full.until() <= now) {
+        if full.is_some_and(|(_, until)| until <= now) {
             self.let_go_over(now);
             full = self.holds.full(client, timestamp);
         }
-        if let Some(full) = full {
-            return Err(full.refusal(now));
+        if let Some((full, until)) = full {
+            return Err(full.refusal("holds", "snapshots that are held", until.saturating_duration_since(now)));
         }
         let protection = self.protection_of(timestamp)?;
         self.holds.add(client, timestamp, protection, now + time);
@@ -164,7 +124,7 @@ impl Core {
     /// Holds it for one client of loopback.
     #[cfg(test)]
     pub fn hold_snapshot(&mut self, timestamp: u64, time: Duration) -> Result<(), Refusal> {
-        self.hold_by(&Client::new([127, 0, 0, 1].into(), &Who::anyone()), timestamp, Instant::now(), time)
+        self.hold_by(&crate::shares::LOOPBACK, timestamp, Instant::now(), time)
     }
 
     /// The protection of a snapshot, which is made where none stands.
@@ -205,8 +165,9 @@ impl Core {
 #[cfg(test)]
 mod tests {
     use super::*;
-    use crate::gate::Right;
+    use crate::gate::{Right, Who};
     use crate::testing::{core, put, session, tidy};
+    use std::net::IpAddr;
 
     const MINUTE: Duration = Duration::from_secs(60);
 
@@ -265,44 +226,46 @@ mod tests {
     }
 
     #[test]
-    fn a_client_has_a_half_and_all_together_the_whole() {
-        let mut core = with_snapshots(257);
+    fn a_client_has_its_share_and_all_together_the_whole() {
+        let mut core = with_snapshots(253);
         let (now, own) = (Instant::now(), |name: &'static str| client("192.0.2.1", name));
         let mut hold = |timestamp, client: &Client, time| core.hold_by(client, timestamp, now, time);
-        for timestamp in 1..=128 {
+        for timestamp in 1..=192 {
             hold(timestamp, &own("one"), MINUTE).expect("it holds");
         }
-        assert_eq!(refused(hold(129, &own("one"), MINUTE)), ("client".into(), "60".into()));
-        hold(128, &own("one"), MINUTE * 2).expect("it holds it already");
+        assert_eq!(refused(hold(193, &own("one"), MINUTE)), ("client".into(), "60".into()));
+        hold(192, &own("one"), MINUTE * 2).expect("it holds it already");
         // What the others hold too counts for each of them, and is no further snapshot.
-        for timestamp in 1..=64 {
+        for timestamp in 1..=160 {
             hold(timestamp, &own("other"), MINUTE / 4).expect("it holds");
         }
-        for timestamp in 129..=192 {
+        for timestamp in 193..=224 {
             hold(timestamp, &own("other"), MINUTE / 2).expect("it holds");
         }
-        assert_eq!(refused(hold(193, &own("other"), MINUTE)), ("client".into(), "15".into()));
-        for timestamp in 193..=256 {
+        assert_eq!(refused(hold(225, &own("other"), MINUTE)), ("client".into(), "15".into()));
+        for timestamp in 225..=252 {
             hold(timestamp, &own("third"), MINUTE * 3).expect("it holds");
         }
         // The first snapshot that ends is one that the second client alone holds.
-        assert_eq!(refused(hold(257, &own("third"), MINUTE)), ("all".into(), "30".into()));
+        assert_eq!(refused(hold(253, &own("third"), MINUTE)), ("all".into(), "30".into()));
         hold(1, &own("third"), MINUTE).expect("it is held already");
-        assert_eq!(core.ledger.protections.len(), 256);
+        let operator = Client::new([192, 0, 2, 1].into(), &Who::anyone());
+        hold(253, &operator, MINUTE).expect("some are kept for operators");
+        assert_eq!(core.ledger.protections.len(), 253);
     }
 
     #[test]
     fn what_is_over_makes_room_at_once() {
-        let mut core = with_snapshots(129);
+        let mut core = with_snapshots(193);
         let (now, one) = (Instant::now(), client("192.0.2.1", ""));
-        for timestamp in 1..=128 {
+        for timestamp in 1..=192 {
             core.hold_by(&one, timestamp, now, Duration::from_millis(1000 * timestamp + 1)).expect("it holds");
         }
         let second = Duration::from_secs(1);
-        assert_eq!(refused(core.hold_by(&one, 129, now, MINUTE)), ("client".into(), "2".into()));
-        assert_eq!(refused(core.hold_by(&one, 129, now + second, MINUTE)), ("client".into(), "1".into()));
-        core.hold_by(&one, 129, now + 2 * second, MINUTE).expect("the first one is over");
-        assert_eq!((core.holds.snapshots.len(), core.ledger.protections.len()), (128, 128));
+        assert_eq!(refused(core.hold_by(&one, 193, now, MINUTE)), ("client".into(), "2".into()));
+        assert_eq!(refused(core.hold_by(&one, 193, now + second, MINUTE)), ("client".into(), "1".into()));
+        core.hold_by(&one, 193, now + 2 * second, MINUTE).expect("the first one is over");
+        assert_eq!((core.holds.snapshots.len(), core.ledger.protections.len()), (192, 192));
     }
 
     #[test]
@@ -319,15 +282,6 @@ mod tests {
         core.hold_by(&anyone(7), 1, now, MINUTE).expect("it holds it already");
         core.hold_by(&anyone(MOST_HOLDS), 1, now + MINUTE, MINUTE).expect("the others are over");
         assert_eq!((core.holds.ends.len(), core.ledger.protections.len()), (1, 1));
-    }
-
-    #[test]
-    fn a_client_is_a_network_and_a_name() {
-        let same = |one: (&str, &str), other: (&str, &str)| client(one.0, one.1) == client(other.0, other.1);
-        assert!(same(("2001:db8:0:1::1", "a"), ("2001:db8:0:1:ffff::2", "a")));
-        assert!(same(("192.0.2.1", ""), ("::ffff:192.0.2.1", "")));
-        assert!(!same(("2001:db8:0:1::1", "a"), ("2001:db8:0:2::1", "a")));
-        assert!(!same(("192.0.2.1", "a"), ("192.0.2.1", "b")) && !same(("192.0.2.1", "a"), ("192.0.2.2", "a")));
     }
 
     #[test]

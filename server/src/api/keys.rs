@@ -30,6 +30,7 @@ use crate::query::{arguments, number_of, percent_decoded};
 use crate::refusal::Refusal;
 use crate::routes::Server;
 use crate::seats::Owner;
+use crate::shares::Client;
 use ripsawbean::{Command, Refusal as Refused};
 use std::borrow::Cow;
 use std::sync::Arc;
@@ -107,17 +108,17 @@ async fn read(server: &Server, key: &[u8], at: Option<u64>, hold: &Wanted, until
         Ok(read)
     };
     if at.is_some() {
-        return at_snapshot(server, at, until, Length::Short, held).await;
+        return at_snapshot(server, hold.by(), at, until, Length::Short, held).await;
     }
     let is_current = |core: &Core| core.ledger.closed >= core.ledger.greatest;
     let newest = server.door.run(|core| is_current(core).then(|| held(core, core.ledger.closed))).transpose()?;
     match newest {
         Some(read) => Ok(read),
         None => {
-            let read = read_by_transaction(server, key, until).await?;
+            let read = read_by_transaction(server, hold.by(), key, until).await?;
             if hold.time(None).is_some() {
                 // A snapshot can be held once it is closed.
-                at_snapshot(server, Some(read.timestamp), until, Length::Short, held).await?;
+                at_snapshot(server, hold.by(), Some(read.timestamp), until, Length::Short, held).await?;
             }
             Ok(read)
         }
@@ -139,9 +140,9 @@ fn read_at(core: &mut Core, key: &[u8], at: u64) -> Result<Read, Refusal> {
     Ok(Read { timestamp: at, value, version, rests: core.journal.needed() })
 }
 
-async fn read_by_transaction(server: &Server, key: &[u8], until: Instant) -> Result<Read, Refusal> {
+async fn read_by_transaction(server: &Server, client: &Client, key: &[u8], until: Instant) -> Result<Read, Refusal> {
     let plan = Plan { then: vec![Step::Get { key: Cow::Borrowed(key) }], ..Plan::default() };
-    let End::Committed(mut committed) = run_until(server, &plan, until, None, None).await? else {
+    let End::Committed(mut committed) = run_until(server, client, &plan, until, None, None).await? else {
         return Err(Stop::Unexpected.refusal());
     };
     let Committed { timestamp, rests, .. } = committed;
@@ -187,7 +188,7 @@ async fn write(server: &Arc<Server>, mut request: Request, kind: Kind) -> Result
         Kind::Delete if !is_matched => no_value(failed.timestamp),
         _ => other_version(failed),
     };
-    let answered = answer_once(server, asked, &plan, start + wait, &form_of, refused, None).await;
+    let answered = answer_once(server, &asked, &plan, start + wait, &form_of, refused, None).await;
     server.metrics.transactions.note(start.elapsed());
     Ok(answered?.into_response(None))
 }

@@ -9,64 +9,79 @@
 //! key k, put a 2     422 idempotencykey
 //! ```
 //!
-//! 1. Remembered is what has committed. Whatever failed has left nothing, and is run again.
-//! 2. It stays for its time: where there is no room, a new key is refused before its transaction begins.
+//! 1. Remembered is what has committed rows. Whatever failed or only read has left nothing, and is run again.
+//! 2. It stays for its time, whatever others do. Each client has its share of `MOST_BYTES` (`shares`): where that leaves
+//!    no room for an answer, its transaction isn't committed.
 //! 3. Of two requests with one key at once, the second waits for the first.
 //! 4. An answer is remembered under the lock of its commit, and stands in the journal in that commit's batch. So a
 //!    restart and a checkpoint find the one where they find the other.
+//! 5. Of a text of more than `LONGEST` bytes what is made instead is remembered: its head, and a digest.
 
-use super::run::Committed;
+use super::run::{Committed, Stop};
+use super::transact::head_of;
 use super::Answer;
 use crate::http::Request;
-use crate::journal::{Answered, Form, MOST, MOST_BYTES};
+use crate::journal::{Answered, Form};
 use crate::refusal::Refusal;
+use crate::shares::{Client, Held, Table as Shared};
 use parking_lot::Mutex;
 use sha2::{Digest, Sha256};
 use std::collections::{HashMap, HashSet, VecDeque};
+use std::sync::Arc;
 use std::time::{Duration, Instant};
 use tokio::sync::watch;
 
+/// Bytes that all answers may count: 1,500 of 200 bytes a second have room in one client's share for a minute.
+pub const MOST_BYTES: usize = 72 << 20;
+/// What an answer counts beside its text: no less than it takes in the table.
+const ENTRY_BYTES: usize = 400;
+/// Bytes of a text that is remembered as it is.
+const LONGEST: usize = 4096;
 const LONGEST_KEY: usize = 64;
 /// Answers, and bytes of them, that are copied while the table is held.
 const SOME: usize = 1000;
 const SOME_BYTES: usize = 1 << 20;
 
 pub struct Remembered {
-    time: Duration,
+    /// Milliseconds for which an answer is remembered.
+    time: u64,
     began: Instant,
     /// Milliseconds that servers of this database have run before, as far as answers tell.
     before: u64,
+    room: Arc<Shared>,
     table: Mutex<Table>,
 }
 
+/// By the digest of a token's name and a key.
 #[derive(Default)]
 struct Table {
-    /// By the digest of a token's name and a key.
-    entries: HashMap<u128, Entry>,
-    /// Those that are answered, the oldest first.
-    until: VecDeque<(Instant, u128)>,
-    /// How many were forgotten.
+    /// Requests that run. The end of one drops its sender.
+    running: HashMap<u128, watch::Sender<()>>,
+    /// The number of each answer.
+    numbers: HashMap<u128, u64>,
+    /// Answers with what each counts, the oldest first.
+    answered: VecDeque<(Answered, Held)>,
+    /// How many were forgotten: the number of the oldest.
     forgotten: u64,
-    bytes: usize,
 }
 
-enum Entry {
-    /// It runs. Its end drops the sender.
-    Running(watch::Sender<()>),
-    Answered(Answered),
-}
-
-/// What a request with a key asks.
-#[derive(Clone, Copy)]
+/// Who asks, and what, where it has a key.
 pub struct Asked {
+    pub client: Client,
+    key: Option<Key>,
+}
+
+#[derive(Clone, Copy)]
+struct Key {
     named: u128,
     asked: u128,
 }
 
 impl Asked {
     /// By the token's name, its key, and the parts of its request.
-    pub fn new(who: &str, key: &str, request: &[&[u8]]) -> Asked {
-        Asked { named: digest(&[who.as_bytes(), key.as_bytes()]), asked: digest(request) }
+    pub fn new(client: &Client, who: &str, key: &str, request: &[&[u8]]) -> Asked {
+        let key = Key { named: digest(&[who.as_bytes(), key.as_bytes()]), asked: digest(request) };
+        Asked { client: client.clone(), key: Some(key) }
     }
 }
 
@@ -86,37 +101,47 @@ impl Remembered {
     /// With what earlier servers of the database have answered, the oldest first.
     pub fn new(time: Duration, answers: VecDeque<Answered>) -> Remembered {
         let (began, before) = (Instant::now(), answers.iter().map(|one| one.time).max().unwrap_or(0));
+        let time = u64::try_from(time.as_millis()).unwrap_or(u64::MAX);
+        let room = Shared::of_places(MOST_BYTES, "remembered", "bytes of remembered answers");
         // Of a key's answers the last one counts.
         let mut keys = HashSet::new();
         let mut last: Vec<Answered> = answers.into_iter().rev().filter(|one| keys.insert(one.named)).collect();
         last.sort_by_key(|one| one.time);
         let mut table = Table::default();
-        for one in last {
-            let age = Duration::from_millis(before - one.time);
-            if let Some(left) = time.checked_sub(age) {
-                table.add(one, began + left);
-            }
+        for one in last.into_iter().filter(|one| before - one.time < time) {
+            let mut held = room.begin(&Client::SERVER);
+            held.set(bytes_of(&one.form));
+            table.add(one, held);
         }
-        Remembered { time, began, before, table: Mutex::new(table) }
+        Remembered { time, began, before, room, table: Mutex::new(table) }
     }
 
-    /// What a request asks, where it has a key.
-    pub fn asked(&self, request: &Request, body: &[u8]) -> Result<Option<Asked>, Refusal> {
-        let Some(header) = request.header("idempotency-key") else { return Ok(None) };
+    /// Milliseconds that servers of this database have run.
+    fn now(&self) -> u64 {
+        let passed = u64::try_from(self.began.elapsed().as_millis()).unwrap_or(u64::MAX);
+        self.before.saturating_add(passed)
+    }
+
+    /// What a request asks.
+    pub fn asked(&self, request: &Request, body: &[u8]) -> Result<Asked, Refusal> {
+        let client = &request.client;
+        let Some(header) = request.header("idempotency-key") else {
+            return Ok(Asked { client: client.clone(), key: None });
+        };
         let key = key_in(header).ok_or_else(|| {
             let why = "an Idempotency-Key has 1 to 64 printable characters without a space, quote or backslash";
             Refusal::new(400, "idempotencykey", why)
         })?;
         let [matched, others] = ["if-match", "if-none-match"].map(|name| request.list(name));
         let head = [request.method.name(), &request.path, &request.query, &matched, &others].map(str::as_bytes);
-        Ok(Some(Asked::new(request.who.name(), &key, &[&head[..], &[body]].concat())))
+        Ok(Asked::new(client, request.who.name(), &key, &[&head[..], &[body]].concat()))
     }
 
     /// The answer that was given before, or the word to run. A request that runs is waited for until then.
-    pub async fn begin(&self, asked: Option<Asked>, until: Instant) -> Result<Begun<'_>, Refusal> {
-        if let Some(asked) = asked {
+    pub async fn begin(&self, asked: &Asked, until: Instant) -> Result<Begun<'_>, Refusal> {
+        if let Some(key) = asked.key {
             loop {
-                match self.find(asked)? {
+                match self.find(key, &asked.client)? {
                     Found::Answer(answer) => return Ok(Begun::Told(answer)),
                     Found::Nothing => break,
                     Found::Running(mut end) => {
@@ -128,27 +153,25 @@ impl Remembered {
                 }
             }
         }
-        Ok(Begun::Runs(Running { remembered: self, asked }))
+        Ok(Begun::Runs(Running { remembered: self, key: asked.key, client: asked.client.clone() }))
     }
 
     /// Looks for an answer. Where there is nothing, it is noted that the request runs.
-    fn find(&self, asked: Asked) -> Result<Found, Refusal> {
+    fn find(&self, key: Key, client: &Client) -> Result<Found, Refusal> {
         let mut table = self.table.lock();
-        table.forget(Instant::now());
-        match table.entries.get(&asked.named) {
-            Some(Entry::Answered(answered)) if answered.asked != asked.asked => {
-                Err(Refusal::new(422, "idempotencykey", "another request had this Idempotency-Key"))
-            }
-            Some(Entry::Answered(answered)) => Ok(Found::Answer(Answer::again(answered))),
-            Some(Entry::Running(end)) => Ok(Found::Running(end.subscribe())),
-            None if table.entries.len() >= MOST || table.bytes >= MOST_BYTES => {
-                Err(Refusal::busy("remembered", "too many answers are remembered: nothing was changed"))
-            }
-            None => {
-                table.entries.insert(asked.named, Entry::Running(watch::channel(()).0));
-                Ok(Found::Nothing)
-            }
+        table.forget(self.now(), self.time);
+        if let Some(answered) = table.answered_to(key.named) {
+            return match answered.asked == key.asked {
+                true => Ok(Found::Answer(Answer::again(answered))),
+                false => Err(Refusal::new(422, "idempotencykey", "another request had this Idempotency-Key")),
+            };
         }
+        if let Some(end) = table.running.get(&key.named) {
+            return Ok(Found::Running(end.subscribe()));
+        }
+        self.room.check(client)?;
+        table.running.insert(key.named, watch::channel(()).0);
+        Ok(Found::Nothing)
     }
 
     // ---- checkpoints
@@ -156,7 +179,7 @@ impl Remembered {
     /// How many answers there were so far.
     pub fn count(&self) -> u64 {
         let table = self.table.lock();
-        table.forgotten + table.until.len() as u64
+        table.forgotten + table.answered.len() as u64
     }
 
     /// Some answers from the one of a number on, below the one of another number, and the number behind them. What was
@@ -165,38 +188,42 @@ impl Remembered {
         let table = self.table.lock();
         let (from, mut bytes) = (from.max(table.forgotten), 0);
         let most = usize::try_from(below.saturating_sub(from)).unwrap_or(usize::MAX).min(SOME);
-        let behind = table.until.iter().skip((from - table.forgotten) as usize).take(most);
-        let answered = behind.filter_map(|(_, named)| match table.entries.get(named) {
-            Some(Entry::Answered(answered)) => Some(answered.clone()),
-            _ => None,
-        });
+        let behind = table.answered.iter().skip((from - table.forgotten) as usize).take(most);
         let has_room = |one: &Answered| {
             let is_first = bytes == 0;
-            bytes += one.form.bytes();
+            bytes += bytes_of(&one.form);
             is_first || bytes <= SOME_BYTES
         };
-        let found: Vec<Answered> = answered.take_while(has_room).collect();
+        let found: Vec<Answered> = behind.map(|(answered, _)| answered.clone()).take_while(has_room).collect();
         let next = if found.is_empty() { below } else { from + found.len() as u64 };
         (found, next)
     }
 }
 
 impl Table {
-    fn add(&mut self, answered: Answered, until: Instant) {
-        self.bytes += answered.form.bytes();
-        self.until.push_back((until, answered.named));
-        self.entries.insert(answered.named, Entry::Answered(answered));
+    fn answered_to(&self, named: u128) -> Option<&Answered> {
+        let number = self.numbers.get(&named)?;
+        self.answered.get((number - self.forgotten) as usize).map(|(answered, _)| answered)
     }
 
-    fn forget(&mut self, now: Instant) {
-        while let Some((_, named)) = self.until.front().filter(|(until, _)| *until <= now) {
-            if let Some(Entry::Answered(answered)) = self.entries.remove(named) {
-                self.bytes -= answered.form.bytes();
-            }
-            self.until.pop_front();
+    fn add(&mut self, answered: Answered, held: Held) {
+        self.numbers.insert(answered.named, self.forgotten + self.answered.len() as u64);
+        self.answered.push_back((answered, held));
+    }
+
+    /// Forgets what was answered so many milliseconds ago.
+    fn forget(&mut self, now: u64, time: u64) {
+        while let Some((first, _)) = self.answered.front().filter(|(one, _)| one.time.saturating_add(time) <= now) {
+            self.numbers.remove(&first.named);
+            self.answered.pop_front();
             self.forgotten += 1;
         }
     }
+}
+
+/// What an answer counts.
+fn bytes_of(form: &Form) -> usize {
+    ENTRY_BYTES + if let Form::Text(text) = form { text.len() } else { 0 }
 }
 
 /// The first half of a SHA-256 of parts: whoever has keys finds no two requests that look the same.
@@ -213,29 +240,27 @@ fn digest(parts: &[&[u8]]) -> u128 {
 /// A request that runs. Where it ends without an answer, its key is free.
 pub struct Running<'a> {
     remembered: &'a Remembered,
-    asked: Option<Asked>,
+    key: Option<Key>,
+    client: Client,
 }
 
 impl Running<'_> {
-    /// What is remembered of a commit, where the request has a key.
-    fn answered(&self, timestamp: u64, form: impl FnOnce() -> Form) -> Option<Answered> {
-        let Asked { named, asked } = self.asked?;
-        let passed = u64::try_from(self.remembered.began.elapsed().as_millis()).unwrap_or(u64::MAX);
-        let time = self.remembered.before.saturating_add(passed);
-        Some(Answered { time, named, asked, timestamp, form: form() })
+    /// What is to be remembered of a request with this key, where there is room for it.
+    fn answered(&self, Key { named, asked }: Key, timestamp: u64, form: Form) -> Result<(Answered, Held), Refusal> {
+        let mut held = self.remembered.room.begin(&self.client);
+        held.grow(bytes_of(&form))?;
+        Ok((Answered { time: self.remembered.now(), named, asked, timestamp, form }, held))
     }
 
-    fn keep(&self, answered: Answered) {
-        self.remembered.table.lock().add(answered, Instant::now() + self.remembered.time);
+    fn keep(&self, (answered, held): (Answered, Held)) {
+        self.remembered.table.lock().add(answered, held);
     }
 }
 
 impl Drop for Running<'_> {
     fn drop(&mut self) {
-        let Some(Asked { named, .. }) = self.asked else { return };
-        let mut table = self.remembered.table.lock();
-        if let Some(Entry::Running(_)) = table.entries.get(&named) {
-            table.entries.remove(&named);
+        if let Some(Key { named, .. }) = self.key {
+            self.remembered.table.lock().running.remove(&named);
         }
     }
 }
@@ -246,15 +271,35 @@ pub struct Keep<'a> {
     pub form_of: &'a (dyn Fn(&Committed<'_>) -> Form + Sync),
 }
 
+/// What will be remembered of a commit, and how it is told the first time.
+pub struct Kept {
+    answered: (Answered, Held),
+    told: Form,
+}
+
+impl Kept {
+    pub fn answered(&self) -> &Answered {
+        &self.answered.0
+    }
+}
+
 impl Keep<'_> {
-    /// What will be remembered of a commit.
-    pub fn answered(&self, committed: &Committed<'_>) -> Option<Answered> {
-        self.running.answered(committed.timestamp, || (self.form_of)(committed))
+    /// What will be remembered of a commit, where its request has a key and it wrote something.
+    pub fn of(&self, committed: &Committed<'_>) -> Result<Option<Kept>, Stop> {
+        let Some(key) = self.running.key.filter(|_| committed.written > 0) else { return Ok(None) };
+        let told = (self.form_of)(committed);
+        let form = match &told {
+            Form::Text(text) if text.len() > LONGEST => Form::Text(head_of(committed, text).into()),
+            form => form.clone(),
+        };
+        let answered = self.running.answered(key, committed.timestamp, form).map_err(Stop::NotRemembered)?;
+        Ok(Some(Kept { answered, told }))
     }
 
-    /// It was made.
-    pub fn keep(&self, answered: Answered) {
+    /// It was made: how it is told.
+    pub fn keep(&self, Kept { answered, told }: Kept) -> Form {
         self.running.keep(answered);
+        told
     }
 }
 

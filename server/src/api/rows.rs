@@ -17,7 +17,6 @@ use super::plan::{Bounds, MOST_ROWS, ROWS};
 use super::run::{Row, Stop};
 use super::transact::tell_rows;
 use super::{bytes::MOST_BOUND, spelling_in, wait_in};
-use crate::budget::Held;
 use crate::core::Core;
 use crate::door::{Length, TURN};
 use crate::http::{Request, Response};
@@ -27,6 +26,8 @@ use crate::query::{arguments, percent_encoded, Arguments};
 use crate::refusal::Refusal;
 use crate::routes::Server;
 use crate::seats::Owner;
+use crate::session::place_of_answer;
+use crate::shares::{Client, Held};
 use ripsawbean::{Command, Room};
 use std::borrow::Cow;
 use std::sync::Arc;
@@ -50,7 +51,7 @@ pub async fn rows(server: &Arc<Server>, request: Request) -> Result<Response, Re
     if !span.is_within(request.who.keys()) {
         return Err(Refusal::other_keys());
     }
-    let mut place = super::place_of_answer(server, &request)?;
+    let mut place = place_of_answer(server, &request.client)?;
     let start = Instant::now();
     let until = start + wait;
     let Shown { timestamp, rows, next, rests } =
@@ -90,7 +91,7 @@ async fn in_turns(
     // Many parts are long work, though none of them is.
     let mut length = if limit as u64 > PART.rows { Length::Long } else { Length::Short };
     loop {
-        let part = at_snapshot(server, at, until, length, |core, at| match unread.has_room() {
+        let part = at_snapshot(server, hold.by(), at, until, length, |core, at| match unread.has_room() {
             true => Ok((at, reading.part(core, &span, at, hold)?)),
             false => Err(Refusal::crowded()),
         });
@@ -107,6 +108,7 @@ async fn in_turns(
 /// Works so long at a snapshot, once it is closed: at the closed timestamp where none is asked for.
 pub async fn at_snapshot<R>(
     server: &Server,
+    client: &Client,
     at: Option<u64>,
     until: Instant,
     length: Length,
@@ -115,7 +117,7 @@ pub async fn at_snapshot<R>(
     let mut moved = server.door.moved();
     loop {
         moved.borrow_and_update();
-        let worked = server.door.turn_of(length, |core, _| match at {
+        let worked = server.door.turn_of(length, client, |core, _| match at {
             Some(at) if at > core.ledger.closed.max(core.ledger.greatest) => {
                 let why = "this timestamp is above all that began";
                 Some(Err(Refusal::new(409, "notclosed", why).with_number("closed", core.ledger.closed)))
@@ -277,7 +279,7 @@ mod tests {
             let short: String = (0..3000).map(|at| format!("put . l{at:05} v\n")).collect();
             say(core, &mut one, &format!("begin\n{short}commit .\n"));
         });
-        let (at, unread) = (server.door.run(|core| core.ledger.closed), server.unread.begin([127, 0, 0, 1].into()));
+        let (at, unread) = (server.door.run(|core| core.ledger.closed), server.unread.begin(&crate::shares::LOOPBACK));
         let mut ends = [0; 3];
         for _ in 0..100 {
             let lo = format!("{}{:05}", dice.of(&["k", "l"]), dice.below(9000)).into_bytes();
@@ -300,7 +302,7 @@ mod tests {
         let server = server(&["--history", "0"]);
         let puts: String = (0..3000).map(|at| format!("put . k{at:05} v\n")).collect();
         let (dels, unread) =
-            (puts.replace("put", "del").replace(" v\n", "\n"), server.unread.begin([127, 0, 0, 1].into()));
+            (puts.replace("put", "del").replace(" v\n", "\n"), server.unread.begin(&crate::shares::LOOPBACK));
         let change = |lines: &str| {
             server.door.run(|core| {
                 let mut one = session(core);
@@ -397,7 +399,7 @@ mod tests {
         assert!(told.length() > 100_000 && !server.unread.is_empty());
         drop(told);
         assert!(server.unread.is_empty());
-        let mut unread = server.unread.begin([192, 0, 2, 1].into());
+        let mut unread = server.unread.begin(&crate::shares::LOOPBACK);
         unread.set(2 * crate::session::UNREAD);
         assert_eq!(status(page().await), (503, "answers"));
         drop(unread);

@@ -254,20 +254,17 @@ impl<'p> Running<'p> {
     /// What it is told is made before its commit, so that it stands in the journal with it.
     fn commit(&mut self, core: &mut Core, end: End<'p>, keep: Option<&Keep<'_>>) -> Result<End<'p>, Stop> {
         let End::Committed(mut told) = end else { return Ok(end) };
-        let answered = keep.and_then(|keep| keep.answered(&told));
+        let kept = keep.map_or(Ok(None), |keep| keep.of(&told))?;
         let mut lines = Vec::new();
-        if let Some(answered) = answered.as_ref().filter(|_| core.journal.keeps()) {
-            answered.write(&mut lines);
+        if let Some(kept) = kept.as_ref().filter(|_| core.journal.keeps()) {
+            kept.answered().write(&mut lines);
         }
         match core.commit_with(self.timestamp, lines) {
             Ok(Outcome::Committed { rows, .. }) if rows == told.written => {}
             Err(CallError::Unwritten) => return Err(Stop::Lost),
             other => return Err(self.stop(core, "commit", other)),
         }
-        if let Some((keep, answered)) = keep.zip(answered) {
-            told.form = Some(answered.form.clone());
-            keep.keep(answered);
-        }
+        told.form = keep.zip(kept).map(|(keep, kept)| keep.keep(kept));
         Ok(End::Committed(told))
     }
 

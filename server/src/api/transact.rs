@@ -19,7 +19,6 @@ use super::plan::Plan;
 use super::remembered::{Asked, Begun, Keep};
 use super::run::{Branch, Committed, End, Failed, Pace, Row, Running, Stop, Told};
 use super::{body_of, spelling_in, wait_in, Answer};
-use crate::budget::Held;
 use crate::core::Core;
 use crate::door::Length;
 use crate::http::{Request, Response};
@@ -27,7 +26,10 @@ use crate::journal::Form;
 use crate::query::arguments;
 use crate::refusal::Refusal;
 use crate::routes::Server;
+use crate::session::place_of_answer;
+use crate::shares::{Client, Held};
 use serde_json::{json, Value};
+use sha2::{Digest, Sha256};
 use std::io::Write;
 use std::sync::Arc;
 use std::time::Instant;
@@ -40,11 +42,11 @@ pub async fn transact(server: &Arc<Server>, mut request: Request) -> Result<Resp
     let asked = server.remembered.asked(&request, &body)?;
     let plan = Plan::of(&body)?;
     plan.check(&request.who)?;
-    let place = plan.answers_at_length().then(|| super::place_of_answer(server, &request)).transpose()?;
+    let place = plan.answers_at_length().then(|| place_of_answer(server, &request.client)).transpose()?;
     let form_of = |committed: &Committed<'_>| Form::Text(text_of(committed, spelling).into());
     let refused = |failed: Failed<'_>| refusal_of(&failed, spelling);
     let unread = place.as_ref().map(|place| &place.unread);
-    let answered = answer_once(server, asked, &plan, start + wait, &form_of, refused, unread).await;
+    let answered = answer_once(server, &asked, &plan, start + wait, &form_of, refused, unread).await;
     server.metrics.transactions.note(start.elapsed());
     Ok(answered?.into_response(place))
 }
@@ -52,7 +54,7 @@ pub async fn transact(server: &Arc<Server>, mut request: Request) -> Result<Resp
 /// Runs a plan, or gives the answer that its key had before.
 pub async fn answer_once(
     server: &Server,
-    asked: Option<Asked>,
+    asked: &Asked,
     plan: &Plan<'_>,
     until: Instant,
     form_of: &(dyn Fn(&Committed<'_>) -> Form + Sync),
@@ -63,7 +65,7 @@ pub async fn answer_once(
         Begun::Told(answer) => return Ok(answer),
         Begun::Runs(running) => running,
     };
-    match run_until(server, plan, until, Some(&Keep { running: &running, form_of }), unread).await? {
+    match run_until(server, &asked.client, plan, until, Some(&Keep { running: &running, form_of }), unread).await? {
         End::Committed(mut committed) => {
             let form = committed.form.take().unwrap_or_else(|| form_of(&committed));
             Ok(Answer::new(committed.timestamp, form).resting_on(committed.rests))
@@ -78,6 +80,7 @@ pub async fn answer_once(
 /// Runs a plan, anew as long as it is blocked, until then. Where its answer may be long it says what counts it.
 pub async fn run_until<'p>(
     server: &Server,
+    client: &Client,
     plan: &'p Plan<'_>,
     until: Instant,
     keep: Option<&Keep<'_>>,
@@ -88,7 +91,7 @@ pub async fn run_until<'p>(
         Length::Long => Pace::Turns,
     };
     loop {
-        match run_once(server, plan, pace, keep, unread).await {
+        match run_once(server, client, plan, pace, keep, unread).await {
             Ok(end) => return Ok(end),
             Err(Stop::Long) => pace = Pace::Turns,
             Err(Stop::Overtaken) => pace = Pace::Whole,
@@ -106,6 +109,7 @@ pub async fn run_until<'p>(
 /// Runs a plan once, in the lane where it isn't short.
 async fn run_once<'p>(
     server: &Server,
+    client: &Client,
     plan: &'p Plan<'_>,
     pace: Pace,
     keep: Option<&Keep<'_>>,
@@ -115,7 +119,7 @@ async fn run_once<'p>(
     let turn = |core: &mut Core, _| turns.turn(core, plan, pace, keep, unread).transpose();
     match pace {
         Pace::Short => server.door.turn(turn).unwrap_or(Err(Stop::Long)),
-        Pace::Turns | Pace::Whole => server.door.turns_in_lane(turn).await,
+        Pace::Turns | Pace::Whole => server.door.turns_in_lane(client, turn).await,
     }
 }
 
@@ -156,13 +160,8 @@ impl Drop for Turns<'_, '_> {
 
 fn text_of(committed: &Committed<'_>, spelling: Spelling) -> Vec<u8> {
     let mut out = Vec::with_capacity(100 + 50 * committed.results.len());
-    let branch = match committed.branch {
-        Branch::Then => "then",
-        Branch::Else => "else",
-    };
-    let Committed { timestamp, written, .. } = committed;
-    // Writing to a vector can't fail.
-    let _ = write!(out, "{{\"timestamp\":\"{timestamp}\",\"branch\":\"{branch}\",\"written\":{written},\"results\":[");
+    tell_head(&mut out, committed);
+    out.push(b'[');
     for (at, result) in committed.results.iter().enumerate() {
         if at > 0 {
             out.push(b',');
@@ -179,6 +178,25 @@ fn text_of(committed: &Committed<'_>, spelling: Spelling) -> Vec<u8> {
     }
     out.extend_from_slice(b"]}\n");
     out
+}
+
+/// What is told again of a text that is too long to be remembered: all but its results, and a digest of it.
+pub fn head_of(committed: &Committed<'_>, text: &[u8]) -> Vec<u8> {
+    let mut out = Vec::new();
+    tell_head(&mut out, committed);
+    // Writing to a vector can't fail.
+    let _ = writeln!(out, "null,\"digest\":\"{:x}\"}}", Sha256::digest(text));
+    out
+}
+
+/// All up to the results.
+fn tell_head(out: &mut Vec<u8>, Committed { timestamp, branch, written, .. }: &Committed<'_>) {
+    let branch = match branch {
+        Branch::Then => "then",
+        Branch::Else => "else",
+    };
+    // Writing to a vector can't fail.
+    let _ = write!(out, "{{\"timestamp\":\"{timestamp}\",\"branch\":\"{branch}\",\"written\":{written},\"results\":");
 }
 
 /// Rows as a list.
@@ -256,18 +274,18 @@ mod tests {
     #[tokio::test]
     async fn who_goes_away_between_two_turns_leaves_nothing() {
         let (server, plan) = (with_rows(), Plan::of(LONG.as_bytes()).expect("a plan"));
-        let mut run = Box::pin(run_until(&server, &plan, Instant::now(), None, None));
+        let mut run = Box::pin(run_until(&server, &crate::shares::LOOPBACK, &plan, Instant::now(), None, None));
         assert!(waits(run.as_mut()).await && undecided(&server) == 1);
         drop(run);
         assert_eq!((undecided(&server), server.door.run(|core| core.shouts)), (0, 0));
         // The lane is free.
-        assert!(run_until(&server, &plan, Instant::now(), None, None).await.is_ok());
+        assert!(run_until(&server, &crate::shares::LOOPBACK, &plan, Instant::now(), None, None).await.is_ok());
     }
 
     #[tokio::test]
     async fn a_plan_that_was_overtaken_commits_all_the_same() {
         let (server, plan) = (with_rows(), Plan::of(LONG.as_bytes()).expect("a plan"));
-        let mut run = Box::pin(run_until(&server, &plan, Instant::now(), None, None));
+        let mut run = Box::pin(run_until(&server, &crate::shares::LOOPBACK, &plan, Instant::now(), None, None));
         assert!(waits(run.as_mut()).await);
         let later = server.door.run(|core| {
             let mut one = session(core);
@@ -286,13 +304,13 @@ mod tests {
             r#"{"then":[{"put":"b","value":"1"}]}"#,
         ];
         let ask = |body: &'static str| {
-            let (server, asked) = (&server, Asked::new("", body, &[body.as_bytes()]));
+            let (server, asked) = (&server, Asked::new(&crate::shares::LOOPBACK, "", body, &[body.as_bytes()]));
             async move {
                 let plan = Plan::of(body.as_bytes()).expect("a plan");
                 let form_of = |_: &Committed<'_>| Form::Put;
                 let refused = |failed: Failed<'_>| refusal_of(&failed, Spelling::Text);
                 // It is no longer waited for others' transactions.
-                answer_once(server, Some(asked), &plan, Instant::now(), &form_of, refused, None).await
+                answer_once(server, &asked, &plan, Instant::now(), &form_of, refused, None).await
             }
         };
         let within = |body| tokio::time::timeout(Duration::from_secs(60), ask(body));
@@ -311,5 +329,40 @@ mod tests {
         let again = within(long).await.expect("the lane is free");
         assert_eq!(again.map(|answer| (answer.timestamp, answer.is_again)).ok(), Some((2, true)));
         assert_eq!(server.door.run(|core| core.ledger.greatest), 2);
+    }
+
+    /// What a keyed request is told, and whether that was told before.
+    async fn told(server: &Server, key: &str, body: &str) -> (String, bool) {
+        let plan = Plan::of(body.as_bytes()).expect("a plan");
+        let asked = Asked::new(&crate::shares::LOOPBACK, "", key, &[body.as_bytes()]);
+        let form_of = |committed: &Committed<'_>| Form::Text(text_of(committed, Spelling::Text).into());
+        let refused = |failed: Failed<'_>| refusal_of(&failed, Spelling::Text);
+        let answer = answer_once(server, &asked, &plan, Instant::now(), &form_of, refused, None).await;
+        match answer.expect("it commits") {
+            Answer { form: Form::Text(text), is_again, .. } => {
+                (String::from_utf8(text.to_vec()).expect("text"), is_again)
+            }
+            other => panic!("{other:?}"),
+        }
+    }
+
+    #[tokio::test]
+    async fn a_read_is_done_anew_and_of_a_long_answer_a_digest_is_told_again() {
+        let server = server(&[]);
+        let put = r#"{"then":[{"put":"a","value":"VALUE"},{"get":"a"}]}"#;
+        let (short, long) = (put.replace("VALUE", "1"), put.replace("VALUE", &"x".repeat(5000)));
+        let first = told(&server, "short", &short).await;
+        assert_eq!(told(&server, "short", &short).await, (first.0, true));
+        let (text, is_again) = told(&server, "long", &long).await;
+        assert!(text.len() > 5000 && !is_again);
+        let digest = format!("{:x}", Sha256::digest(&text));
+        let head = format!(
+            "{{\"timestamp\":\"2\",\"branch\":\"then\",\"written\":1,\"results\":null,\"digest\":\"{digest}\"}}\n"
+        );
+        assert_eq!(told(&server, "long", &long).await, (head, true));
+        let read = r#"{"then":[{"get":"a"}]}"#;
+        let count = server.remembered.count();
+        assert!(!told(&server, "read", read).await.1 && !told(&server, "read", read).await.1);
+        assert_eq!(server.remembered.count(), count);
     }
 }

@@ -3,7 +3,7 @@
 
 use super::*;
 use crate::seats::Session;
-use crate::testing::{answers, core, core_and_log, end, say, session, tidy, Dice};
+use crate::testing::{answers, core, core_and_log, end, say, server, session, tidy, Dice};
 use ripsawbean::{Database, Span};
 
 const COMMANDS: [&str; 22] = [
@@ -436,22 +436,16 @@ fn the_transcript_is_all_that_the_database_did() {
     }
 }
 
-#[test]
-fn a_transaction_of_many_rows_is_aborted_in_the_lane() {
-    for (abort, options) in
-        [(Core::abort_idle as Step, &["--keep", "10"][..]), (Core::abort_old, &["--max-age", "0.01"])]
-    {
-        for (rows, turn, left) in [(5000, Turn::Done, 0), (5001, Turn::Long, 1)] {
-            let mut core = core(options);
-            let mut one = session(&mut core);
-            answers(&mut core, &mut one, &format!("begin\n{}", "put . a 1\n".repeat(rows)));
-            core.seats.taken_mut(one.seat).expect("it has a seat").idle = Some(Duration::ZERO);
-            std::thread::sleep(Duration::from_millis(20));
-            let far = Instant::now() + Duration::from_secs(60);
-            core.closing.length = Length::Short;
-            assert_eq!((abort(&mut core, far), core.ledger.undecided.len()), (turn, left));
-            core.closing.length = Length::Long;
-            assert_eq!((abort(&mut core, far), core.ledger.undecided.len(), core.shouts), (Turn::Done, 0, 0));
-        }
-    }
+#[tokio::test(start_paused = true)]
+async fn the_work_of_a_second_does_not_wait_for_the_lane() {
+    let server = server(&["--keep", "10", "--max-age", "0.01"]);
+    server.door.run(|core| {
+        let mut one = session(core);
+        answers(core, &mut one, &format!("begin\n{}", "put . a 1\n".repeat(5001)));
+    });
+    std::thread::sleep(Duration::from_millis(20));
+    let _lane = server.door.keep_lane().await;
+    let tidied = tokio::time::timeout(Duration::from_secs(60), super::tidy(&server.door, None));
+    tidied.await.expect("it waits for no one");
+    assert_eq!(server.door.run(|core| (core.ledger.undecided.len(), core.shouts)), (0, 0));
 }

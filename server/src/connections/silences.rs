@@ -13,18 +13,7 @@
 //! 2. Each call costs O(log n).
 
 use std::collections::{BTreeMap, BTreeSet, HashMap};
-use std::net::{IpAddr, Ipv6Addr};
-
-/// Bits of an IPv6 address that one client may choose freely.
-const OWN_BITS: u32 = 64;
-
-/// Where a client is: its address, or the network of 64 bits that it has for itself.
-pub fn network_of(address: IpAddr) -> IpAddr {
-    match address.to_canonical() {
-        IpAddr::V6(it) => IpAddr::V6(Ipv6Addr::from(u128::from(it) >> OWN_BITS << OWN_BITS)),
-        it @ IpAddr::V4(_) => it,
-    }
-}
+use std::net::IpAddr;
 
 #[derive(Default)]
 pub struct Silences {
@@ -96,17 +85,6 @@ impl Silences {
 mod tests {
     use super::*;
     use crate::testing::Dice;
-
-    fn address(text: &str) -> IpAddr {
-        text.parse().expect("an address")
-    }
-
-    #[test]
-    fn a_client_has_an_address_or_a_network_of_64_bits() {
-        let same = |one, other| network_of(address(one)) == network_of(address(other));
-        assert!(same("192.0.2.1", "::ffff:192.0.2.1") && !same("192.0.2.1", "192.0.2.2"));
-        assert!(same("2001:db8:0:1::1", "2001:db8:0:1:ffff::2") && !same("2001:db8:0:1::1", "2001:db8:0:2::1"));
-    }
 
     #[test]
     fn the_example_of_the_head() {

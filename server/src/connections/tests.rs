@@ -10,6 +10,11 @@ fn peer() -> SocketAddr {
     SocketAddr::from(([192, 0, 2, 7], 4711))
 }
 
+/// A request that passes the gate.
+fn asks(connection: &Arc<Connection>) -> Busy {
+    connection.asks(&crate::shares::LOOPBACK).expect("its client has room")
+}
+
 fn come(all: &Arc<Connections>) -> Arc<Connection> {
     all.come(peer()).expect("there is room")
 }
@@ -27,7 +32,7 @@ fn piped(room: usize) -> (Arc<Connections>, Arc<Connection>, Watched<DuplexStrea
 fn the_one_that_is_silent_for_longest_makes_room() {
     let all = Connections::new(3, PATIENCE);
     let (first, second, third) = (come(&all), come(&all), come(&all));
-    let busy = first.asks();
+    let busy = asks(&first);
     let fourth = come(&all);
     assert_eq!([&first, &second, &third, &fourth].map(|one| one.is_cut()), [false, true, false, false]);
     // The first is silent again, but not for as long as the third.
@@ -43,7 +48,7 @@ fn the_one_that_is_silent_for_longest_makes_room() {
 fn busy_ones_keep_their_places() {
     let all = Connections::new(2, PATIENCE);
     let (first, second) = (come(&all), come(&all));
-    let busy = (first.asks(), second.asks(), second.asks());
+    let busy = (asks(&first), asks(&second), asks(&second));
     assert!(all.come(peer()).is_none());
     // One of its two requests is answered.
     drop(busy.1);
@@ -56,7 +61,7 @@ fn busy_ones_keep_their_places() {
 fn who_waits_for_its_client_makes_room_and_has_a_limit_of_its_own() {
     let all = Connections::new(2, PATIENCE);
     let (first, second) = (come(&all), come(&all));
-    let busy = (first.asks(), second.asks());
+    let busy = (asks(&first), asks(&second));
     // The body of the first comes slowly.
     let waits = first.waits();
     all.tidy_at(Instant::now() + 3 * REST);
@@ -70,7 +75,7 @@ fn who_waits_for_its_client_makes_room_and_has_a_limit_of_its_own() {
     let third = come(&all);
     assert!(second.is_cut() && !first.is_cut());
     drop(busy.1);
-    let _busy = third.asks();
+    let _busy = asks(&third);
     // A feed is streamed to the first.
     first.exempt();
     busy.0.answers();
@@ -85,7 +90,7 @@ fn whoever_opens_many_makes_room_for_others() {
     let third = come(&all);
     assert_eq!([&other, &first, &second, &third].map(|one| one.is_cut()), [false, true, false, false]);
     // Nor while its own are busy.
-    let _busy = (second.asks(), third.asks());
+    let _busy = (asks(&second), asks(&third));
     assert!(all.come(peer()).is_none() && !other.is_cut());
 }
 
@@ -93,12 +98,12 @@ fn whoever_opens_many_makes_room_for_others() {
 fn a_place_is_free_once_its_connection_is_gone() {
     let all = Connections::new(2, PATIENCE);
     let (first, second) = (come(&all), come(&all));
-    let _busy = (first.asks(), second.asks());
+    let _busy = (asks(&first), asks(&second));
     assert!(all.come(peer()).is_none());
     second.cut();
     assert_eq!(all.open(), 1);
     let third = come(&all);
-    let busy = third.asks();
+    let busy = asks(&third);
     drop(third);
     assert_eq!(all.open(), 2);
     drop(busy);
@@ -111,8 +116,8 @@ fn a_place_is_free_once_its_connection_is_gone() {
 fn silence_ends_after_ten_seconds_and_after_sixty() {
     let all = Connections::new(8, PATIENCE);
     let (new, rests, busy) = (come(&all), come(&all), come(&all));
-    drop(rests.asks());
-    let _asks = busy.asks();
+    drop(asks(&rests));
+    let _asks = asks(&busy);
     let cut_at = |seconds| {
         all.tidy_at(Instant::now() + Duration::from_secs_f64(seconds));
         [&new, &rests, &busy].map(|one| one.is_cut())
@@ -131,7 +136,7 @@ fn twenty_thousand_come_and_go_in_little_time() {
     let start = processor_time();
     let kept: Vec<_> = (0..20_000).map(|_| come(&all)).collect();
     assert_eq!(kept.iter().filter(|one| one.is_cut()).count(), 10_000);
-    kept.iter().for_each(|one| drop(one.asks()));
+    kept.iter().for_each(|one| drop(asks(&one)));
     assert_eq!(all.open(), 10_000);
     drop(kept);
     assert_eq!(all.open(), 0);
@@ -160,7 +165,7 @@ async fn waits_for(connection: Arc<Connection>) {
 #[tokio::test]
 async fn a_writer_that_gets_nothing_away_is_cut() {
     let (all, connection, mut watched, _other) = piped(64);
-    let _busy = connection.asks();
+    let _busy = asks(&connection);
     let start = Instant::now();
     let error = watched.write_all(&[0; 1000]).await.unwrap_err();
     assert_eq!(error.kind(), ErrorKind::TimedOut);
@@ -189,7 +194,7 @@ async fn a_reader_that_takes_little_at_a_time_is_waited_for() {
 #[tokio::test]
 async fn a_stream_waits_for_its_reader_until_it_ends() {
     let (_all, connection, mut watched, mut other) = piped(64);
-    let busy = connection.asks();
+    let busy = asks(&connection);
     connection.exempt();
     let writing = tokio::spawn(async move { watched.write_all(&[7; 96]).await.map(|()| watched) });
     sleep(5 * PATIENCE).await;
@@ -198,14 +203,14 @@ async fn a_stream_waits_for_its_reader_until_it_ends() {
     let mut watched = writing.await.unwrap().unwrap();
     // Once it is answered it is as any other.
     drop(busy);
-    let _busy = connection.asks();
+    let _busy = asks(&connection);
     assert!(watched.write_all(&[0; 1000]).await.is_err() && connection.is_cut());
 }
 
 #[tokio::test]
 async fn an_exemption_that_ends_while_a_write_waits_ends_the_wait_too() {
     let (_all, connection, mut watched, _other) = piped(64);
-    let busy = connection.asks();
+    let busy = asks(&connection);
     connection.exempt();
     let writing = tokio::spawn(async move { watched.write_all(&[7; 96]).await });
     sleep(3 * PATIENCE).await;
@@ -217,7 +222,7 @@ async fn an_exemption_that_ends_while_a_write_waits_ends_the_wait_too() {
 #[tokio::test]
 async fn bytes_behind_a_stream_cut_it() {
     let (_all, connection, mut watched, mut other) = piped(64);
-    let busy = connection.asks();
+    let busy = asks(&connection);
     other.write_all(b"head").await.unwrap();
     assert_eq!(watched.read(&mut [0; 8]).await.unwrap(), 4);
     connection.exempt();
@@ -274,7 +279,7 @@ fn any_order_of_coming_asking_and_going_is_as_a_plain_list_has_it() {
         let at = dice.below(model.len() as u64 + 1) as usize;
         match (dice.below(5), model.get_mut(at)) {
             (0 | 1, _) => model_comes(&all, &mut model, count),
-            (2, Some(one)) => one.busy.push(one.connection.asks()),
+            (2, Some(_)) => model_asks(&mut model, at),
             (3, Some(one)) => one.silent = if one.busy.pop().is_some() { count } else { one.silent },
             (4, Some(_)) => drop(model.swap_remove(at)),
             _ => {}
@@ -282,6 +287,15 @@ fn any_order_of_coming_asking_and_going_is_as_a_plain_list_has_it() {
         assert_eq!(all.open(), model.len());
         assert!(model.iter().all(|one| !one.connection.is_cut()));
     });
+}
+
+/// One client may have four of five.
+fn model_asks(model: &mut [Modelled], at: usize) {
+    let others = model.iter().filter(|one| !one.busy.is_empty()).count();
+    let asked = model[at].connection.asks(&crate::shares::LOOPBACK);
+    let has_room = others < 4 || !model[at].busy.is_empty();
+    assert_eq!(asked.as_ref().err().map(|refusal| refusal.error), (!has_room).then_some("connections"));
+    model[at].busy.extend(asked);
 }
 
 fn model_comes(all: &Arc<Connections>, model: &mut Vec<Modelled>, count: usize) {

@@ -63,7 +63,7 @@ fn is_at_rest(server: &Server) -> bool {
         && server.connections.open() == 0
         && server.bodies.is_empty()
         && server.reports.is_empty()
-        && server.answers.available_permits() == 64
+        && server.answers.is_empty()
 }
 
 #[tokio::test]

@@ -13,7 +13,7 @@
 //! which servers of the database have run: it goes on from the last key's at each start. So time in which no server runs
 //! doesn't count, and no two clocks are compared.
 //!
-//! 1. At most `MOST` answers count, which have at most `MOST_BYTES` with the one that came last.
+//! 1. All of them come back, however many there are: `remembered` knows which of them still count.
 //! 2. Of a key's answers the last one counts.
 
 use super::note::Note;
@@ -23,12 +23,6 @@ use std::cmp::Ordering;
 use std::collections::VecDeque;
 use std::io::Write;
 
-/// Answers that are remembered, at most.
-pub const MOST: usize = 200_000;
-/// Bytes of answers beyond which no further one is remembered.
-pub const MOST_BYTES: usize = 32 << 20;
-/// What an answer takes beside its text.
-const ENTRY_BYTES: usize = 300;
 /// Bytes of text in a line: a key has 256, of which five say what it is.
 const PIECE: usize = 251;
 
@@ -53,14 +47,6 @@ pub enum Form {
     /// As `DELETE /key/KEY` does.
     Deleted,
     Text(Bytes),
-}
-
-impl Form {
-    /// What it counts for.
-    pub fn bytes(&self) -> usize {
-        let text = if let Form::Text(text) = self { text.len() } else { 0 };
-        text + ENTRY_BYTES
-    }
 }
 
 /// What a note tells of an answer: its text follows in pieces.
@@ -137,7 +123,6 @@ impl Answered {
 #[derive(Debug, Default)]
 pub struct Answers {
     all: VecDeque<Answered>,
-    bytes: usize,
     /// One whose text isn't there as a whole.
     open: Option<(Key, Vec<u8>)>,
 }
@@ -171,16 +156,7 @@ impl Answers {
 
     fn add(&mut self, key: &Key, form: Form) {
         let &Key { time, named, asked, timestamp, .. } = key;
-        self.bytes += form.bytes();
         self.all.push_back(Answered { time, named, asked, timestamp, form });
-        while let Some(first) = self.all.front() {
-            let is_one_too_many = self.all.len() > MOST || self.bytes - first.form.bytes() >= MOST_BYTES;
-            if !is_one_too_many || self.all.len() == 1 {
-                break;
-            }
-            self.bytes -= first.form.bytes();
-            self.all.pop_front();
-        }
     }
 
     pub fn into_all(self) -> VecDeque<Answered> {
@@ -251,17 +227,15 @@ mod tests {
     }
 
     #[test]
-    fn the_last_ones_count() {
+    fn all_of_them_come_back_however_long_they_are() {
         let mut answers = Answers::default();
         let key = |named: u128, form| Key { time: 1, named, asked: 0, timestamp: 1, form };
-        (0..MOST as u128 + 3).try_for_each(|named| answers.key(key(named, Word::Put))).expect("they are right");
-        // By bytes fewer have room.
-        assert_eq!(answers.all.len(), MOST_BYTES.div_ceil(ENTRY_BYTES).min(MOST));
-        assert_eq!(answers.all.back().map(|last| last.named), Some(MOST as u128 + 2));
-        // A long one has room for itself.
-        let text = vec![b'x'; MOST_BYTES + 7];
+        let text = vec![b'x'; 40 << 20];
+        for named in 0..200_003 {
+            answers.key(key(named, Word::Put)).expect("it is right");
+        }
         answers.key(key(7, Word::Text(text.len()))).expect("it is right");
         answers.piece(&text).expect("it is right");
-        assert_eq!((answers.all.len(), answers.bytes), (1, text.len() + ENTRY_BYTES));
+        assert_eq!((answers.all.len(), answers.all.front().map(|first| first.named)), (200_004, Some(0)));
     }
 }

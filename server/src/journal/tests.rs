@@ -68,7 +68,9 @@ fn follow(core: &mut Core, name: &str) -> u64 {
     let cursor = core.ledger.closed;
     let opened = core.ask(Owner::Server, Command::Open { span: Span::ALL, cursor });
     match opened {
-        Ok(crate::outcome::Outcome::Opened { feed, .. }) => core.follow(&name.into(), feed).expect("it is followed"),
+        Ok(crate::outcome::Outcome::Opened { feed, .. }) => {
+            core.follow(&name.into(), feed, &crate::shares::Client::SERVER).expect("it is followed")
+        }
         other => panic!("{other:?}"),
     }
 }

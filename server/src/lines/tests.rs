@@ -6,7 +6,7 @@ use super::*;
 use crate::cuts::Cuts;
 use crate::gate::{Right, Who};
 use crate::options::LONGEST_ROW;
-use crate::testing::{answers, core, end, session, texts, tidy, Dice};
+use crate::testing::{answers, core, end, session, session_of, texts, tidy, Dice};
 use ripsawbean::{Command, Span, MOST_ROWS};
 use std::time::Duration;
 
@@ -109,7 +109,7 @@ fn the_servers_feeds_and_protections_are_not_a_sessions() {
     core.ask(Owner::Server, Command::Open { span: Span::ALL, cursor: 0 }).expect("a call");
     core.ask(Owner::Server, Command::Protect { t: 0 }).expect("a call");
     // Also not of the session that has the seat of the server's own calls.
-    let mut last = (0..64).map(|_| session(&mut core)).last().expect("there are seats");
+    let mut last = (0..64).map(|at| session_of(&mut core, at / 32)).last().expect("there are seats");
     assert_eq!(last.seat, 63);
     let told = answers(&mut core, &mut last, "poll 1 5\nrelease 1\ncancel 1\n");
     assert_eq!(told, ["fault 1 64 notyours", "fault 2 64 notyours", "cancelled"]);
@@ -256,7 +256,7 @@ fn lines_want_rights() {
     let mut owner = session(&mut core);
     answers(&mut core, &mut owner, "open - - 0\nprotect 0\n");
     let mut told = |rights: &[Right]| {
-        let mut one = core.seats.take("127.0.0.1:1".into(), Who::of("reader", rights), 0).expect("a seat");
+        let mut one = core.seats.take(([127, 0, 0, 1], 1).into(), Who::of("reader", rights)).expect("a seat");
         let lines = "begin\nget . a\nput . a 1\ndel . a\nabort .\nclosehard 0\ncollect 0\ncancel 1\nrelease 1\nstats\n";
         // Each is a message: within one, lines behind a fault are left out.
         let told: Vec<String> =
@@ -275,7 +275,7 @@ fn lines_want_rights() {
 #[test]
 fn who_may_only_write_is_told_nothing_that_stands() {
     let mut core = core(&[]);
-    let mut one = core.seats.take("127.0.0.1:1".into(), Who::of("sensor", &[Right::Write]), 0).expect("a seat");
+    let mut one = core.seats.take(([127, 0, 0, 1], 1).into(), Who::of("sensor", &[Right::Write])).expect("a seat");
     assert_eq!(answers(&mut core, &mut one, "begin\nput . a 1\ndel . b\ncommit .\nclose 1\n").len(), 5);
     for line in [
         "get 1 a",
@@ -303,7 +303,7 @@ fn a_token_for_some_keys_names_those_alone() {
     let mut core = core(&[]);
     let keys = Keys { lo: b"b".to_vec(), hi: Some(b"d".to_vec()) };
     let who = Who::of("some", &[Right::Read, Right::Write]).with_keys(keys);
-    let mut one = core.seats.take("127.0.0.1:1".into(), who, 0).expect("a seat");
+    let mut one = core.seats.take(([127, 0, 0, 1], 1).into(), who).expect("a seat");
     answers(&mut core, &mut one, "begin\n");
     for (line, is_allowed) in [
         ("put . b 1", true),
@@ -335,7 +335,7 @@ fn a_token_for_some_keys_names_those_alone() {
 #[test]
 fn who_has_a_feed_or_a_protection_may_end_it() {
     let mut core = core(&[]);
-    let mut one = core.seats.take("127.0.0.1:1".into(), Who::of("reader", &[Right::Read]), 0).expect("a seat");
+    let mut one = core.seats.take(([127, 0, 0, 1], 1).into(), Who::of("reader", &[Right::Read])).expect("a seat");
     let told = answers(&mut core, &mut one, "open - - 0\nprotect 0\ncancel 1\nrelease 1\ncancel 9\n");
     assert_eq!(told, ["opened 1", "protected 1", "cancelled", "released", "nofeed"]);
 }
@@ -439,7 +439,7 @@ fn a_session_ends_in_turns() {
 fn no_line_is_of_a_transaction_that_a_request_runs() {
     let mut core = core(&[]);
     // One of them has the seat of the server's own calls.
-    let sessions: Vec<Session> = (0..64).map(|_| session(&mut core)).collect();
+    let sessions: Vec<Session> = (0..64).map(|at| session_of(&mut core, at / 32)).collect();
     assert_eq!(core.ask(Owner::Server, Command::Begin { ts: 7 }), Ok(Outcome::Started { ts: 7 }));
     for mut one in sessions {
         let told = answers(&mut core, &mut one, "get 7 a\nscan 7 a b\nput 7 a 1\ndel 7 a\ncommit 7\nabort 7\n");

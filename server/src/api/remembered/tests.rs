@@ -10,8 +10,9 @@ fn remembered(seconds: u64) -> Remembered {
     Remembered::new(Duration::from_secs(seconds), VecDeque::new())
 }
 
-fn asked(who: &str, key: &str, body: &str) -> Option<Asked> {
-    Some(Asked::new(who, key, &[b"POST", b"/transact", body.as_bytes()]))
+fn asked(who: &str, key: &str, body: &str) -> Asked {
+    let client = Client::new([127, 0, 0, 1].into(), &Who::of(who, &[Right::Write]));
+    Asked::new(&client, who, key, &[b"POST", b"/transact", body.as_bytes()])
 }
 
 fn form(text: &str) -> Form {
@@ -25,13 +26,19 @@ fn text_of(answer: &Answer) -> String {
     }
 }
 
+/// Remembers an answer.
+fn keep(running: &Running<'_>, body: &str) -> Result<(), Refusal> {
+    let answered = running.answered(running.key.expect("it has a key"), 5, form(body))?;
+    running.keep(answered);
+    Ok(())
+}
+
 /// What a request is answered, and whether it has run.
 async fn ask(remembered: &Remembered, who: &str, key: &str, body: &str) -> (Result<String, &'static str>, bool) {
-    match remembered.begin(asked(who, key, body), Instant::now()).await {
+    match remembered.begin(&asked(who, key, body), Instant::now()).await {
         Ok(Begun::Told(answer)) => (Ok(text_of(&answer)), false),
         Ok(Begun::Runs(running)) => {
-            running.keep(running.answered(5, || form(body)).expect("it has a key"));
-            (Ok(body.to_string()), true)
+            (keep(&running, body).map(|()| body.to_string()).map_err(|refusal| refusal.error), true)
         }
         Err(refusal) => (Err(refusal.error), false),
     }
@@ -46,7 +53,7 @@ async fn the_same_request_is_run_once() {
     assert_eq!(ask(&remembered, "", "l", "2").await, (Ok("2".into()), true));
     // Another token's key is another key.
     assert_eq!(ask(&remembered, "other", "k", "2").await, (Ok("2".into()), true));
-    assert_eq!(remembered.table.lock().bytes, 3 * 301);
+    assert_eq!(remembered.room.taken(), 3 * (ENTRY_BYTES + 1));
 }
 
 #[tokio::test]
@@ -54,7 +61,7 @@ async fn a_key_is_of_a_token_and_stands_for_all_of_a_request() {
     let server = server(&[]);
     let asked = |name: &str, line: &str, headers: &[(&str, &str)], body: &str| {
         let request = Request::of(&server, &Who::of(name, &[Right::Write]), line, headers, body);
-        let asked = server.remembered.asked(&request, body.as_bytes()).expect("a key").expect("it is given");
+        let asked = server.remembered.asked(&request, body.as_bytes()).expect("a key").key.expect("it is given");
         (asked.named, asked.asked)
     };
     let (key, line) = (("idempotency-key", "k"), "PUT /key/a?wait=1");
@@ -82,7 +89,7 @@ async fn a_key_is_of_a_token_and_stands_for_all_of_a_request() {
 #[tokio::test]
 async fn what_failed_is_run_again() {
     let remembered = remembered(60);
-    assert!(matches!(remembered.begin(asked("", "k", "1"), Instant::now()).await, Ok(Begun::Runs(_))));
+    assert!(matches!(remembered.begin(&asked("", "k", "1"), Instant::now()).await, Ok(Begun::Runs(_))));
     assert_eq!(ask(&remembered, "", "k", "1").await, (Ok("1".into()), true));
 }
 
@@ -92,21 +99,23 @@ async fn it_is_forgotten_after_its_time() {
     assert_eq!(ask(&remembered, "", "k", "1").await, (Ok("1".into()), true));
     assert_eq!(ask(&remembered, "", "k", "2").await, (Ok("2".into()), true));
     let mut table = remembered.table.lock();
-    table.forget(Instant::now());
-    assert_eq!((table.entries.len(), table.until.len(), table.bytes, table.forgotten), (0, 0, 0, 2));
+    table.forget(remembered.now(), remembered.time);
+    assert_eq!((table.numbers.len(), table.answered.len(), table.forgotten), (0, 0, 2));
+    assert!(remembered.room.is_empty());
 }
 
 #[tokio::test]
 async fn of_two_at_once_the_second_waits() {
     let remembered = Arc::new(remembered(60));
-    let Ok(Begun::Runs(first)) = remembered.begin(asked("", "k", "1"), Instant::now()).await else { panic!("it runs") };
+    let one = asked("", "k", "1");
+    let Ok(Begun::Runs(first)) = remembered.begin(&one, Instant::now()).await else { panic!("it runs") };
     assert_eq!(ask(&remembered, "", "k", "1").await, (Err("running"), false));
     let second = {
         let (remembered, far) = (remembered.clone(), Instant::now() + Duration::from_secs(60));
-        tokio::spawn(async move { remembered.begin(asked("", "k", "1"), far).await.map(|begun| is_told(&begun)) })
+        tokio::spawn(async move { remembered.begin(&asked("", "k", "1"), far).await.map(|begun| is_told(&begun)) })
     };
     tokio::task::yield_now().await;
-    first.keep(first.answered(5, || form("1")).expect("it has a key"));
+    keep(&first, "1").expect("there is room");
     drop(first);
     assert_eq!(second.await.expect("it ends").map_err(|refusal| refusal.error), Ok(true));
 }
@@ -119,7 +128,8 @@ fn is_told(begun: &Begun<'_>) -> bool {
 async fn a_request_that_is_dropped_frees_its_key() {
     let remembered = remembered(60);
     let mut dropped = Box::pin(async {
-        let _running = remembered.begin(asked("", "k", "1"), Instant::now()).await;
+        let one = asked("", "k", "1");
+        let _running = remembered.begin(&one, Instant::now()).await;
         std::future::pending::<()>().await;
     });
     let waits = tokio::select! {
@@ -133,20 +143,53 @@ async fn a_request_that_is_dropped_frees_its_key() {
     assert_eq!(ask(&remembered, "", "k", "1").await, (Ok("1".into()), true));
 }
 
-#[tokio::test]
-async fn where_there_is_no_room_nothing_is_run() {
-    // On a busy machine so long a text takes more than a minute to be told apart.
+fn client(name: &str) -> Client {
+    Client::new([127, 0, 0, 1].into(), &Who::of(name, &[Right::Write]))
+}
+
+/// A request of a client that runs.
+fn running<'a>(remembered: &'a Remembered, name: &str, named: u128) -> Running<'a> {
+    Running { remembered, key: Some(Key { named, asked: 0 }), client: client(name) }
+}
+
+#[test]
+fn one_client_leaves_room_to_others_and_what_is_kept_stays_within_it() {
     let remembered = remembered(3600);
-    let long = "x".repeat(MOST_BYTES);
-    assert!(ask(&remembered, "", "k", &long).await.0.is_ok());
-    assert_eq!(ask(&remembered, "", "l", "1").await, (Err("remembered"), false));
-    assert_eq!(ask(&remembered, "", "k", &long).await, (Ok(long.clone()), false));
+    let keeps = |name, named, text: &str| keep(&running(&remembered, name, named), text).map_err(|full| full.error);
+    let finds = |named| remembered.find(Key { named, asked: 0 }, &client("a")).map_err(|full| full.error);
+    // A text of a whole share has no room, whenever its request began.
+    let long = "x".repeat(MOST_BYTES / 4 * 3);
+    assert_eq!(keeps("a", 1, &long), Err("remembered"));
+    assert_eq!(keeps("a", 1, &long[ENTRY_BYTES..]), Ok(()));
+    assert_eq!([keeps("a", 2, "1"), keeps("b", 3, "1")], [Err("remembered"), Ok(())]);
+    assert!(matches!(finds(1), Ok(Found::Answer(_))) && finds(2).err() == Some("remembered"));
+    assert!(remembered.room.taken() <= MOST_BYTES);
+}
+
+#[test]
+fn a_minute_of_honest_load_has_room() {
+    let (remembered, text) = (remembered(3600), "x".repeat(200));
+    for number in 0..60 * 1500 {
+        keep(&running(&remembered, "payments", number), &text).expect("there is room");
+    }
+    assert_eq!(remembered.count(), 90_000);
+}
+
+#[test]
+fn answers_of_a_crash_are_all_there_and_count() {
+    let text = "x".repeat(4000);
+    let one = |number| Answered { time: 1, named: number, asked: 0, timestamp: 1, form: form(&text) };
+    let remembered = Remembered::new(Duration::from_secs(60), (0..20_000).map(one).collect());
+    // They are more than there is room for: a server before had more.
+    assert_eq!((remembered.count(), remembered.room.taken()), (20_000, 20_000 * (4000 + ENTRY_BYTES)));
+    assert!(remembered.find(Key { named: 0, asked: 0 }, &client("a")).is_ok());
+    assert!(remembered.find(Key { named: 20_000, asked: 0 }, &client("a")).is_err());
 }
 
 /// Answers of these keys and times.
 fn answers(all: &[(&str, u64)]) -> VecDeque<Answered> {
     let one = |&(key, time): &(&str, u64)| {
-        let Asked { named, asked } = asked("", key, &time.to_string()).expect("it has a key");
+        let Key { named, asked } = asked("", key, &time.to_string()).key.expect("it has a key");
         Answered { time, named, asked, timestamp: time, form: form(&time.to_string()) }
     };
     all.iter().map(one).collect()
@@ -181,8 +224,7 @@ async fn all_are_copied_some_at_a_time() {
     assert_eq!([0, 1000, 2000].map(|from| remembered.some(from, below).0.len()), [SOME, SOME, 7]);
     assert_eq!([0, 1000, 2000].map(|from| remembered.some(from, below).1), [1000, 2000, below]);
     // What is forgotten meanwhile is left out.
-    let far = Instant::now() + Duration::from_secs(61);
-    remembered.table.lock().forget(far);
+    remembered.table.lock().forget(remembered.now() + 61_000, remembered.time);
     assert_eq!(remembered.some(1000, below), (Vec::new(), below));
     // Long ones come one at a time.
     for key in ["a", "b"] {

@@ -21,6 +21,8 @@ pub enum Stop {
     /// Unread answers leave no room for a long one.
     Crowded,
     Draining,
+    /// There is no room to remember its answer.
+    NotRemembered(Refusal),
     TooMuch,
     ReplyTooLong,
     /// Its timestamp is above the mark that is durable: it is run once this is.
@@ -58,6 +60,7 @@ impl Stop {
             }
             Stop::Crowded => Refusal::crowded(),
             Stop::Draining => Refusal::busy("draining", "the server is about to end"),
+            Stop::NotRemembered(refusal) => refusal,
             Stop::TooMuch => Refusal::new(
                 422,
                 "toomuch",

@@ -6,7 +6,7 @@ use crate::core::Core;
 use crate::cuts::Cuts;
 use crate::door::Length;
 use crate::seats::Session;
-use crate::testing::{answers, core, end, say, session, tidy, Dice};
+use crate::testing::{answers, core, end, say, session, session_of, tidy, Dice};
 use ripsawbean::{Room, Span};
 
 mod turns;
@@ -407,7 +407,7 @@ fn where_the_server_ends_nothing_begins() {
 #[test]
 fn all_seats_may_be_taken() {
     let mut core = core(&[]);
-    let sessions: Vec<Session> = (0..64).map(|_| session(&mut core)).collect();
+    let sessions: Vec<Session> = (0..64).map(|at| session_of(&mut core, at / 32)).collect();
     assert!(committed(&mut core, r#"{"then":[{"put":"a","value":"1"}]}"#).contains("Then 1"));
     sessions.iter().for_each(|one| end(&mut core, one));
     assert_eq!(core.ledger.undecided.len(), 0);

@@ -4,6 +4,7 @@ use super::*;
 use crate::api::plan::Plan;
 use crate::api::remembered::{Asked, Begun, Keep};
 use crate::api::run::{run, Committed, End, Pace};
+use crate::shares;
 use std::collections::VecDeque;
 
 const HOUR: Duration = Duration::from_secs(3600);
@@ -25,8 +26,8 @@ pub fn form_of(committed: &Committed<'_>) -> Form {
 /// A request with a key: whether it was done, and what it is answered.
 async fn ask(core: &mut Core, remembered: &Remembered, key: &str, body: &str) -> (bool, Form) {
     let plan = Plan::of(body.as_bytes()).expect(body);
-    let asked = Some(Asked::new("", key, &[body.as_bytes()]));
-    let running = match remembered.begin(asked, Instant::now()).await.expect("there is room") {
+    let asked = Asked::new(&shares::Client::SERVER, "", key, &[body.as_bytes()]);
+    let running = match remembered.begin(&asked, Instant::now()).await.expect("there is room") {
         Begun::Told(answer) => return (false, answer.form().clone()),
         Begun::Runs(running) => running,
     };
@@ -57,8 +58,6 @@ async fn a_repeat_behind_a_crash_has_its_answer() {
     for number in 0..4 {
         told.push(ask(&mut core, &remembered, &format!("key{number}"), &raise(number)).await.1);
     }
-    // One that has written nothing, and one without an answer of its own length.
-    told.push(ask(&mut core, &remembered, "reads", r#"{"then":[{"get":"k0"}]}"#).await.1);
     sync(&core);
     for _ in 0..2 {
         let (mut after, remembered) = keyed_in(&crashed(&place));
@@ -67,9 +66,9 @@ async fn a_repeat_behind_a_crash_has_its_answer() {
             let again = ask(&mut after, &remembered, &format!("key{number}"), &raise(number)).await;
             assert_eq!(again, (false, told.clone()));
         }
-        assert_eq!(ask(&mut after, &remembered, "reads", r#"{"then":[{"get":"k0"}]}"#).await, (false, told[4].clone()));
         assert_eq!((count(&mut after), after.shouts), (rows, 0));
-        assert!(remembered.begin(Some(Asked::new("", "key1", &[b"other"])), Instant::now()).await.is_err());
+        let other = Asked::new(&shares::Client::SERVER, "", "key1", &[b"other"]);
+        assert!(remembered.begin(&other, Instant::now()).await.is_err());
         assert!(ask(&mut after, &remembered, "new", &raise(9)).await.0);
     }
 }

@@ -5,6 +5,7 @@ use super::*;
 use crate::api::plan::Plan;
 use crate::api::remembered::{Asked, Begun, Keep};
 use crate::api::run::{run, Committed, End, Failed, Pace};
+use crate::shares;
 use crate::testing::tidy;
 
 const NAMES: [&str; 2] = ["x", "y"];
@@ -54,11 +55,11 @@ impl Model {
                     Ok(End::Committed(Committed { rests, .. }) | End::Failed(Failed { rests, .. })) => *rests,
                     Err(_) => life.core.journal.all(),
                 };
-                if let Ok(End::Committed(committed)) = ended {
+                // What has written nothing is done anew.
+                if let Ok(End::Committed(Committed { timestamp, form: Some(form), .. })) = ended {
                     if let Some(last) = done.last() {
-                        return Err(format!("{key} was done at {}, and at {}", last.timestamp, committed.timestamp));
+                        return Err(format!("{key} was done at {}, and at {timestamp}", last.timestamp));
                     }
-                    let (timestamp, form) = (committed.timestamp, committed.form.expect("it has a key"));
                     done.push(Done { timestamp, form, rests });
                 }
                 let events = before..life.core.transcript.next();
@@ -86,7 +87,7 @@ impl Model {
             4..=8 => {
                 let (closed, line) = (life.core.ledger.closed, life.core.line_of(&name.into()));
                 let generation = number_of(&line, "generation").unwrap_or(0);
-                if life.core.store(&name.into(), closed, generation).is_ok() {
+                if life.core.store(&name.into(), closed, generation, &shares::Client::SERVER).is_ok() {
                     life.facts.push_back((life.core.journal.all(), Fact::Stored(name, closed)));
                 }
             }
@@ -169,8 +170,8 @@ fn step_of(
 
 fn begun<'a>(remembered: &'a Remembered, key: &str, body: &str) -> Begun<'a> {
     let runtime = tokio::runtime::Builder::new_current_thread().enable_time().build().expect("a runtime");
-    let asked = Some(Asked::new("", key, &[body.as_bytes()]));
-    runtime.block_on(remembered.begin(asked, Instant::now())).expect("there is room")
+    let asked = Asked::new(&shares::Client::SERVER, "", key, &[body.as_bytes()]);
+    runtime.block_on(remembered.begin(&asked, Instant::now())).expect("there is room")
 }
 
 fn number_of(line: &str, member: &str) -> Option<u64> {
