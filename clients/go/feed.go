@@ -16,7 +16,7 @@ const (
 	silence = time.Minute // without a byte after which a stream's server is taken for dead
 	hold    = 30          // seconds for which a snapshot that was cut is held from page to page
 	enough  = 1000        // rows that a consumer stores at once, where more are waiting
-	idle    = time.Second // after which it stores a place although no row came
+	idle    = time.Second // after which it stores a place although no row came, where messages go on coming
 )
 
 // Kind says what a message is.
@@ -26,7 +26,7 @@ const (
 	Reset    Kind = iota // forget all rows: those of the database at Place come next
 	Change               // a committed row
 	Resolved             // all changes up to Place were told: a feed may go on from there
-	nothing              // that is new has come for a while: told to a consumer alone
+	nothing              // new comes now: told to a consumer alone
 )
 
 // Message of a feed. A change has a nil Value where it was deleted, and a nil Before where it was absent.

@@ -15,7 +15,7 @@ import { behind, fromBase64, known, pathOf, percent, textOf } from "./values.js"
 const SILENCE = 60_000; // milliseconds without a byte after which a stream's server is taken for dead
 const HOLD = 30; // seconds for which a snapshot that was cut is held from page to page
 const ENOUGH = 1000; // rows that a consumer stores at once, where more are waiting
-const IDLE = 1000; // milliseconds after which it stores a place although no row came
+const IDLE = 1000; // milliseconds after which it stores a place although no row came, where messages go on coming
 
 /** Timestamps are compared as BigInts, since JavaScript's numbers can't hold all. */
 const isAbove = (one, other) => BigInt(one) > BigInt(other);
@@ -91,7 +91,7 @@ export class Feed {
     throw error;
   }
 
-  /** Nothing new has come for a while. */
+  /** All was told, and nothing new comes now. */
   *idle() {}
 
   /** Whether the feed may begin anew where its place leads nowhere. */
@@ -209,9 +209,9 @@ class Consumer extends Feed {
       await this.keep({ changes: whole, place, was: stored, reset }, load);
       [stored, whole, reset, storedAt] = [place, [], false, Date.now()];
     };
-    // Rows are stored at once, and a place without rows after a while.
+    // Rows are stored at once, and a place without rows after a while, or once nothing new comes.
     const isNew = () => !stored || isAbove(reached.timestamp, stored.timestamp);
-    const isDue = () => reached && (whole.length || reset || (isNew() && Date.now() - storedAt > IDLE));
+    const isDue = (type) => reached && (whole.length || reset || (isNew() && (type === "idle" || Date.now() - storedAt > IDLE)));
     for await (const message of this.messages()) {
       if (message.type === "reset") [told, whole, reached, reset] = [[], [], null, true];
       else {
@@ -220,7 +220,7 @@ class Consumer extends Feed {
         if (type === "change") {
           if (whole.length >= ENOUGH) await keep();
           told.push(change);
-        } else if (isDue()) await keep();
+        } else if (isDue(type)) await keep();
       }
     }
   }

@@ -17,7 +17,7 @@ import threading
 import time
 from typing import Any, Callable, Dict, Iterator, List, Optional, Tuple
 
-from driver import Driver
+from driver import LONGEST, Driver
 from real import Server
 
 TOKEN = "correct-horse-battery"
@@ -192,6 +192,32 @@ def consume(driver: Driver, place: Any, kept: Dict[str, str], last: int) -> Any:
     return place
 
 
+def a_place_moves_at_rest(ground: Ground) -> None:
+    """A consumer whose span is quiet stores what is closed elsewhere, within some second and some once a second."""
+    client, consumer = ground.client(), ground.client()
+    gives(client, "put", key="a", value="1")
+    batches: List[Any] = []
+    span = {"name": "c", "lo": "a", "hi": "b"}
+    thread = threading.Thread(target=lambda: batches.extend(gives(consumer, "consume", stores=3, **span)))
+    thread.start()
+    while ground.consumer("c")["feed"] is None:
+        time.sleep(0.02)
+    last = gives(client, "put", key="a", value="2")
+    while ground.consumer("c")["stored"] != last:
+        time.sleep(0.02)
+    last, began = gives(client, "put", key="z", value="1"), time.monotonic()
+    thread.join(LONGEST)
+    took = time.monotonic() - began
+    assert took < 5 and batches[-1]["place"]["timestamp"] == last and not batches[-1]["changes"], (took, batches)
+
+    thread = threading.Thread(target=lambda: gives(consumer, "consume", stores=4, place=batches[-1]["place"], **span))
+    thread.start()
+    began = time.monotonic()
+    while thread.is_alive():
+        gives(client, "put", key="z", value="1")
+    assert 2.9 < time.monotonic() - began < 10, "four places were stored in %.1f seconds" % (time.monotonic() - began)
+
+
 def a_later_consumer_ends_an_earlier_one(ground: Ground) -> None:
     first, second = ground.client(), ground.client()
     gives(second, "put", key="a", value="1")
@@ -363,7 +389,7 @@ def tls_and_token(program: str, command: List[str]) -> None:
 
 
 TESTS: Tuple[Callable[[Ground], None], ...] = (
-    counts_through_cuts, a_feed_through_cuts, a_snapshot_through_cuts, a_consumer_through_cuts,
+    counts_through_cuts, a_feed_through_cuts, a_snapshot_through_cuts, a_consumer_through_cuts, a_place_moves_at_rest,
     a_later_consumer_ends_an_earlier_one, a_server_that_was_killed, nobody_there, a_write_that_is_lost_with_its_server,
     a_write_that_is_lost_before_another_database,
 )

@@ -20,7 +20,7 @@ from .errors import Error, Gone, Lost, OtherDatabase, Outrun, refused
 from .values import Arguments, Batch, Change, Message, Place, Reset, Resolved, Text, bounds_of, of_base64, path_of
 
 ENOUGH = 1000  # rows that a consumer stores at once, where more are waiting
-IDLE = 1.0     # seconds after which it stores a place although no row came
+IDLE = 1.0     # seconds after which it stores a place although no row came, where messages go on coming
 HOLD = 30      # seconds for which a snapshot that was cut is held from page to page
 NOTHING = (-1, b"")
 
@@ -149,7 +149,7 @@ class Feed:
         yield Tell(message)
 
     def idle(self) -> Steps[None]:
-        """Nothing new has come for a while."""
+        """All was told, and nothing new comes now."""
         yield from ()
 
 
@@ -193,17 +193,17 @@ class Consumer(Feed):
                 yield from self.keep()
             self.told.append(message)
         else:
-            yield from self.keep_if_due()
+            yield from self.keep_new(time.monotonic() - self.stored_at > IDLE)
 
     def idle(self) -> Steps[None]:
-        yield from self.keep_if_due()
+        yield from self.keep_new(True)
 
-    def keep_if_due(self) -> Steps[None]:
-        """Stores rows at once, and a place without rows after a while."""
+    def keep_new(self, is_due: bool) -> Steps[None]:
+        """Stores rows at once, and a place without rows where that is due."""
         if self.reached is None:
             return
         is_new = self.stored is None or self.reached.timestamp > self.stored.timestamp
-        if self.whole or self.is_reset or is_new and time.monotonic() - self.stored_at > IDLE:
+        if self.whole or self.is_reset or is_new and is_due:
             yield from self.keep()
 
     def keep(self) -> Steps[None]:
