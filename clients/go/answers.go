@@ -94,34 +94,48 @@ func (p *pauses) pause(ctx context.Context, least time.Duration) bool {
 // call gives an answer, asked for again while it is lost or the server is busy, until the time is over.
 func (c *Client) call(ctx context.Context, method, path string, body []byte, headers map[string]string) (answer, error) {
 	tries := pauses{until: time.Now().Add(c.options.Timeout)}
+	if method != "GET" && c.Identity() == "" && c.addresses.areSeveral() {
+		if _, err := c.callUntil(ctx, &tries, "GET", "/healthz", nil, nil); err != nil {
+			return answer{}, err
+		}
+	}
+	return c.callUntil(ctx, &tries, method, path, body, headers)
+}
+
+func (c *Client) callUntil(ctx context.Context, tries *pauses, method, path string, body []byte, headers map[string]string) (answer, error) {
 	wasSent := false
+	var last *lost
 	for {
+		at := c.addresses.now()
 		found, err := c.once(ctx, method, path, body, headers, time.Until(tries.until))
 		if err == nil && !isAgain(found.status) {
 			c.pin(found.header)
 			return found, nil
 		}
-		seconds, _ := strconv.Atoi(found.header.Get("Retry-After"))
 		failed, isLost := isLost(err)
-		if err == nil && (found.status == 502 || found.status == 504) {
-			failed, isLost = &lost{fmt.Errorf("the proxy answers %d", found.status), true}, true
-		} else if err != nil && !isLost {
+		if err != nil && !isLost {
 			return answer{}, afterwards(err, wasSent && method != "GET")
 		}
-		// The server has ended. The next one may have another database, unless the write names its own.
-		isDown := wasSent && isLost && !failed.wasSent && method != "GET" && c.Identity() == ""
-		wasSent = wasSent || (isLost && failed.wasSent)
+		isDown, seconds := false, 0
+		if isLost {
+			// The server has ended. The next one may have another database, unless the write names its own.
+			isDown = wasSent && !failed.wasSent && method != "GET" && c.Identity() == ""
+			wasSent, last = wasSent || failed.wasSent, failed
+		} else if c.addresses.now() == at {
+			seconds, _ = strconv.Atoi(found.header.Get("Retry-After"))
+		}
 		if !isDown && tries.pause(ctx, time.Duration(seconds)*time.Second) {
 			continue
 		}
-		if !isLost {
+		wasWritten := wasSent && method != "GET"
+		if !isLost && !wasWritten {
 			return answer{}, refused(found.status, found.body)
 		}
 		kind := Unreachable
-		if wasSent && method != "GET" {
+		if wasWritten {
 			kind = OutcomeUnknown
 		}
-		return answer{}, &Error{kind, 0, "unreachable", failed.Error(), "", nil}
+		return answer{}, &Error{kind, 0, "unreachable", last.Error(), "", nil}
 	}
 }
 
@@ -136,32 +150,51 @@ func afterwards(err error, wasWritten bool) error {
 
 // once is one try. The answer may be busy; what else is refused is an error.
 func (c *Client) once(ctx context.Context, method, path string, body []byte, headers map[string]string, timeout time.Duration) (answer, error) {
-	ctx, cancel := context.WithTimeout(ctx, timeout)
-	defer cancel()
-	reply, err := c.send(ctx, method, path, body, c.Identity(), headers)
-	if err != nil {
-		return answer{}, err
+	at := c.addresses.now()
+	found, err := c.answered(ctx, at, method, path, body, headers, timeout)
+	if _, isLost := isLost(err); isLost {
+		c.addresses.leave(at)
 	}
-	defer reply.Body.Close()
-	data, err := io.ReadAll(reply.Body)
-	if err != nil {
-		return answer{}, &lost{err, true}
+	if err != nil || found.status == 200 {
+		return found, err
 	}
-	found := answer{reply.StatusCode, reply.Header, data}
-	if found.status == 200 || isAgain(found.status) {
-		return found, nil
+	refusal := refused(found.status, found.body)
+	if isElsewhere(refusal) {
+		c.addresses.leave(at)
 	}
-	refusal := refused(found.status, data)
-	if found.status == 404 && refusal.Name == "none" {
+	if isAgain(found.status) || found.status == 404 && refusal.Name == "none" {
 		return found, nil
 	}
 	return answer{}, refusal
 }
 
-func (c *Client) send(ctx context.Context, method, path string, body []byte, identity string, headers map[string]string) (*http.Response, error) {
-	request, err := http.NewRequestWithContext(ctx, method, c.url+path, bytes.NewReader(body))
+func (c *Client) answered(ctx context.Context, at *address, method, path string, body []byte, headers map[string]string, timeout time.Duration) (answer, error) {
+	ctx, cancel := context.WithTimeout(ctx, timeout)
+	defer cancel()
+	patience := time.AfterFunc(c.addresses.patience(timeout), cancel)
+	reply, err := c.send(ctx, at.url+path, method, body, c.Identity(), headers)
+	patience.Stop()
+	if err != nil {
+		return answer{}, err
+	}
+	defer reply.Body.Close()
+	data, err := io.ReadAll(reply.Body)
+	if err == nil && (reply.StatusCode == 502 || reply.StatusCode == 504) {
+		err = fmt.Errorf("the proxy answers %d", reply.StatusCode)
+	}
+	if err != nil {
+		return answer{}, &lost{err, true}
+	}
+	return answer{reply.StatusCode, reply.Header, data}, nil
+}
+
+func (c *Client) send(ctx context.Context, url, method string, body []byte, identity string, headers map[string]string) (*http.Response, error) {
+	request, err := http.NewRequestWithContext(ctx, method, url, bytes.NewReader(body))
 	if err != nil {
 		return nil, err
+	}
+	if method != "GET" {
+		request.GetBody = nil // else http sends it again by itself, and doesn't say that it was lost before
 	}
 	if c.options.Token != "" {
 		request.Header.Set("Authorization", "Bearer "+c.options.Token)

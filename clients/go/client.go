@@ -9,7 +9,8 @@
 //	})
 //
 // Whatever is refused is an Error. A request is for one database: the first answer pins the identity, which every later
-// request names. A write has a key, so the server makes it once however often it is sent.
+// request names. A write has a key, so the server makes it once however often it is sent. Where there are several
+// addresses no write is sent before the identity is known: so no other database takes it.
 package ripsawbean
 
 import (
@@ -17,10 +18,8 @@ import (
 	"crypto/rand"
 	"encoding/hex"
 	"encoding/json"
-	"fmt"
+	"net"
 	"net/http"
-	"net/url"
-	"strings"
 	"sync"
 	"time"
 )
@@ -37,27 +36,31 @@ type Options struct {
 
 // Client may be used by several goroutines at once.
 type Client struct {
-	url     string
-	options Options
-	http    http.Client
-	turn    sync.Mutex
-	pinned  string
+	addresses *addresses
+	options   Options
+	http      http.Client
+	turn      sync.Mutex
+	pinned    string
 }
 
-// Connect makes a client. It asks nothing of the server yet.
+// Connect makes a client of the server at the address, or of those at several, with commas between them, of which one
+// has the database at a time. It asks nothing of a server yet.
 func Connect(address string, options Options) (*Client, error) {
-	parts, err := url.Parse(address)
-	if err != nil || (parts.Scheme != "http" && parts.Scheme != "https") || parts.Host == "" || parts.User != nil {
-		return nil, fmt.Errorf("%q is no http://HOST:PORT or https://HOST:PORT", address)
+	found, err := addressesIn(address)
+	if err != nil {
+		return nil, err
 	}
 	if options.Timeout == 0 {
 		options.Timeout = 20 * time.Second
 	}
-	client := &Client{url: strings.TrimRight(address, "/"), options: options, pinned: options.Identity}
+	client := &Client{addresses: found, options: options, pinned: options.Identity}
 	if options.HTTP != nil {
 		client.http = *options.HTTP
 	} else {
-		client.http.Transport = &http.Transport{DisableCompression: true, MaxIdleConnsPerHost: 16}
+		client.http.Transport = &http.Transport{
+			DisableCompression: true, MaxIdleConnsPerHost: 16, TLSHandshakeTimeout: connecting,
+			DialContext: (&net.Dialer{Timeout: connecting}).DialContext,
+		}
 	}
 	client.http.CheckRedirect = func(*http.Request, []*http.Request) error { return http.ErrUseLastResponse }
 	return client, nil

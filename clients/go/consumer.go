@@ -82,19 +82,19 @@ func (c *consumer) take(message Message) error {
 		c.told = append(c.told, message)
 		return nil
 	}
-	if c.isDue() {
+	if c.isDue(message.Kind == nothing || time.Since(c.storedAt) > idle) {
 		return c.keep()
 	}
 	return nil
 }
 
-// isDue says whether to store: rows at once, and a place without rows after a while.
-func (c *consumer) isDue() bool {
+// isDue says whether to store: rows at once, and a place without rows after a while, or once nothing new comes.
+func (c *consumer) isDue(forPlace bool) bool {
 	if c.reached == nil {
 		return false
 	}
 	isNew := c.was == nil || c.reached.Timestamp > c.was.Timestamp
-	return len(c.whole) > 0 || c.isReset || isNew && time.Since(c.storedAt) > idle
+	return len(c.whole) > 0 || c.isReset || isNew && forPlace
 }
 
 // isBelow says whether the feed's place was reached by this message, and not by one that it took ahead.

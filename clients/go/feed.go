@@ -13,10 +13,9 @@ import (
 )
 
 const (
-	silence = time.Minute // without a byte after which a stream's server is taken for dead
-	hold    = 30          // seconds for which a snapshot that was cut is held from page to page
-	enough  = 1000        // rows that a consumer stores at once, where more are waiting
-	idle    = time.Second // after which it stores a place although no row came
+	hold   = 30          // seconds for which a snapshot that was cut is held from page to page
+	enough = 1000        // rows that a consumer stores at once, where more are waiting
+	idle   = time.Second // after which it stores a place although no row came, where messages go on coming
 )
 
 // Kind says what a message is.
@@ -26,7 +25,7 @@ const (
 	Reset    Kind = iota // forget all rows: those of the database at Place come next
 	Change               // a committed row
 	Resolved             // all changes up to Place were told: a feed may go on from there
-	nothing              // that is new has come for a while: told to a consumer alone
+	nothing              // new comes now: told to a consumer alone
 )
 
 // Message of a feed. A change has a nil Value where it was deleted, and a nil Before where it was absent.
@@ -60,6 +59,7 @@ type Feed struct {
 	last       *Message // the row that was told last
 	resolved   *Timestamp
 	generation uint64
+	address    *address // where the last stream was asked for
 	identity   string
 	cursor     Timestamp
 	lines      *bufio.Reader
@@ -99,6 +99,7 @@ func (f *Feed) Next() (Message, error) {
 		err := f.step()
 		if _, again := isLost(err); again && f.ctx.Err() == nil {
 			f.Close()
+			f.client.addresses.leave(f.address)
 			f.limit = (f.limit + 1) / 2
 			f.tries.pause(f.ctx, 0)
 		} else if err != nil {
@@ -119,7 +120,7 @@ func (f *Feed) step() error {
 	if f.lines == nil {
 		return f.open()
 	}
-	f.watch.Reset(silence)
+	f.watch.Reset(f.client.addresses.silence())
 	line, err := f.lines.ReadBytes('\n')
 	if err != nil { // the end, or half a line
 		return &lost{err, true}
@@ -147,8 +148,11 @@ func (f *Feed) open() error {
 		identity = ""
 	}
 	ctx, stop := context.WithCancel(f.ctx)
-	f.stop, f.watch = stop, time.AfterFunc(silence, stop)
-	reply, err := f.client.send(ctx, "GET", "/feed"+arguments(f.options.Lo, f.options.Hi, further...), nil, identity, nil)
+	addresses := f.client.addresses
+	f.address = addresses.now()
+	f.stop, f.watch = stop, time.AfterFunc(addresses.patience(addresses.silence()), stop)
+	path := "/feed" + arguments(f.options.Lo, f.options.Hi, further...)
+	reply, err := f.client.send(ctx, f.address.url+path, "GET", nil, identity, nil)
 	if err != nil {
 		return err
 	}

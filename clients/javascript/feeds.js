@@ -12,10 +12,9 @@ import { AGAIN, numberIn, PAGE, Pauses, sleep } from "./answers.js";
 import { Gone, Lost, OtherDatabase, Outrun, refused } from "./errors.js";
 import { behind, fromBase64, known, pathOf, percent, textOf } from "./values.js";
 
-const SILENCE = 60_000; // milliseconds without a byte after which a stream's server is taken for dead
 const HOLD = 30; // seconds for which a snapshot that was cut is held from page to page
 const ENOUGH = 1000; // rows that a consumer stores at once, where more are waiting
-const IDLE = 1000; // milliseconds after which it stores a place although no row came
+const IDLE = 1000; // milliseconds after which it stores a place although no row came, where messages go on coming
 
 /** Timestamps are compared as BigInts, since JavaScript's numbers can't hold all. */
 const isAbove = (one, other) => BigInt(one) > BigInt(other);
@@ -44,6 +43,7 @@ export class Feed {
       } catch (why) {
         if (!(why instanceof Lost)) throw why;
       }
+      this.client._addresses.leave(this.address);
       this.limit = Math.max(1, this.limit >> 1);
       if (last !== this.last || resolved !== this.resolved) pauses = new Pauses();
       await sleep(pauses.next(), this.signal);
@@ -66,7 +66,7 @@ export class Feed {
         [this.snapshot, this.limit] = [{ identity, timestamp: cursor }, PAGE];
         yield { type: "reset", ...this.snapshot };
       }
-      for await (const line of linesOf(response.body, stop)) {
+      for await (const line of linesOf(response.body, stop, this.client._addresses.silence())) {
         yield* line ? this.take(identity, cursor, JSON.parse(line)) : this.idle();
       }
     } finally {
@@ -80,7 +80,8 @@ export class Feed {
     const place = { from: this.place?.timestamp, identity: this.place?.identity };
     const path = pathOf("/feed", this.lo, this.hi, { before: this.before ? 1 : undefined, consumer: this.name, ...place });
     const headers = this.client._headers(this.anew ? null : this.client.identity);
-    const response = await this.client._open(path, control, SILENCE, { headers });
+    this.address = this.client._addresses.now; // where this stream is asked for
+    const response = await this.client._open(this.address, path, control, this.client._addresses.silence(), { headers });
     if (response.status === 200) return response;
     const error = refused(response.status, await response.text().catch(() => ""));
     if (AGAIN.includes(response.status)) throw new Lost(error);
@@ -91,7 +92,7 @@ export class Feed {
     throw error;
   }
 
-  /** Nothing new has come for a while. */
+  /** All was told, and nothing new comes now. */
   *idle() {}
 
   /** Whether the feed may begin anew where its place leads nowhere. */
@@ -148,12 +149,12 @@ export class Feed {
 }
 
 /** The lines of a body. What stands behind the last newline is half a line. */
-async function* linesOf(body, stop) {
+async function* linesOf(body, stop, silence) {
   const reader = body.getReader(), decoder = new TextDecoder();
   let rest = "", timer;
   try {
     for (;;) {
-      timer = setTimeout(stop, SILENCE);
+      timer = setTimeout(stop, silence);
       const { done, value } = await reader.read().catch((why) => {
         throw new Lost(why);
       });
@@ -209,9 +210,9 @@ class Consumer extends Feed {
       await this.keep({ changes: whole, place, was: stored, reset }, load);
       [stored, whole, reset, storedAt] = [place, [], false, Date.now()];
     };
-    // Rows are stored at once, and a place without rows after a while.
+    // Rows are stored at once, and a place without rows after a while, or once nothing new comes.
     const isNew = () => !stored || isAbove(reached.timestamp, stored.timestamp);
-    const isDue = () => reached && (whole.length || reset || (isNew() && Date.now() - storedAt > IDLE));
+    const isDue = (type) => reached && (whole.length || reset || (isNew() && (type === "idle" || Date.now() - storedAt > IDLE)));
     for await (const message of this.messages()) {
       if (message.type === "reset") [told, whole, reached, reset] = [[], [], null, true];
       else {
@@ -220,7 +221,7 @@ class Consumer extends Feed {
         if (type === "change") {
           if (whole.length >= ENOUGH) await keep();
           told.push(change);
-        } else if (isDue()) await keep();
+        } else if (isDue(type)) await keep();
       }
     }
   }

@@ -152,6 +152,7 @@ export class Transaction {
   delete(key: Bytes): void;
 }
 
+/** The url may be several, with commas between them, of servers of which one has the database at a time. */
 export function connect(url?: string, options?: Options): Client;
 
 /** `status` is that of the answer, or 0 where none came. `error` is the refusal's name, `members` all that it said. */

@@ -17,8 +17,10 @@
  *
  * 1. A request is for one database: the first answer pins the identity, which every later request names.
  * 2. A write has a key, so the server makes it once however often it is sent.
+ * 3. Where there are several addresses no write is sent before the identity is known: so no other database takes it.
  */
 
+import { Addresses, ELSEWHERE } from "./addresses.js";
 import { AGAIN, Answer, nonsense, PAGE, Pauses, sleep } from "./answers.js";
 import { ConditionFailed, Gone, Lost, OtherDatabase, OutcomeUnknown, refused, Unreachable } from "./errors.js";
 import { consume, Feed } from "./feeds.js";
@@ -47,9 +49,7 @@ const crypto = globalThis.crypto ?? (await import(NODES)).webcrypto;
 export class Client {
   constructor(url, options) {
     const { token, timeout = 20_000, identity = null, fetch = globalThis.fetch } = known(options, "token", "timeout", "identity", "fetch");
-    const { protocol, username, search, hash, href } = new URL(url);
-    if (!/^https?:$/.test(protocol) || username || search || hash) throw new TypeError(`${url} is no http://HOST:PORT or https://HOST:PORT`);
-    Object.assign(this, { url: href.replace(/\/$/, ""), timeout, identity, _fetch: fetch, _longest: FIRST });
+    Object.assign(this, { timeout, identity, _addresses: new Addresses(url), _fetch: fetch, _longest: FIRST });
     this._token = token ? { Authorization: `Bearer ${token}` } : {};
   }
 
@@ -141,14 +141,19 @@ export class Client {
   /** An answer, asked for again while it is lost or the server is busy, until the time is over. */
   async _call(method, path, body, headers) {
     const pauses = new Pauses(this.timeout);
-    let wasSent = false;
+    if (method !== "GET" && !this.identity && this._addresses.areSeveral) await this._callUntil(pauses, "GET", "/healthz");
+    return this._callUntil(pauses, method, path, body, headers);
+  }
+
+  async _callUntil(pauses, method, path, body, headers) {
+    let wasSent = false, lost;
     for (;;) {
-      let least = 0, isDown = false, busy, lost;
+      let least = 0, isDown = false, busy;
+      const address = this._addresses.now;
       try {
         const answer = await this._once(method, path, body, headers, Math.max(pauses.left(), 1));
         if (!AGAIN.includes(answer.status)) return this._pin(answer), answer;
-        least = 1000 * (Number(answer.headers.get("Retry-After")) || 0);
-        if ([502, 504].includes(answer.status)) throw new Lost(`the proxy answers ${answer.status}`);
+        if (this._addresses.now === address) least = 1000 * (Number(answer.headers.get("Retry-After")) || 0);
         busy = refused(answer.status, answer.text());
       } catch (why) {
         if (why instanceof OtherDatabase && wasSent && method !== "GET") {
@@ -161,10 +166,10 @@ export class Client {
         wasSent ||= why.wasSent;
       }
       const pause = isDown ? undefined : pauses.next(least);
-      if (pause === undefined && busy) throw busy;
       if (pause === undefined) {
-        const kind = wasSent && method !== "GET" ? OutcomeUnknown : Unreachable;
-        throw new kind(0, { error: "unreachable", why: lost.message }, { cause: lost.cause });
+        const wasWritten = wasSent && method !== "GET";
+        if (busy && !wasWritten) throw busy;
+        throw new (wasWritten ? OutcomeUnknown : Unreachable)(0, { error: "unreachable", why: lost.message }, { cause: lost.cause });
       }
       await sleep(pause);
     }
@@ -172,20 +177,27 @@ export class Client {
 
   /** One try. The answer may have a status of AGAIN, and what else is refused is thrown. */
   async _once(method, path, body, headers = {}, timeout = this.timeout) {
-    const answer = await this._send(method, path, body, { ...this._headers(this.identity), ...headers }, timeout);
-    if (answer.status === 200 || AGAIN.includes(answer.status)) return answer;
+    const address = this._addresses.now;
+    const answer = await this._send(address, method, path, body, { ...this._headers(this.identity), ...headers }, timeout).catch((why) => {
+      this._addresses.leave(address);
+      throw why;
+    });
+    if (answer.status === 200) return answer;
     const error = refused(answer.status, answer.text());
-    if (answer.status === 404 && error.error === "none") return answer;
+    if (answer.status === 503 && ELSEWHERE.includes(error.error)) this._addresses.leave(address);
+    if (AGAIN.includes(answer.status) || (answer.status === 404 && error.error === "none")) return answer;
     if (error instanceof ConditionFailed) error.found = (error.members.found ?? []).filter((one) => "key" in one).map(rowOf);
     throw error;
   }
 
-  async _send(method, path, body, headers, timeout) {
+  async _send(address, method, path, body, headers, timeout) {
     const control = new AbortController();
     const timer = endLater(control, timeout);
     try {
-      const response = await this._open(path, control, timeout, { method, body, headers });
-      return new Answer(response, new Uint8Array(await response.arrayBuffer()));
+      const response = await this._open(address, path, control, timeout, { method, body, headers });
+      const answer = new Answer(response, new Uint8Array(await response.arrayBuffer()));
+      if ([502, 504].includes(answer.status)) throw new Lost(`the proxy answers ${answer.status}`);
+      return answer;
     } catch (why) {
       throw why instanceof Lost ? why : new Lost(why);
     } finally {
@@ -194,12 +206,12 @@ export class Client {
   }
 
   /** The head of an answer, which comes within the timeout. Until one has come, each try is given twice the time of the last. */
-  async _open(path, control, timeout, options) {
-    const longest = Math.min(timeout, this._longest);
+  async _open(address, path, control, timeout, options) {
+    const longest = Math.min(this._addresses.patience(timeout), this._longest);
     const timer = endLater(control, longest, () => (this._longest = Math.max(this._longest, 2 * longest)));
     try {
       const all = { cache: "no-store", redirect: "manual", ...options, signal: control.signal };
-      const response = await this._fetch.call(globalThis, this.url + path, all);
+      const response = await this._fetch.call(globalThis, address.url + path, all);
       this._longest = Infinity;
       return response;
     } catch (why) {
@@ -304,4 +316,5 @@ export class Transaction {
   }
 }
 
+/** A client of the server at the url, or of those at several, with commas between them, of which one has the database at a time. */
 export const connect = (url = "http://127.0.0.1:7077", options) => new Client(url, options);

@@ -10,6 +10,7 @@ import contextlib
 import json
 import os
 import random
+import signal
 import socket
 import subprocess
 import tempfile
@@ -17,7 +18,7 @@ import threading
 import time
 from typing import Any, Callable, Dict, Iterator, List, Optional, Tuple
 
-from driver import Driver
+from driver import LONGEST, Driver
 from real import Server
 
 TOKEN = "correct-horse-battery"
@@ -192,6 +193,32 @@ def consume(driver: Driver, place: Any, kept: Dict[str, str], last: int) -> Any:
     return place
 
 
+def a_place_moves_at_rest(ground: Ground) -> None:
+    """A consumer whose span is quiet stores what is closed elsewhere, within some second and some once a second."""
+    client, consumer = ground.client(), ground.client()
+    gives(client, "put", key="a", value="1")
+    batches: List[Any] = []
+    span = {"name": "c", "lo": "a", "hi": "b"}
+    thread = threading.Thread(target=lambda: batches.extend(gives(consumer, "consume", stores=3, **span)))
+    thread.start()
+    while ground.consumer("c")["feed"] is None:
+        time.sleep(0.02)
+    last = gives(client, "put", key="a", value="2")
+    while ground.consumer("c")["stored"] != last:
+        time.sleep(0.02)
+    last, began = gives(client, "put", key="z", value="1"), time.monotonic()
+    thread.join(LONGEST)
+    took = time.monotonic() - began
+    assert took < 5 and batches[-1]["place"]["timestamp"] == last and not batches[-1]["changes"], (took, batches)
+
+    thread = threading.Thread(target=lambda: gives(consumer, "consume", stores=4, place=batches[-1]["place"], **span))
+    thread.start()
+    began = time.monotonic()
+    while thread.is_alive():
+        gives(client, "put", key="z", value="1")
+    assert 2.9 < time.monotonic() - began < 10, "four places were stored in %.1f seconds" % (time.monotonic() - began)
+
+
 def a_later_consumer_ends_an_earlier_one(ground: Ground) -> None:
     first, second = ground.client(), ground.client()
     gives(second, "put", key="a", value="1")
@@ -221,40 +248,117 @@ def a_server_that_was_killed(ground: Ground) -> None:
 
 
 def a_server_that_keeps_its_data(program: str, command: List[str]) -> None:
-    """It is killed by kill -9 every few writes. A client, a feed and a consumer go on, and are told each change once."""
-    with tempfile.TemporaryDirectory() as folder:
-        data = os.path.join(folder, "data")
-        with Ground(program, command, "--data", data, "--history", "60") as ground:
-            writer, follower, consumer = (ground.client() for _ in range(3))
-            gives(writer, "put", key="z", value="0")
-            place = gives(follower, "feed", take=3)[-1]
-            place = {"identity": place["identity"], "timestamp": place["resolved"]}
-            stored = gives(consumer, "consume", name="c", stores=1)[0]["place"]
-            told: List[Any] = []
-            batches: List[Any] = []
-            threads = [
-                threading.Thread(target=lambda: told.extend(gives(follower, "feed", place=place, take=20))),
-                threading.Thread(target=lambda: batches.extend(gives(consumer, "consume", name="c", place=stored, stores=8))),
-            ]
-            for thread in threads:
-                thread.start()
-            wrote = written_through_restarts(ground.server, writer, threads)
-            for found in (told, [change for batch in batches for change in batch["changes"]]):
-                found = [one for one in found if "key" in one]
-                assert found and found == wrote[: len(found)], (found, wrote)
-            assert gives(writer, "get", key="k0") == [one["value"] for one in wrote if one["key"] == "k0"][-1]
+    """It is killed by kill -9 every few writes."""
+    with tempfile.TemporaryDirectory() as folder, Ground(program, command, *keeping(folder)) as ground:
+        goes_on(ground, ground.server.host, lambda: ground.server.happen({"world": "restart"}))
 
 
-def written_through_restarts(server: Server, writer: Driver, threads: List[threading.Thread]) -> List[Dict[str, Any]]:
-    """Writes as long as one of the threads waits for more. A server that is killed has answered all that it was asked."""
+def servers_that_take_over(program: str, command: List[str]) -> None:
+    """One of two has the data, until it is killed by kill -9, or freezes and is killed later. Then the other one has them."""
+    with tempfile.TemporaryDirectory() as folder, Ground(program, command, *keeping(folder)) as ground:
+        server, ports = ground.server, [ground.server.port(), free_port()]
+        takes_over = threading.Timer(0, lambda: None)
+
+        def end() -> None:
+            nonlocal takes_over
+            if takes_over.ident:
+                takes_over.join()
+            ports.reverse()
+            is_frozen = ports[0] < ports[1]
+            if is_frozen:
+                server.child.send_signal(signal.SIGSTOP)
+            takes_over = threading.Timer(4 if is_frozen else 0, server.move, [ports[0]])
+            takes_over.start()
+
+        goes_on(ground, ",http://".join("127.0.0.1:" + port for port in ports), end)
+        takes_over.join()
+
+
+def keeping(folder: str) -> Tuple[str, ...]:
+    return "--data", os.path.join(folder, "data"), "--history", "60"
+
+
+def goes_on(ground: Ground, hosts: str, end: Callable[[], None]) -> None:
+    """A client, a feed and a consumer go on while the server is ended every few writes, and are told each change once."""
+    writer, follower, consumer = (ground.client(hosts) for _ in range(3))
+    gives(writer, "put", key="z", value="0")
+    place = gives(follower, "feed", take=3)[-1]
+    place = {"identity": place["identity"], "timestamp": place["resolved"]}
+    stored = gives(consumer, "consume", name="c", stores=1)[0]["place"]
+    told: List[Any] = []
+    batches: List[Any] = []
+    threads = [
+        threading.Thread(target=lambda: told.extend(gives(follower, "feed", place=place, take=20))),
+        threading.Thread(target=lambda: batches.extend(gives(consumer, "consume", name="c", place=stored, stores=8))),
+    ]
+    for thread in threads:
+        thread.start()
+    wrote = written_through_ends(writer, threads, end)
+    for found in (told, [change for batch in batches for change in batch["changes"]]):
+        found = [one for one in found if "key" in one]
+        assert found and found == wrote[: len(found)], (found, wrote)
+    assert gives(writer, "get", key="k0") == [one["value"] for one in wrote if one["key"] == "k0"][-1]
+
+
+def written_through_ends(writer: Driver, threads: List[threading.Thread], end: Callable[[], None]) -> List[Dict[str, Any]]:
+    """Writes as long as one of the threads waits for more, and ends the server behind every fifth write."""
     wrote: List[Dict[str, Any]] = []
     while any(thread.is_alive() for thread in threads) and len(wrote) < 200:
         key, value = "k%d" % (len(wrote) % 3), str(len(wrote))
         at = gives(writer, "put", key=key, value=value)
         wrote.append({"key": key, "value": value, "timestamp": at, "before": None})
         if len(wrote) % 5 == 0:
-            server.happen({"world": "restart"})
+            end()
     return wrote
+
+
+@contextlib.contextmanager
+def another(ground: Ground) -> Iterator[Server]:
+    """A second server, which has another database."""
+    server = Server(ground.server.program, None)
+    try:
+        yield server
+    finally:
+        server.close()
+
+
+def a_server_that_says_nothing(ground: Ground) -> None:
+    """The first of two is frozen: it takes connections, and never answers. All goes by the other one."""
+    calls: Dict[str, Dict[str, Any]] = {
+        "put": {"key": "a", "value": "1"}, "feed": {"take": 3}, "consume": {"name": "c", "stores": 1},
+    }
+    with another(ground) as frozen:
+        frozen.child.send_signal(signal.SIGSTOP)
+        hosts = "%s,http://%s" % (frozen.host, ground.server.host)
+        for call, arguments in calls.items():
+            client, began = ground.client(hosts), time.monotonic()
+            gives(client, call, **arguments)
+            first, began = time.monotonic() - began, time.monotonic()
+            assert gives(client, "get", key="a") == "1"
+            later = time.monotonic() - began
+            assert 1 < first < 15 and later < 2, (call, first, later)
+
+
+def a_stream_that_falls_silent(ground: Ground) -> None:
+    """Its server freezes, and the feed goes on at the next address, which has another database here."""
+    with another(ground) as other:
+        other.happen({"world": "put", "key": "a", "value": "1"})
+        feed = ground.client("%s,http://%s" % (other.host, ground.server.host))
+        told: List[Any] = []
+        thread = threading.Thread(target=lambda: told.extend(gives(feed, "feed", anew=True, take=4)))
+        thread.start()
+        time.sleep(2)
+        other.child.send_signal(signal.SIGSTOP)
+        began = time.monotonic()
+        thread.join(LONGEST)
+        took = time.monotonic() - began
+        assert ["reset" in one for one in told] == [True, False, False, True], told
+        assert told[2]["identity"] == told[0]["identity"] != told[3]["identity"] and 10 < took < 40, (took, told)
+
+
+def free_port() -> str:
+    with socket.create_server(("127.0.0.1", 0)) as one:
+        return str(one.getsockname()[1])
 
 
 def nobody_there(ground: Ground) -> None:
@@ -363,9 +467,9 @@ def tls_and_token(program: str, command: List[str]) -> None:
 
 
 TESTS: Tuple[Callable[[Ground], None], ...] = (
-    counts_through_cuts, a_feed_through_cuts, a_snapshot_through_cuts, a_consumer_through_cuts,
+    counts_through_cuts, a_feed_through_cuts, a_snapshot_through_cuts, a_consumer_through_cuts, a_place_moves_at_rest,
     a_later_consumer_ends_an_earlier_one, a_server_that_was_killed, nobody_there, a_write_that_is_lost_with_its_server,
-    a_write_that_is_lost_before_another_database,
+    a_write_that_is_lost_before_another_database, a_server_that_says_nothing, a_stream_that_falls_silent,
 )
 
 
@@ -376,7 +480,7 @@ def live(program: str, command: List[str], only: str) -> Iterator[Tuple[str, Lis
         if only in name:
             with Ground(program, command, "--history", "60") as ground:
                 yield name, faults_of(lambda: test(ground))
-    for alone in (a_server_that_keeps_its_data, counts_over_crashes, tls_and_token):
+    for alone in (a_server_that_keeps_its_data, servers_that_take_over, counts_over_crashes, tls_and_token):
         name = alone.__name__.replace("_", " ")
         if only in name:
             yield name, faults_of(lambda: alone(program, command))

@@ -140,11 +140,18 @@ class Server:
         assert self.child.stdout
         self.child.stdout.close()
 
+    def port(self) -> str:
+        return self.host.rpartition(":")[2]
+
+    def move(self, port: str) -> None:
+        """It is killed by kill -9, and the next one has this port."""
+        self.close()
+        self.start(port)
+
     def happen(self, line: Dict[str, Any]) -> None:
         """What the world does."""
         if line["world"] == "restart":
-            self.close()
-            self.start(self.host.rpartition(":")[2])
+            self.move(self.port())
         elif line["world"] == "put":
             with contextlib.closing(self.connect()) as other:
                 other.request("PUT", "/key/" + quote(line["key"], safe=""), line["value"].encode(), self.shown())

@@ -31,7 +31,8 @@ SERVER = os.environ.get("SERVER") or os.path.join(TOP, "server", "run")
 
 def faults_of_client(fake: Fake, driver: Driver, case: records.Case) -> Iterator[str]:
     fake.play(case)
-    driver.tell({"connect": fake.url, "timeout": 20, **case.options})
+    options = {"timeout": 20, **case.options}
+    driver.tell({"connect": ",".join([fake.url] * options.pop("addresses", 1)), **options})
     for line in case.lines:
         if "call" in line:
             wanted = {name: line[name] for name in ("gives", "raises", "error", "found") if name in line}

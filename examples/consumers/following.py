@@ -13,6 +13,9 @@ the database at the place's timestamp, and a consumer that was replaced while it
 A place of another database leads nowhere: its rows may be all that is left of that one. So the consumer ends there, with
 status 4 and a sentence. With `--anew` it empties its target, and begins anew.
 
+SERVER may be the URLs of several servers, with commas between them, of which one has the database at a time: where that
+one falls silent the consumer goes on at the next one.
+
 Where another consumer has taken its name it ends with status 5 and a sentence. Whatever starts consumers again has to
 leave both be (systemd: `RestartPreventExitStatus=4 5`), or two of one name replace each other for ever.
 """

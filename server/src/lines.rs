@@ -301,11 +301,11 @@ impl Told {
 /// Who has ended what is another's, whose it was, and how many.
 fn audit(core: &Core, session: &Session, event: &'static str, number: u64, owner: Owner, count: u64) {
     let of = match owner {
-        Owner::Server => "the server",
-        Owner::Seat(seat) => core.seats.taken(seat).map_or("", |taken| &taken.peer),
+        Owner::Server => "the server".to_string(),
+        Owner::Seat(seat) => core.seats.taken(seat).map_or_else(String::new, |taken| taken.peer.to_string()),
     };
     let (seat, by) = (session.seat.into(), session.who.name().into());
-    let fields = [("number", number.into()), ("seat", seat), ("by", by), ("of", of.into()), ("count", count.into())];
+    let fields = [("number", number.into()), ("seat", seat), ("by", by), ("of", of.as_str().into()), ("count", count.into())];
     core.log.audit(event, &fields);
 }
 

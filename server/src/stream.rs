@@ -41,7 +41,10 @@ use std::time::Duration;
 use tokio::sync::watch;
 use tokio::time::{sleep, timeout, Instant};
 
-/// An idle stream is written to so often, so that a reader that is gone is found out.
+/// A stream that has told nothing for so long says so once, at the next look of each second: then a consumer stores its
+/// place, which would be old until the next message.
+const QUIET: Duration = Duration::from_millis(100);
+/// From then on it is written to so often, so that a reader that is gone is found out.
 const IDLE: Duration = Duration::from_secs(15);
 /// A reader that has no room for so long is one that others don't wait for.
 const SOON: Duration = Duration::from_millis(5);
@@ -68,6 +71,8 @@ pub struct Stream {
     /// How long its next poll may be.
     length: Length,
     written: Instant,
+    /// Whether it has said that it tells nothing.
+    is_quiet: bool,
 }
 
 /// Rows are told with the values before.
@@ -122,6 +127,7 @@ impl Stream {
             waits: false,
             length: Length::Long,
             written: Instant::now(),
+            is_quiet: false,
         }
     }
 
@@ -174,7 +180,10 @@ impl Stream {
             Next::Poll | Next::Feed => tokio::task::yield_now().await,
             Next::Pause => sleep(LOOK).await,
             Next::Cut => return Err(Stop::Gone),
-            Next::Wait if self.written.elapsed() > IDLE => self.send(self.form.idle()).await?,
+            Next::Wait if self.written.elapsed() > if self.is_quiet { IDLE } else { QUIET } => {
+                self.send(self.form.idle()).await?;
+                self.is_quiet = true;
+            }
             Next::Wait => tokio::select! {
                 // It changes each second. The door lives as long as the stream's place.
                 _ = self.moved.changed() => {}
@@ -240,7 +249,7 @@ impl Stream {
     }
 
     async fn send(&mut self, piece: Bytes) -> Result<(), Stop> {
-        self.written = Instant::now();
+        (self.written, self.is_quiet) = (Instant::now(), false);
         self.sender.send(piece).await.map_err(|Gone| Stop::Gone)
     }
 

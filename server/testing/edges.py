@@ -18,7 +18,9 @@ import time
 import aiohttp
 
 from ledger import Ledger
-from machine import LONGEST, Server, wait_for
+from machine import LONGEST, Postgres, Redis, Server, wait_for
+from postgres_replica import Table
+from redis_cache import Cache
 from ripsawbean import Event
 from search_index import Index
 
@@ -291,6 +293,29 @@ def test_many_consumers_of_one_name(room, server):
         settled(server, lambda: Ledger(file))
         (left,) = [one for one in many if not one.has_ended()]
         left.kill()
+
+
+def test_places_of_quiet_spans(room, server):
+    """Cache, index and replica store what is closed elsewhere within some second, though no row of theirs comes."""
+    redis, postgres, file = room.start(Redis(room.path)), room.start(Postgres(room.path)), room.file("quiet.db")
+    targets = {
+        "cache": ("redis_cache.py", redis.url, lambda: Cache(redis.url, "cache")),
+        "index": ("search_index.py", file, lambda: Index(file)),
+        "replica": ("postgres_replica.py", postgres.dsn, lambda: Table(postgres.dsn)),
+    }
+    for name, (script, target, _) in targets.items():
+        room.start(room.script(name, script, server.url, name, target, "key/", "key0"))
+    put(server, 10)
+    for _, _, make in targets.values():
+        settled(server, make)
+    put(server, 1)
+    time.sleep(0.5)
+    server.call("begin\nput . other 1\ncommit .\n")
+    last, began = server.closed(), time.monotonic()
+    for name, (_, _, make) in targets.items():
+        with contextlib.closing(make()) as target:
+            wait_for(lambda: target.load().timestamp >= last, "the place of the %s" % name)
+    assert time.monotonic() - began < 5, "it took %.1f seconds" % (time.monotonic() - began)
 
 
 def test_horizon_waits_for_a_consumer_that_is_down(room, server):

@@ -14,17 +14,23 @@ from __future__ import annotations
 import asyncio
 import inspect
 import ssl
+import sys
 from typing import Any, AsyncGenerator, AsyncIterator, Awaitable, Callable, List, NoReturn, Optional, TypeVar, Union, cast
 
 import aiohttp
 import yarl
 
 from . import values
-from .client import SILENCE
+from .addresses import CONNECTING, Address
 from .core import PAGE, Answer, Core, Effect, Follow, Pause, Read, Run, Running, Send, Steps, Tell, TransactionCore
 from .errors import Lost
 from .feeds import Consumer, Feed
 from .values import Batch, Condition, Done, Message, Page, Place, Row, Step, Text
+
+if sys.version_info >= (3, 11):
+    from asyncio import timeout as within
+else:
+    from async_timeout import timeout as within  # which aiohttp needs there
 
 T = TypeVar("T")
 LONGEST = 1 << 20  # bytes of a line, at most: three texts of base64
@@ -147,7 +153,9 @@ class Client(Core):
     @staticmethod
     def _lost(why: Exception, effect: Effect) -> Exception:
         """A failure of the connection is `Lost`, and what the caller's function raises is the caller's."""
-        return why if isinstance(effect, Run) else Lost(why, not isinstance(why, aiohttp.ClientConnectorError))
+        was_connecting = isinstance(why, aiohttp.ServerTimeoutError) and str(why).startswith("Connection timeout")
+        was_sent = not (was_connecting or isinstance(why, aiohttp.ClientConnectorError))
+        return why if isinstance(effect, Run) else Lost(why, was_sent)
 
     async def _do(self, effect: Effect, stream: Optional[aiohttp.ClientResponse]) -> Any:
         if isinstance(effect, Send):
@@ -162,26 +170,28 @@ class Client(Core):
         return await reply if inspect.isawaitable(reply) else reply
 
     async def _send(self, asked: Send) -> Answer:
+        timeout = aiohttp.ClientTimeout(total=asked.seconds, sock_connect=CONNECTING, sock_read=asked.patience)
         async with self._open().request(
-            asked.method, self._url(asked.path), data=asked.body, headers=asked.headers, allow_redirects=False,
-            skip_auto_headers=("Content-Type",), timeout=aiohttp.ClientTimeout(total=asked.seconds),
+            asked.method, url_of(asked.address, asked.path), data=asked.body, headers=asked.headers, allow_redirects=False,
+            skip_auto_headers=("Content-Type",), timeout=timeout,
         ) as reply:
             return Answer(reply.status, reply.headers, await reply.read())
 
     async def _follow(self, asked: Follow) -> aiohttp.ClientResponse:
-        timeout = aiohttp.ClientTimeout(total=None, sock_connect=SILENCE, sock_read=SILENCE)
-        return await self._open().get(
-            self._url(asked.path), headers=asked.headers, allow_redirects=False, timeout=timeout, read_bufsize=LONGEST
-        )
-
-    def _url(self, path: str) -> yarl.URL:
-        return yarl.URL("%s://%s%s" % (self.scheme, self.host, path), encoded=True)
+        timeout = aiohttp.ClientTimeout(total=None, sock_connect=CONNECTING, sock_read=asked.silence)
+        url, headers = url_of(asked.address, asked.path), asked.headers
+        async with within(asked.patience):
+            return await self._open().get(url, headers=headers, allow_redirects=False, timeout=timeout, read_bufsize=LONGEST)
 
     def _open(self) -> aiohttp.ClientSession:
         if self._session is None:
             connector = aiohttp.TCPConnector(limit=0, ssl=self._context) if self._context else aiohttp.TCPConnector(limit=0)
             self._session = aiohttp.ClientSession(connector=connector, auto_decompress=False)
         return self._session
+
+
+def url_of(address: Address, path: str) -> yarl.URL:
+    return yarl.URL("%s://%s%s" % (address.scheme, address.host, path), encoded=True)
 
 
 def connect(url: str = "http://127.0.0.1:7077", token: Optional[str] = None, timeout: float = 20.0,

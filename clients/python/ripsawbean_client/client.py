@@ -9,14 +9,14 @@ from collections import deque
 from typing import Any, Callable, Deque, Generator, Iterator, List, NoReturn, Optional, Tuple, TypeVar, Union, cast
 
 from . import values
+from .addresses import CONNECTING, Address
 from .core import PAGE, Answer, Core, Effect, Follow, Pause, Read, Run, Running, Send, Steps, Tell, TransactionCore
 from .errors import Lost
 from .feeds import Consumer, Feed
 from .values import Batch, Condition, Done, Message, Page, Place, Row, Step, Text
 
 T = TypeVar("T")
-SILENCE = 60.0  # seconds without a byte after which a stream's server is taken for dead: it sends an empty line more often
-FRESH = 5.0     # seconds for which an idle connection is used again: the server ends it a little later
+FRESH = 5.0  # seconds for which an idle connection is used again: the server ends it a little later
 FAILURES = (OSError, http.client.HTTPException)
 
 
@@ -40,8 +40,9 @@ class Client(Core):
     def __init__(self, url: str, token: Optional[str] = None, timeout: float = 20.0, identity: Optional[str] = None,
                  context: Optional[ssl.SSLContext] = None):
         super().__init__(url, token, timeout, identity)
-        self._context = context or (ssl.create_default_context() if self.scheme == "https" else None)
-        self._idle: Deque[Tuple[float, http.client.HTTPConnection]] = deque()
+        is_secure = any(address.scheme == "https" for address in self.addresses.all)
+        self._context = context or (ssl.create_default_context() if is_secure else None)
+        self._idle: Deque[Tuple[float, Address, http.client.HTTPConnection]] = deque()
 
     def __enter__(self) -> "Client":
         return self
@@ -52,7 +53,7 @@ class Client(Core):
     def close(self) -> None:
         """Closes the idle connections. Later calls open new ones."""
         while self._idle:
-            self._idle.pop()[1].close()
+            self._idle.pop()[2].close()
 
     # ---- calls
 
@@ -132,7 +133,7 @@ class Client(Core):
                     elif isinstance(effect, Follow):
                         if stream:
                             stream.close()
-                        stream = _Stream(self._new_connection(SILENCE))
+                        stream = _Stream(self._new_connection(effect.address))
                         reply = stream.open(effect)
                     else:
                         reply = self._do(effect, stream)
@@ -156,12 +157,12 @@ class Client(Core):
         return effect.function(*effect.arguments)
 
     def _send(self, asked: Send) -> Answer:
-        connection, was_sent = self._connection(asked.seconds), False
+        connection, was_sent = self._connection(asked.address), False
         try:
             if connection.sock is None:
                 connection.connect()
             assert connection.sock
-            connection.sock.settimeout(asked.seconds)
+            connection.sock.settimeout(asked.patience)
             was_sent = True
             connection.request(asked.method, asked.path, asked.body, asked.headers)
             reply = connection.getresponse()
@@ -170,23 +171,24 @@ class Client(Core):
             connection.close()
             self.close()  # the server may have ended the others as well
             raise Lost(why, was_sent) from why
-        self._idle.append((time.monotonic(), connection))
+        self._idle.append((time.monotonic(), asked.address, connection))
         return answer
 
-    def _connection(self, seconds: float) -> http.client.HTTPConnection:
+    def _connection(self, address: Address) -> http.client.HTTPConnection:
         """An idle connection that isn't old, or one to open."""
         while self._idle:
-            since, connection = self._idle.pop()
-            if time.monotonic() - since < FRESH:
+            since, other, connection = self._idle.pop()
+            if other is address and time.monotonic() - since < FRESH:
                 return connection
             connection.close()
-        return self._new_connection(seconds)
+        return self._new_connection(address)
 
-    def _new_connection(self, seconds: float) -> http.client.HTTPConnection:
-        if self.scheme == "https":
-            connection: http.client.HTTPConnection = http.client.HTTPSConnection(self.host, timeout=seconds, context=self._context)
+    def _new_connection(self, address: Address) -> http.client.HTTPConnection:
+        connection: http.client.HTTPConnection
+        if address.scheme == "https":
+            connection = http.client.HTTPSConnection(address.host, timeout=CONNECTING, context=self._context)
         else:
-            connection = http.client.HTTPConnection(self.host, timeout=seconds)
+            connection = http.client.HTTPConnection(address.host, timeout=CONNECTING)
         connection.response_class = _Reply
         return connection
 
@@ -223,8 +225,12 @@ class _Stream:
 
     def open(self, asked: Follow) -> Answer:
         try:
+            self.connection.connect()
+            socket = self.connection.sock
+            socket.settimeout(asked.patience)
             self.connection.request("GET", asked.path, headers=asked.headers)
             self.reply = self.connection.getresponse()
+            socket.settimeout(asked.silence)
             body = b"" if self.reply.status == 200 else self.reply.read()
         except FAILURES as why:
             raise Lost(why) from why
@@ -250,6 +256,7 @@ def connect(url: str = "http://127.0.0.1:7077", token: Optional[str] = None, tim
             identity: Optional[str] = None, context: Optional[ssl.SSLContext] = None) -> Client:
     """A client of the server at the url: several threads may use it at once, and a `with` closes it.
 
+    The url may be several, with commas between them, of servers of which one has the database at a time.
     `timeout` is how many seconds a call may take, with all that is tried again. The client is for one database: the one
     with this identity, or else the one that answers first. `context` says which certificates are trusted.
     """

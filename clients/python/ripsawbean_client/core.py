@@ -6,6 +6,7 @@ is thrown into it. So it neither waits nor knows whether threads or asyncio run 
 1. A request is for one database: the first answer pins the identity, which every later request names.
 2. A write has a key, so the server makes it once however often it is sent.
 3. Whatever the server refuses is raised.
+4. Where there are several addresses no write is sent before the identity is known: so no other database takes it.
 """
 
 from __future__ import annotations
@@ -15,9 +16,10 @@ import random
 import secrets
 import time
 from typing import Any, Callable, Dict, Generator, Generic, List, NamedTuple, Optional, Tuple, TypeVar, Union
-from urllib.parse import quote, urlsplit
+from urllib.parse import quote
 
 from . import values
+from .addresses import ELSEWHERE, Address, Addresses
 from .errors import Busy, ConditionFailed, Error, Gone, Lost, OtherDatabase, OutcomeUnknown, Unreachable, refused
 from .values import Condition, Done, Page, Place, Row, Step, Text, bounds_of, bytes_of, path_of
 
@@ -32,20 +34,28 @@ LEFT_BEHIND = "another database answers now, and the write may have committed in
 
 
 class Send(NamedTuple):
-    """A request, which is answered within so many seconds. It comes to an Answer."""
+    """A request. It comes to an Answer, within so many seconds, and without a byte none for longer than its patience."""
 
+    address: Address
     method: str
     path: str
     body: Optional[bytes]
     headers: Dict[str, str]
     seconds: float
+    patience: float
 
 
 class Follow(NamedTuple):
-    """A stream is opened in place of the one before. It comes to an Answer, without its body where that is a stream."""
+    """A stream is opened in place of the one before. It comes to an Answer, without its body where that is a stream.
 
+    The head comes within its patience, and each line within so many seconds of silence.
+    """
+
+    address: Address
     path: str
     headers: Dict[str, str]
+    patience: float
+    silence: float
 
 
 class Read(NamedTuple):
@@ -135,10 +145,7 @@ class Core:
     """What all clients have."""
 
     def __init__(self, url: str, token: Optional[str], timeout: float, identity: Optional[str]):
-        parts = urlsplit(url)
-        if parts.scheme not in ("http", "https") or not parts.hostname or parts.username or parts.query or parts.fragment:
-            raise ValueError("%r is no http://HOST:PORT or https://HOST:PORT" % url)
-        self.scheme, self.host, self.front = parts.scheme, parts.netloc, parts.path.rstrip("/")
+        self.addresses = Addresses(url)
         self.timeout, self.identity = timeout, identity
         self._token = {"Authorization": "Bearer " + token} if token else {}
 
@@ -150,17 +157,23 @@ class Core:
 
     def _call(self, method: str, path: str, body: Optional[bytes] = None, **headers: str) -> Steps[Answer]:
         """An answer, asked for again while it is lost or the server is busy, until the time is over."""
-        pauses, was_sent = Pauses(self.timeout), False
+        pauses = Pauses(self.timeout)
+        if method != "GET" and not self.identity and self.addresses.are_several:
+            yield from self._call_until(pauses, "GET", "/healthz", None)
+        return (yield from self._call_until(pauses, method, path, body, **headers))
+
+    def _call_until(self, pauses: Pauses, method: str, path: str, body: Optional[bytes], **headers: str) -> Steps[Answer]:
+        was_sent = False
         while True:
-            least, last = 0.0, None
+            least, last, address = 0.0, None, self.addresses.now
             try:
                 answer = yield from self._once(method, path, body, max(pauses.left(), SHORT), **headers)
                 if answer.status not in AGAIN:
                     self._pin(answer)
                     return answer
-                least, last = seconds_in(answer.headers.get("Retry-After")), answer
-                if answer.status in LOST_BY_PROXY:
-                    raise Lost("the proxy answers %d" % answer.status)
+                last = answer
+                if self.addresses.now is address:
+                    least = seconds_in(answer.headers.get("Retry-After"))
             except OtherDatabase as why:
                 if was_sent and method != "GET":
                     raise OutcomeUnknown(why.status, {"error": why.error, "why": LEFT_BEHIND}) from why
@@ -176,19 +189,29 @@ class Core:
             if pause is None:
                 break
             yield pause
-        if last:
+        was_written = was_sent and method != "GET"
+        if last and not was_written:
             raise refused(last.status, last.body)
-        kind = OutcomeUnknown if was_sent and method != "GET" else Unreachable
+        kind = OutcomeUnknown if was_written else Unreachable
         raise kind(0, {"error": "unreachable", "why": str(lost)}) from lost
 
     def _once(self, method: str, path: str, body: Optional[bytes], seconds: float, **headers: str) -> Steps[Answer]:
         """One try. The answer may have a status of AGAIN, and what else is refused is raised."""
-        asked = Send(method, self.front + path, body, {**self._headers(self.identity), **headers}, seconds)
-        answer: Answer = yield asked
-        if answer.status == 200 or answer.status in AGAIN:
+        address, headers = self.addresses.now, {**self._headers(self.identity), **headers}
+        patience = self.addresses.patience(seconds)
+        try:
+            answer: Answer = yield Send(address, method, address.front + path, body, headers, seconds, patience)
+            if answer.status in LOST_BY_PROXY:
+                raise Lost("the proxy answers %d" % answer.status)
+        except Lost:
+            self.addresses.leave(address)
+            raise
+        if answer.status == 200:
             return answer
         error = refused(answer.status, answer.body)
-        if answer.status == 404 and error.error == "none":
+        if answer.status == 503 and error.error in ELSEWHERE:
+            self.addresses.leave(address)
+        if answer.status in AGAIN or answer.status == 404 and error.error == "none":
             return answer
         raise error
 

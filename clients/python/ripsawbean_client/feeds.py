@@ -15,12 +15,13 @@ import time
 from typing import Any, Callable, List, NoReturn, Optional, Tuple
 from urllib.parse import quote
 
+from .addresses import Address
 from .core import AGAIN, PAGE, Answer, Core, Follow, Pauses, Read, Run, Steps, Tell
 from .errors import Error, Gone, Lost, OtherDatabase, Outrun, refused
 from .values import Arguments, Batch, Change, Message, Place, Reset, Resolved, Text, bounds_of, of_base64, path_of
 
 ENOUGH = 1000  # rows that a consumer stores at once, where more are waiting
-IDLE = 1.0     # seconds after which it stores a place although no row came
+IDLE = 1.0     # seconds after which it stores a place although no row came, where messages go on coming
 HOLD = 30      # seconds for which a snapshot that was cut is held from page to page
 NOTHING = (-1, b"")
 
@@ -34,6 +35,7 @@ class Feed:
                  name: Optional[str] = None):
         self.core, self.lo, self.hi, self.before, self.anew, self.name = core, lo, hi, before, anew, name
         self.generation, self.limit = 0, PAGE
+        self.address: Optional[Address] = None     # where the last stream was asked for
         self.begin(place)
 
     def begin(self, place: Optional[Place]) -> None:
@@ -52,6 +54,7 @@ class Feed:
                 yield from self.stream()
             except Lost as why:
                 lost = why
+            self.core.addresses.leave(self.address)
             self.limit = max(1, self.limit // 2)
             if before != (self.last, self.resolved):
                 pauses, is_said = Pauses(), False
@@ -85,7 +88,10 @@ class Feed:
         """A stream from the place, or from nothing where there is none."""
         place: Arguments = {"from": self.place.timestamp, "identity": self.place.identity} if self.place else {}
         path = path_of("/feed", **bounds_of(self.lo, self.hi), before=1 if self.before else None, consumer=self.name, **place)
-        answer: Answer = yield Follow(self.core.front + path, self.core._headers(None if self.anew else self.core.identity))
+        addresses, headers = self.core.addresses, self.core._headers(None if self.anew else self.core.identity)
+        address, silence = addresses.now, addresses.silence()
+        self.address = address
+        answer: Answer = yield Follow(address, address.front + path, headers, addresses.patience(silence), silence)
         if answer.status == 200:
             return answer
         error = refused(answer.status, answer.body)
@@ -149,7 +155,7 @@ class Feed:
         yield Tell(message)
 
     def idle(self) -> Steps[None]:
-        """Nothing new has come for a while."""
+        """All was told, and nothing new comes now."""
         yield from ()
 
 
@@ -193,17 +199,17 @@ class Consumer(Feed):
                 yield from self.keep()
             self.told.append(message)
         else:
-            yield from self.keep_if_due()
+            yield from self.keep_new(time.monotonic() - self.stored_at > IDLE)
 
     def idle(self) -> Steps[None]:
-        yield from self.keep_if_due()
+        yield from self.keep_new(True)
 
-    def keep_if_due(self) -> Steps[None]:
-        """Stores rows at once, and a place without rows after a while."""
+    def keep_new(self, is_due: bool) -> Steps[None]:
+        """Stores rows at once, and a place without rows where that is due."""
         if self.reached is None:
             return
         is_new = self.stored is None or self.reached.timestamp > self.stored.timestamp
-        if self.whole or self.is_reset or is_new and time.monotonic() - self.stored_at > IDLE:
+        if self.whole or self.is_reset or is_new and is_due:
             yield from self.keep()
 
     def keep(self) -> Steps[None]:
