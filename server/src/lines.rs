@@ -83,31 +83,18 @@ pub enum Fault {
 }
 
 impl Fault {
-    fn code(self) -> u8 {
+    /// Its code, and its name.
+    fn words(self) -> (u8, &'static str) {
         match self {
-            Fault::NotYours => 64,
-            Fault::Ahead => 65,
-            Fault::ReplyTooLong => 66,
-            Fault::Full => 67,
-            Fault::TooMany => 68,
-            Fault::NoRight => 69,
-            Fault::Draining => 70,
-            Fault::Skipped => 71,
-            Fault::AnswerTooLong => 25,
-        }
-    }
-
-    fn name(self) -> &'static str {
-        match self {
-            Fault::NotYours => "notyours",
-            Fault::Ahead => "ahead",
-            Fault::ReplyTooLong => "replytoolong",
-            Fault::Full => "full",
-            Fault::TooMany => "toomany",
-            Fault::NoRight => "noright",
-            Fault::Draining => "draining",
-            Fault::Skipped => "skipped",
-            Fault::AnswerTooLong => "answertoolong",
+            Fault::NotYours => (64, "notyours"),
+            Fault::Ahead => (65, "ahead"),
+            Fault::ReplyTooLong => (66, "replytoolong"),
+            Fault::Full => (67, "full"),
+            Fault::TooMany => (68, "toomany"),
+            Fault::NoRight => (69, "noright"),
+            Fault::Draining => (70, "draining"),
+            Fault::Skipped => (71, "skipped"),
+            Fault::AnswerTooLong => (25, "answertoolong"),
         }
     }
 }
@@ -274,7 +261,8 @@ impl Told {
         line: &[u8],
         out: &mut Vec<u8>,
     ) -> Result<Turn, Lost> {
-        self.fault(core, session, fault.code(), fault.name(), line, out)
+        let (code, name) = fault.words();
+        self.fault(core, session, code, name, line, out)
     }
 
     fn fault(
@@ -288,7 +276,7 @@ impl Told {
     ) -> Result<Turn, Lost> {
         core.ledger.refused(name);
         // What was left out follows from another fault, or from a refusal.
-        self.has_fault |= name != Fault::Skipped.name();
+        self.has_fault |= name != Fault::Skipped.words().1;
         self.is_spoiled = true;
         let told = format!("fault {} {code} {name} {}\n", session.lines, why(name, line));
         // Answers may be long already, and have to move where they grow.
