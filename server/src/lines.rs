@@ -191,8 +191,7 @@ fn take(
     let has_dot = has_dot(session, line);
     let most = core.limits.max_answer.saturating_sub(out.len());
     let bound = if length == Length::Short { most.min(SHORT) } else { most };
-    let below = line.strip_prefix(b"closehard ").and_then(|rest| number_in(rest.strip_suffix(b"\n")?));
-    let owners = below.filter(|_| session.who.may(Right::Operate)).map(|at| core.owners_below(at)).unwrap_or_default();
+    let owners = aborted_by(core, session, line);
     let made = match prepared(core, session, line, told.is_spoiled && has_dot) {
         Err(fault) => return told.tell(core, session, fault, line, out),
         Ok(_) if length == Length::Short && takes_long(core, session, line) => return Ok(Turn::Long),
@@ -297,14 +296,15 @@ fn audit(core: &Core, session: &Session, event: &'static str, number: u64, owner
     core.log.audit(event, &fields);
 }
 
-impl Core {
-    /// How many undecided transactions each has at or below a timestamp.
-    fn owners_below(&self, at: u64) -> BTreeMap<Owner, u64> {
-        let mut owners = BTreeMap::new();
-        let below = self.ledger.undecided.range(..=at);
-        below.for_each(|(_, transaction)| *owners.entry(transaction.owner).or_default() += 1);
-        owners
+/// How many transactions of each a hard closing aborts.
+fn aborted_by(core: &Core, session: &Session, line: &[u8]) -> BTreeMap<Owner, u64> {
+    let to = line.strip_prefix(b"closehard ").and_then(|rest| number_in(rest.strip_suffix(b"\n")?));
+    let mut owners = BTreeMap::new();
+    for (_, transaction) in core.ledger.undecided.range(..=to.filter(|_| session.who.may(Right::Operate)).unwrap_or(0))
+    {
+        *owners.entry(transaction.owner).or_default() += 1;
     }
+    owners
 }
 
 /// The line that the database is to see, where it is another one.

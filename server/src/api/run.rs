@@ -310,14 +310,13 @@ impl<'p> Running<'p> {
     /// Chooses the branch that is to be done. Where there is none, it has failed.
     fn choose(&mut self, core: &mut Core) -> Result<Option<Failed<'p>>, Stop> {
         let found = self.failed(core)?;
+        let (timestamp, rests) = (self.timestamp, self.rested(core));
         // Only its own branch is told.
         self.bytes = 0;
         self.branch = match (found.is_empty(), &self.plan.otherwise) {
             (true, _) => Some(Branch::Then),
             (false, Some(_)) => Some(Branch::Else),
-            (false, None) => {
-                return Ok(Some(Failed { timestamp: self.timestamp, found, rests: self.rested(core) }));
-            }
+            (false, None) => return Ok(Some(Failed { timestamp, found, rests })),
         };
         Ok(None)
     }
