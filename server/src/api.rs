@@ -55,12 +55,8 @@ pub struct Answer {
 }
 
 impl Answer {
-    fn new(timestamp: u64, form: Form) -> Answer {
-        Answer { timestamp, form, is_again: false, rests: None }
-    }
-
-    fn resting_on(self, ticket: Ticket) -> Answer {
-        Answer { rests: Some(ticket), ..self }
+    fn new(timestamp: u64, form: Form, rests: Ticket) -> Answer {
+        Answer { timestamp, form, is_again: false, rests: Some(rests) }
     }
 
     fn again(answered: &Answered) -> Answer {
@@ -87,9 +83,7 @@ impl Answer {
         if is_again {
             response = response.with("idempotent-replayed", "true");
         }
-        if let Some(ticket) = rests {
-            response = response.resting_on(ticket);
-        }
+        response.rests = rests;
         match place {
             Some(mut place) => {
                 place.unread.set(response.length());

@@ -101,7 +101,7 @@ impl Core {
             transcript: Transcript::new(options.keep, options.keep_bytes),
             names: Names::new(options.max_consumers),
             closing: Closing::new(options),
-            journal: Journal::nothing(),
+            journal: Journal::default(),
             cuts: Cuts::default(),
             exempt: None,
             limits: Limits::of(options),

@@ -194,7 +194,7 @@ pub struct Response {
     pub headers: Vec<(&'static str, String)>,
     body: Body,
     /// What it rests on, where that is less than all that was done before.
-    rests: Option<Ticket>,
+    pub rests: Option<Ticket>,
 }
 
 impl Response {
@@ -235,11 +235,6 @@ impl Response {
         (response.status, response.rests) = (refusal.status, refusal.rests);
         response.headers.extend(refusal.headers().map(|(name, value)| (name, value.to_string())));
         response
-    }
-
-    #[cfg(test)]
-    pub fn rests(&self) -> Option<Ticket> {
-        self.rests
     }
 
     /// Bytes of its body, where that is there.

@@ -126,12 +126,6 @@ pub enum Failure {
     NotEmpty(String),
     /// A restore was cut between its checkpoint and its journal.
     HalfRestored(String),
-    /// A checkpoint in rows has other pieces than it had.
-    Pieces {
-        name: String,
-        found: i64,
-        wanted: i64,
-    },
     Postgres(String),
     /// Another server has taken over.
     Fenced,
@@ -185,9 +179,6 @@ impl fmt::Display for Failure {
                 "{name} is all that a --restore has left that was cut before its end: empty that place, and restore \
                  again. Nothing was changed"
             ),
-            Failure::Pieces { name, found, wanted } => {
-                write!(f, "{name} has {found} of its {wanted} pieces. Nothing was changed")
-            }
         }
     }
 }

@@ -83,31 +83,18 @@ pub enum Fault {
 }
 
 impl Fault {
-    fn code(self) -> u8 {
+    /// Its code, and its name.
+    fn words(self) -> (u8, &'static str) {
         match self {
-            Fault::NotYours => 64,
-            Fault::Ahead => 65,
-            Fault::ReplyTooLong => 66,
-            Fault::Full => 67,
-            Fault::TooMany => 68,
-            Fault::NoRight => 69,
-            Fault::Draining => 70,
-            Fault::Skipped => 71,
-            Fault::AnswerTooLong => 25,
-        }
-    }
-
-    fn name(self) -> &'static str {
-        match self {
-            Fault::NotYours => "notyours",
-            Fault::Ahead => "ahead",
-            Fault::ReplyTooLong => "replytoolong",
-            Fault::Full => "full",
-            Fault::TooMany => "toomany",
-            Fault::NoRight => "noright",
-            Fault::Draining => "draining",
-            Fault::Skipped => "skipped",
-            Fault::AnswerTooLong => "answertoolong",
+            Fault::NotYours => (64, "notyours"),
+            Fault::Ahead => (65, "ahead"),
+            Fault::ReplyTooLong => (66, "replytoolong"),
+            Fault::Full => (67, "full"),
+            Fault::TooMany => (68, "toomany"),
+            Fault::NoRight => (69, "noright"),
+            Fault::Draining => (70, "draining"),
+            Fault::Skipped => (71, "skipped"),
+            Fault::AnswerTooLong => (25, "answertoolong"),
         }
     }
 }
@@ -204,8 +191,7 @@ fn take(
     let has_dot = has_dot(session, line);
     let most = core.limits.max_answer.saturating_sub(out.len());
     let bound = if length == Length::Short { most.min(SHORT) } else { most };
-    let below = line.strip_prefix(b"closehard ").and_then(|rest| number_in(rest.strip_suffix(b"\n")?));
-    let owners = below.filter(|_| session.who.may(Right::Operate)).map(|at| core.owners_below(at)).unwrap_or_default();
+    let owners = aborted_by(core, session, line);
     let made = match prepared(core, session, line, told.is_spoiled && has_dot) {
         Err(fault) => return told.tell(core, session, fault, line, out),
         Ok(_) if length == Length::Short && takes_long(core, session, line) => return Ok(Turn::Long),
@@ -274,7 +260,8 @@ impl Told {
         line: &[u8],
         out: &mut Vec<u8>,
     ) -> Result<Turn, Lost> {
-        self.fault(core, session, fault.code(), fault.name(), line, out)
+        let (code, name) = fault.words();
+        self.fault(core, session, code, name, line, out)
     }
 
     fn fault(
@@ -288,7 +275,7 @@ impl Told {
     ) -> Result<Turn, Lost> {
         core.ledger.refused(name);
         // What was left out follows from another fault, or from a refusal.
-        self.has_fault |= name != Fault::Skipped.name();
+        self.has_fault |= name != Fault::Skipped.words().1;
         self.is_spoiled = true;
         let told = format!("fault {} {code} {name} {}\n", session.lines, why(name, line));
         // Answers may be long already, and have to move where they grow.
@@ -309,14 +296,15 @@ fn audit(core: &Core, session: &Session, event: &'static str, number: u64, owner
     core.log.audit(event, &fields);
 }
 
-impl Core {
-    /// How many undecided transactions each has at or below a timestamp.
-    fn owners_below(&self, at: u64) -> BTreeMap<Owner, u64> {
-        let mut owners = BTreeMap::new();
-        let below = self.ledger.undecided.range(..=at);
-        below.for_each(|(_, transaction)| *owners.entry(transaction.owner).or_default() += 1);
-        owners
+/// How many transactions of each a hard closing aborts.
+fn aborted_by(core: &Core, session: &Session, line: &[u8]) -> BTreeMap<Owner, u64> {
+    let to = line.strip_prefix(b"closehard ").and_then(|rest| number_in(rest.strip_suffix(b"\n")?));
+    let mut owners = BTreeMap::new();
+    for (_, transaction) in core.ledger.undecided.range(..=to.filter(|_| session.who.may(Right::Operate)).unwrap_or(0))
+    {
+        *owners.entry(transaction.owner).or_default() += 1;
     }
+    owners
 }
 
 /// The line that the database is to see, where it is another one.

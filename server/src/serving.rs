@@ -261,8 +261,7 @@ impl Signals {
     }
 }
 
-/// Reads tokens and certificates anew at SIGHUP, and tells systemd that the server lives, until SIGTERM or SIGINT comes.
-/// It lives as long as its lock can be had.
+/// Reads tokens and certificates anew at SIGHUP, and tells systemd as long as the lock can be had, until told to end.
 async fn work_until_told_to_end(server: &Server, mut signals: Signals, notify: &Notify, acceptor: Option<&Acceptor>) {
     const FAR: Duration = Duration::from_secs(3600);
     let mut beats = interval(notify.every.unwrap_or(FAR));

@@ -209,7 +209,7 @@ def test_a_checkpoint_that_lacks_a_piece(room: Room, dice: random.Random) -> lis
     faults = []
     gone = "DELETE FROM ripsawbean_journal WHERE kind = 'checkpoint'"
     for when, what, wanted in (
-        ("AFTER INSERT ON ripsawbean_journal", "IF NEW.kind = 'checkpoint' THEN %s; END IF" % gone, "0 of its 1 pieces"),
+        ("AFTER INSERT ON ripsawbean_journal", "IF NEW.kind = 'checkpoint' THEN %s; END IF" % gone, "has 0 of its 1 pieces"),
         ("BEFORE INSERT ON ripsawbean_journal", "IF NEW.kind = 'finished' THEN RAISE 'not now'; END IF", "not now"),
     ):
         postgres = room.start(Postgres(room.path))

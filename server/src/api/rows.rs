@@ -98,7 +98,8 @@ async fn in_turns(
         match part.await? {
             (timestamp, Read::Part(next)) => (at, span.lo, length) = (Some(timestamp), Cow::Owned(next), Length::Long),
             (timestamp, Read::All(next)) => {
-                return Ok(Shown { timestamp, rows: reading.take(), next, rests: reading.rests });
+                let (rows, rests) = (std::mem::take(&mut reading.rows), reading.rests);
+                return Ok(Shown { timestamp, rows, next, rests });
             }
         }
         tokio::task::yield_now().await;
@@ -184,10 +185,6 @@ impl Reading<'_> {
                 Ok(Read::All(next))
             }
         }
-    }
-
-    fn take(&mut self) -> Vec<Row<'static>> {
-        std::mem::take(&mut self.rows)
     }
 
     fn protect(&mut self, core: &mut Core, timestamp: u64) -> Result<(), Refusal> {

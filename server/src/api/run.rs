@@ -220,21 +220,19 @@ impl<'p> Running<'p> {
     pub fn turn(&mut self, core: &mut Core, keep: Option<&Keep<'_>>) -> Result<Option<End<'p>>, Stop> {
         self.turn = 0;
         core.journal.begin();
-        let mut ended = self.go_on(core).and_then(|end| end.map(|end| self.commit(core, end, keep)).transpose());
+        let ended = self.go_on(core).and_then(|end| end.map(|end| self.commit(core, end, keep)).transpose());
         if !matches!(ended, Ok(None | Some(End::Committed(_))) | Err(Stop::Lost)) {
             self.abort(core);
         }
         self.was_cut = true;
-        if holds(Rule::RequestsWait) {
-            self.rests = self.rests.max(core.journal.needed());
-        }
-        match &mut ended {
-            Ok(Some(End::Committed(Committed { rests, .. }) | End::Failed(Failed { rests, .. }))) => {
-                *rests = self.rests
-            }
-            _ => {}
-        }
+        self.rests = self.rested(core);
         ended
+    }
+
+    /// What its answer rests on so far.
+    fn rested(&self, core: &Core) -> Ticket {
+        let needed = if holds(Rule::RequestsWait) { core.journal.needed() } else { Ticket::NONE };
+        self.rests.max(needed)
     }
 
     /// Aborts it, where it isn't decided.
@@ -264,6 +262,7 @@ impl<'p> Running<'p> {
             Err(CallError::Unwritten) => return Err(Stop::Lost),
             other => return Err(self.stop(core, "commit", other)),
         }
+        told.rests = self.rested(core);
         told.form = keep.zip(kept).map(|(keep, kept)| keep.keep(kept));
         Ok(End::Committed(told))
     }
@@ -285,8 +284,8 @@ impl<'p> Running<'p> {
         let mut results = std::mem::take(&mut self.results);
         self.tell_versions(core, &mut results)?;
         let (timestamp, written) = (self.timestamp, self.own.len() as u64);
-        let told = Committed { timestamp, branch, written, results, form: None, rests: Ticket::NONE };
-        Ok(Some(End::Committed(told)))
+        let rests = Ticket::NONE;
+        Ok(Some(End::Committed(Committed { timestamp, branch, written, results, form: None, rests })))
     }
 
     /// Whether all conditions were looked at. Those behind one that doesn't hold are too, so that all are told.
@@ -308,12 +307,13 @@ impl<'p> Running<'p> {
     /// Chooses the branch that is to be done. Where there is none, it has failed.
     fn choose(&mut self, core: &mut Core) -> Result<Option<Failed<'p>>, Stop> {
         let found = self.failed(core)?;
+        let (timestamp, rests) = (self.timestamp, self.rested(core));
         // Only its own branch is told.
         self.bytes = 0;
         self.branch = match (found.is_empty(), &self.plan.otherwise) {
             (true, _) => Some(Branch::Then),
             (false, Some(_)) => Some(Branch::Else),
-            (false, None) => return Ok(Some(Failed { timestamp: self.timestamp, found, rests: Ticket::NONE })),
+            (false, None) => return Ok(Some(Failed { timestamp, found, rests })),
         };
         Ok(None)
     }

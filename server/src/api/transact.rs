@@ -68,7 +68,7 @@ pub async fn answer_once(
     match run_until(server, &asked.client, plan, until, Some(&Keep { running: &running, form_of }), unread).await? {
         End::Committed(mut committed) => {
             let form = committed.form.take().unwrap_or_else(|| form_of(&committed));
-            Ok(Answer::new(committed.timestamp, form).resting_on(committed.rests))
+            Ok(Answer::new(committed.timestamp, form, committed.rests))
         }
         End::Failed(failed) => {
             let rests = failed.rests;

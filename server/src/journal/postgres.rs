@@ -122,7 +122,7 @@ impl Session {
     fn check_pieces(&self, checkpoint: Series, wanted: i64) -> Result<(), Failure> {
         match self.number(PIECES_THERE, checkpoint)? {
             found if found == wanted => Ok(()),
-            found => Err(Failure::Pieces { name: name_of(checkpoint), found, wanted }),
+            found => Err(failure(format!("{checkpoint} has {found} of its {wanted} pieces. Nothing was changed"))),
         }
     }
 }
@@ -130,17 +130,6 @@ impl Session {
 /// Series are counted up from 1, so none comes near the end of either kind of number.
 fn number(series: u64) -> i64 {
     i64::try_from(series).unwrap_or(i64::MAX)
-}
-
-fn kind_of(series: Series) -> &'static str {
-    match series.kind {
-        Kind::Checkpoint => "checkpoint",
-        Kind::Journal => "journal",
-    }
-}
-
-fn name_of(series: Series) -> String {
-    format!("{series} in PostgreSQL")
 }
 
 impl Postgres {
@@ -163,7 +152,7 @@ impl Postgres {
     fn pieces(&self, series: Series, behind: i64) -> Result<Vec<Row>, Failure> {
         let query = "SELECT piece, bytes FROM ripsawbean_journal WHERE kind = $1 AND series = $2 AND piece > $3
                      ORDER BY piece LIMIT $4";
-        let kind = kind_of(series);
+        let kind = series.kind.name();
         self.session.ask(self.session.client.query(query, &[&kind, &number(series.number), &behind, &PIECES]))
     }
 }
@@ -194,7 +183,7 @@ impl Store for Postgres {
     }
 
     fn name(&self, series: Series) -> String {
-        name_of(series)
+        format!("{series} in PostgreSQL")
     }
 
     /// A transaction is there as a whole or not at all, so nothing is torn.
@@ -207,12 +196,12 @@ impl Store for Postgres {
             Some((_, piece)) => piece + 1,
             None => {
                 let query = "SELECT coalesce(max(piece), 0) FROM ripsawbean_journal WHERE kind = $1 AND series = $2";
-                let (kind, number) = (kind_of(series), number(series.number));
+                let (kind, number) = (series.kind.name(), number(series.number));
                 let last = self.session.ask(self.session.client.query_one(query, &[&kind, &number]))?;
                 last.get::<_, i64>(0) + 1
             }
         };
-        self.session.write(kind_of(series), series.number, piece, &pieces.concat())?;
+        self.session.write(series.kind.name(), series.number, piece, &pieces.concat())?;
         self.last = Some((series, piece));
         Ok(())
     }

@@ -33,6 +33,7 @@ const GREATEST: u64 = i64::MAX as u64;
 const COMPACT: usize = 1 << 16;
 
 /// See the module. Without a writer nothing is kept, and nothing waits.
+#[derive(Default)]
 pub struct Journal {
     writer: Option<Writer>,
     place: Option<Place>,
@@ -57,28 +58,9 @@ pub struct Journal {
 }
 
 impl Journal {
-    /// Nothing is kept.
-    pub fn nothing() -> Journal {
-        Journal {
-            writer: None,
-            place: None,
-            writes: HashMap::new(),
-            fresh: Fresh::default(),
-            mark: 0,
-            horizon: 0,
-            series: 0,
-            last: Ticket::NONE,
-            needed: Ticket::NONE,
-            beside: Vec::new(),
-            is_over: false,
-            #[cfg(test)]
-            late: Vec::new(),
-        }
-    }
-
     pub fn new(writer: Writer, place: Option<Place>, position: &Position, horizon: u64) -> Journal {
         let (mark, series) = (position.mark, position.series.number);
-        Journal { writer: Some(writer), place, mark, horizon, series, ..Journal::nothing() }
+        Journal { writer: Some(writer), place, mark, horizon, series, ..Journal::default() }
     }
 
     pub fn keeps(&self) -> bool {

@@ -21,6 +21,15 @@ pub enum Kind {
     Journal,
 }
 
+impl Kind {
+    pub fn name(self) -> &'static str {
+        match self {
+            Kind::Checkpoint => "checkpoint",
+            Kind::Journal => "journal",
+        }
+    }
+}
+
 /// One series, by its number.
 #[derive(Clone, Copy, Debug, PartialEq, Eq, PartialOrd, Ord)]
 pub struct Series {
@@ -40,11 +49,7 @@ impl Series {
 
 impl fmt::Display for Series {
     fn fmt(&self, f: &mut fmt::Formatter<'_>) -> fmt::Result {
-        let kind = match self.kind {
-            Kind::Checkpoint => "checkpoint",
-            Kind::Journal => "journal",
-        };
-        write!(f, "{kind}-{:06}", self.number)
+        write!(f, "{}-{:06}", self.kind.name(), self.number)
     }
 }
 

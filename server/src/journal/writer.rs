@@ -103,6 +103,7 @@ struct Switch {
     draft: mpsc::Sender<Drafted>,
 }
 
+#[derive(Default)]
 struct Queue {
     lines: Pieces,
     /// The number of the batch that gathers.
@@ -148,15 +149,7 @@ impl Writer {
         let counts = Arc::new(Counts::default());
         counts.since_checkpoint.store(position.bytes, Relaxed);
         write(&mut *store, &mut position, number, mark, &[lines], &counts)?;
-        let queue = Queue {
-            lines: Pieces::with_room(),
-            number: number + 1,
-            mark,
-            is_raised: false,
-            switch: None,
-            is_over: false,
-            writing: None,
-        };
+        let queue = Queue { lines: Pieces::with_room(), number: number + 1, mark, ..Queue::default() };
         let shared = Arc::new(Shared {
             queue: Mutex::new(queue),
             gathered: Condvar::new(),

@@ -95,7 +95,7 @@ fn a_request_above_the_mark_begins_once_that_is_durable() {
 /// What a request is told, and whether it waits.
 async fn waits(server: &Arc<crate::routes::Server>, line: &str, body: &str) -> (u16, bool) {
     let (status, rests) = match ask(server, &Who::anyone(), line, &[], body).await {
-        Ok(response) => (response.status, response.rests()),
+        Ok(response) => (response.status, response.rests),
         Err(refusal) => (refusal.status, refusal.rests),
     };
     let rests = rests.unwrap_or_else(|| server.door.all());
