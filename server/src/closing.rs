@@ -363,7 +363,7 @@ pub async fn tidy(door: &Door, resident: Option<u64>) {
         door.run(|core| core.watch_memory(resident));
     }
     for step in STEPS {
-        door.turns_aside(step).await;
+        door.own_turns(step).await;
     }
     door.ring();
 }

@@ -24,7 +24,7 @@
 //! ```text
 //! door.run(|core| core.ledger.closed)                       a short look
 //! door.turns(client, |core, until, _| ..).await             work that can be cut: 5 ms, and again
-//! door.turns_aside(|core, until| ..).await                  the same of the server's own, which waits for no lane
+//! door.own_turns(|core, until| ..).await                    the same of the server's own, which waits for no lane
 //! door.turn_of(Length::Long, client, |core, _| ..).await    work that can't: in the lane
 //! door.turns_in_lane(client, |core, _| ..).await            work of many turns, beside which no other long work goes on
 //! ```
@@ -235,8 +235,8 @@ impl Door {
     }
 
     /// The server's own work in turns, to its end.
-    pub async fn turns_aside(&self, mut work: impl FnMut(&mut Core, Instant) -> Turn) {
-        while aside(|| self.turn(&mut work)) != Turn::Done {
+    pub async fn own_turns(&self, mut work: impl FnMut(&mut Core, Instant) -> Turn) {
+        while self.turn(&mut work) != Turn::Done {
             tokio::task::yield_now().await;
         }
     }

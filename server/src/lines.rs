@@ -292,7 +292,8 @@ fn audit(core: &Core, session: &Session, event: &'static str, number: u64, owner
         Owner::Seat(seat) => core.seats.taken(seat).map_or_else(String::new, |taken| taken.peer.to_string()),
     };
     let (seat, by) = (session.seat.into(), session.who.name().into());
-    let fields = [("number", number.into()), ("seat", seat), ("by", by), ("of", of.as_str().into()), ("count", count.into())];
+    let fields =
+        [("number", number.into()), ("seat", seat), ("by", by), ("of", of.as_str().into()), ("count", count.into())];
     core.log.audit(event, &fields);
 }
 

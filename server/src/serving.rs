@@ -362,7 +362,7 @@ async fn each_second(server: Arc<Server>) {
 
 async fn end(server: &Arc<Server>) {
     drain(server).await;
-    server.door.turns_aside(stop_feeds).await;
+    server.door.own_turns(stop_feeds).await;
     server.is_ending.send_replace(true);
     let _ = timeout(END, server.tasks.all_ended()).await;
     let last = server.door.run(|core| core.journal.end(core.ledger.greatest.max(core.ledger.closed)));

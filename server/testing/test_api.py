@@ -456,6 +456,24 @@ class Before(unittest.IsolatedAsyncioTestCase):
 
 
 class Memory(unittest.IsolatedAsyncioTestCase):
+    async def test_connections_that_wait_leave_room_to_others(self):
+        """Of eight one address has six that are busy, and another one is served."""
+        async with served("--max-connections", "8") as client, at_address(client, "127.0.0.2") as other, \
+                client.ws_connect("/session") as session:
+            await session.send_str("begin\n")
+            begun = (await session.receive()).data.split(" ")[3]
+            waiting = [asyncio.ensure_future(client.get("/key/a?wait=30&at=" + begun)) for _ in range(5)]
+            for _ in range(100):
+                reply = await client.get("/key/a")
+                if reply.status == 503:
+                    break
+                await asyncio.sleep(0.05)
+            self.assertEqual(await refusal(reply), (503, "connections"))
+            self.assertTrue(reply.headers["Retry-After"].isdigit())
+            self.assertEqual((await other.put("/key/b", data="1")).status, 200)
+            await session.send_str("abort .\n")
+            self.assertEqual({one.status for one in await asyncio.gather(*waiting)}, {404})
+
     async def test_where_it_is_full_keys_are_deleted_alone(self):
         async with served("--max-memory", "1") as client:
             await asyncio.sleep(1.2)

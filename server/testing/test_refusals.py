@@ -19,11 +19,13 @@ from test_served import served  # noqa: E402
 
 TOKENS = "reader read - - reader-0123456789\nsome read,write b d some-0123456789abcdef\n"
 LONG = 200_000  # bytes of a message, at most
-MANY = 60       # bodies that aren't whole, which together are more than those of one client may be
+MANY = 80       # bodies that aren't whole, which together are more than those of one client may be
+AHEAD = 50      # requests that are sent before their answers are read
 # What a client can't bring about, or takes long for: the tests that see it.
 TESTS_OF = {
     (503, "full"): test_api.Memory.test_where_it_is_full_keys_are_deleted_alone,
     (503, "holds"): test_api.Rows.test_snapshots_that_are_held_are_bounded,
+    (503, "connections"): test_api.Memory.test_connections_that_wait_leave_room_to_others,
     (503, "answers"): test_api.Memory.test_slow_readers_of_long_answers_are_bounded,
 }
 # Where the library has no memory, which `server/unit` brings about.
@@ -156,16 +158,25 @@ async def see_too_much(ask):
     assert await ask.transact({"then": [{"scan": [None, None], "limit": 10_000}]}) == (422, "replytoolong")
 
 
-async def see_remembered(ask):
-    """Long answers with keys of their own are remembered until there is no room."""
-    rows = [{"put": "k%02d" % row, "value": "v" * 60_000} for row in range(15)]
-    assert await ask.transact({"then": rows}) == (200, None)
-    for count in range(100):
-        told = await ask.transact({"then": [{"scan": [None, None]}]}, Idempotency_Key="k%d" % count)
-        if told != (200, None):
-            break
-    assert told == (503, "remembered"), (count, told)
-    assert await ask.transact({"then": [{"scan": [None, None]}]}, Idempotency_Key="k0") == (200, None)
+def refused_key(port, body):
+    """How a request with one key more than there is room for is refused, of many that are sent ahead."""
+    wire = Wire(port)
+    for first in range(0, 1_000_000, AHEAD):
+        for key in range(first, first + AHEAD):
+            wire.ask("POST", "/transact", "Idempotency-Key: k%d\r\n" % key, body)
+        for status, answer in [wire.answer() for _ in range(AHEAD)]:
+            if status != 200:
+                wire.close()
+                return status, json.loads(answer)["error"]
+
+
+async def see_remembered(client, ask):
+    """Answers are remembered until their client's share is full. They are told again all the same."""
+    body = json.dumps({"then": [{"put": "a", "value": "v" * 3900}, {"get": "a"}]})
+    told = await asyncio.to_thread(refused_key, client.port, body.encode())
+    assert told == (503, "remembered"), told
+    assert await ask.transact(body, Idempotency_Key="k0") == (200, None)
+    assert await ask.transact(body, Idempotency_Key="new") == (503, "remembered")
 
 
 async def see_draining(client, ask):
@@ -200,7 +211,7 @@ class Refusals(unittest.IsolatedAsyncioTestCase):
         async with served("--max-reply", "100000", "--history", "60") as client:
             await see_too_much(Asker(client, seen))
         async with served() as client:
-            await see_remembered(Asker(client, seen))
+            await see_remembered(client, Asker(client, seen))
         async with served("--drain", "20") as client:
             await see_draining(client, Asker(client, seen))
         for refusal, test in TESTS_OF.items():

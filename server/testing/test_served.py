@@ -402,8 +402,9 @@ class Guard(unittest.IsolatedAsyncioTestCase):
     async def test_one_connection_too_many_is_told_the_protocol(self):
         async with served("--max-connections", "8") as client:
             held, heads = [], []
-            for _ in range(9):
-                reader, writer = await asyncio.open_connection("127.0.0.1", client.port)
+            for last in (1, 1, 1, 1, 1, 1, 2, 2, 3):  # one address has six at most
+                own = ("127.0.0.%d" % last, 0)
+                reader, writer = await asyncio.open_connection("127.0.0.1", client.port, local_addr=own)
                 writer.write(b"GET /feed HTTP/1.1\r\nHost: 127.0.0.1:%d\r\n\r\n" % client.port)
                 held.append(writer)
                 heads.append((await asyncio.wait_for(reader.readuntil(b"\r\n\r\n"), LONGEST)).lower())

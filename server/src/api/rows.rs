@@ -8,7 +8,7 @@
 //! 1. All pages of a walk show one snapshot, or are refused. While there are more, it is held for `hold` seconds, and
 //!    each page holds it anew. Where `hold` is 0, nothing is held.
 //! 2. A page that isn't the last one has a row at least.
-//! 3. A page is read in parts, none of which takes longer than a turn: in the lane, where there are several. Its
+//! 3. A page is read in parts, none of which takes longer than a turn: those behind the first one in the lane. Its
 //!    snapshot isn't collected meanwhile.
 
 use super::holds::Wanted;
@@ -77,33 +77,40 @@ pub async fn rows(server: &Arc<Server>, request: Request) -> Result<Response, Re
     })
 }
 
-/// A page, in turns of a part each.
+/// A page, in turns of a part each. Behind the first one it has the lane until it is whole: many parts are long work,
+/// though none of them is.
 async fn in_turns(
     server: &Server,
     mut span: Bounds<'_>,
-    mut at: Option<u64>,
+    at: Option<u64>,
     until: Instant,
     limit: usize,
     hold: &Wanted,
     unread: &Held,
 ) -> Result<Shown, Refusal> {
     let mut reading = Reading::new(server, limit);
-    // Many parts are long work, though none of them is.
-    let mut length = if limit as u64 > PART.rows { Length::Long } else { Length::Short };
-    loop {
-        let part = at_snapshot(server, hold.by(), at, until, length, |core, at| match unread.has_room() {
-            true => Ok((at, reading.part(core, &span, at, hold)?)),
-            false => Err(Refusal::crowded()),
-        });
-        match part.await? {
-            (timestamp, Read::Part(next)) => (at, span.lo, length) = (Some(timestamp), Cow::Owned(next), Length::Long),
-            (timestamp, Read::All(next)) => {
-                let (rows, rests) = (std::mem::take(&mut reading.rows), reading.rests);
-                return Ok(Shown { timestamp, rows, next, rests });
-            }
+    let mut part = |core: &mut Core, span: &Bounds<'_>, at| match unread.has_room() {
+        true => reading.part(core, span, at, hold),
+        false => Err(Refusal::crowded()),
+    };
+    let first = |core: &mut Core, at| Ok((at, part(core, &span, at)?));
+    let (timestamp, read) = at_snapshot(server, hold.by(), at, until, Length::Short, first).await?;
+    let next = match read {
+        Read::All(next) => next,
+        Read::Part(lo) => {
+            span.lo = Cow::Owned(lo);
+            let others = server.door.turns_in_lane(hold.by(), |core, _| match part(core, &span, timestamp) {
+                Ok(Read::Part(lo)) => {
+                    span.lo = Cow::Owned(lo);
+                    None
+                }
+                Ok(Read::All(next)) => Some(Ok(next)),
+                Err(refusal) => Some(Err(refusal)),
+            });
+            others.await?
         }
-        tokio::task::yield_now().await;
-    }
+    };
+    Ok(Shown { timestamp, rows: std::mem::take(&mut reading.rows), next, rests: reading.rests })
 }
 
 /// Works so long at a snapshot, once it is closed: at the closed timestamp where none is asked for.

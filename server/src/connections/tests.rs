@@ -136,7 +136,7 @@ fn twenty_thousand_come_and_go_in_little_time() {
     let start = processor_time();
     let kept: Vec<_> = (0..20_000).map(|_| come(&all)).collect();
     assert_eq!(kept.iter().filter(|one| one.is_cut()).count(), 10_000);
-    kept.iter().for_each(|one| drop(asks(&one)));
+    kept.iter().for_each(|one| drop(asks(one)));
     assert_eq!(all.open(), 10_000);
     drop(kept);
     assert_eq!(all.open(), 0);
