@@ -112,7 +112,7 @@ func (c *consumer) keep() error {
 		}
 		isLater := stored != nil && stored.Identity == place.Identity && stored.Generation > place.Generation
 		isSame := stored == c.was || stored != nil && c.was != nil && *stored == *c.was
-		if !isLater && !isSame { // an older consumer has stored, just before its end
+		if !isLater && !isSame { // an older consumer has stored just before its end, or the target was emptied or put back
 			return errAgain
 		}
 	}

@@ -235,7 +235,8 @@ class Consumer extends Feed {
       const isLater = stored?.identity === place.identity && isAbove(stored.generation, place.generation);
       const isTheSame = ["identity", "generation", "timestamp"].every((name) => stored?.[name] === was?.[name]);
       if (isLater || isTheSame) throw why;
-      throw new Again("an older consumer has stored, just before its end");
+      // As an older consumer stores just before its end, or as the target was emptied or put back.
+      throw new Again("the stored place isn't the last one, so the consumer begins again from it");
     }
     await this.acknowledge(batch.place);
   }

@@ -347,13 +347,22 @@ def a_stream_that_falls_silent(ground: Ground) -> None:
         told: List[Any] = []
         thread = threading.Thread(target=lambda: told.extend(gives(feed, "feed", anew=True, take=4)))
         thread.start()
-        time.sleep(2)
+        while metric(other, "ripsawbean_stream_messages_total") < 2:
+            time.sleep(0.1)
+        time.sleep(1)  # in which the feed takes them
         other.child.send_signal(signal.SIGSTOP)
         began = time.monotonic()
         thread.join(LONGEST)
         took = time.monotonic() - began
         assert ["reset" in one for one in told] == [True, False, False, True], told
         assert told[2]["identity"] == told[0]["identity"] != told[3]["identity"] and 10 < took < 40, (took, told)
+
+
+def metric(server: Server, name: str) -> int:
+    with contextlib.closing(server.connect()) as connection:
+        connection.request("GET", "/metrics")
+        lines = connection.getresponse().read().decode().splitlines()
+    return next(int(line.split()[1]) for line in lines if line.startswith(name + " "))
 
 
 def free_port() -> str:

@@ -21,7 +21,7 @@ use crate::lines::Limits;
 use crate::log::Log;
 use crate::names::Names;
 use crate::options::Options;
-use crate::outcome::{Outcome, Words};
+use crate::outcome::{Given, Outcome};
 use crate::seats::{Owner, Seats, Session, OWN_SEAT};
 use crate::transcript::Transcript;
 use ripsawbean::{
@@ -57,7 +57,7 @@ pub struct Core {
     /// Answers that were not the ones that had to come.
     pub shouts: u64,
     pub log: Arc<Log>,
-    /// The line that is called, with its seat.
+    /// The line that is called, with its seat. It is spelled once.
     line: Vec<u8>,
     spare: Vec<u8>,
 }
@@ -123,24 +123,12 @@ impl Core {
         most: usize,
         out: &mut Vec<u8>,
     ) -> Result<Outcome, CallError> {
-        let mut wanted = Wanted::Text(out);
         self.line.clear();
         // Writing to a vector can't fail.
         let _ = write!(self.line, "{} ", session.seat);
         self.line.extend_from_slice(line);
-        let called = match may_be_long(line) {
-            true => self.database.calls_within(&self.line, most as u64).next().expect("a line has a result"),
-            false => self.database.call(&self.line),
-        };
-        let is_told = match called {
-            Ok(event) => keep(&mut self.transcript, event, &mut wanted),
-            Err(CallError::Unwritten) => self.keep_again(&mut wanted),
-            Err(error) => return Err(error),
-        };
-        let words = Words::Line(line.strip_suffix(b"\n").unwrap_or(line));
-        let outcome = self.note(Owner::Seat(session.seat), words, is_told);
-        self.record(None);
-        let outcome = outcome?;
+        let most = may_be_long(line).then_some(most as u64);
+        let outcome = self.call_line(Owner::Seat(session.seat), most, Wanted::Text(out))?;
         match outcome {
             Outcome::Started { ts } => session.last = Some(ts),
             Outcome::Written { ts, is_delete, .. } => {
@@ -201,8 +189,7 @@ impl Core {
         }
         let is_told = self.keep_last(&mut Wanted::Nothing);
         // Where its text is lost, the rows aren't.
-        let _ = self.note(Owner::Server, Words::Command(command), is_told);
-        self.record(Some(command));
+        let _ = self.note(Owner::Server, Given::Scan(span), is_told);
         page
     }
 
@@ -267,10 +254,7 @@ impl Core {
             _ => {}
         }
         let is_told = self.keep_last(&mut Wanted::Messages(out));
-        let command = Command::Poll { feed, max: room.rows };
-        let outcome = self.note(Owner::Server, Words::Command(command), is_told);
-        self.record(Some(command));
-        outcome
+        self.note(Owner::Server, Given::Poll, is_told)
     }
 
     /// Cancels a feed where it lives, so that what streams it ends for this reason.
@@ -323,15 +307,15 @@ impl Core {
         self.log.error("shout", &[("why", message.into())]);
     }
 
-    fn make(&mut self, owner: Owner, command: Command<'_>, mut wanted: Wanted<'_>) -> Result<Outcome, CallError> {
-        let is_told = match self.database.make(owner.seat(), command) {
-            Ok(event) => keep(&mut self.transcript, event, &mut wanted),
-            Err(CallError::Unwritten) => self.keep_again(&mut wanted),
+    fn make(&mut self, owner: Owner, command: Command<'_>, wanted: Wanted<'_>) -> Result<Outcome, CallError> {
+        self.line.clear();
+        // Writing to a vector can't fail.
+        let _ = writeln!(self.line, "{} {command}", owner.seat());
+        let outcome = match self.call_line(owner, None, wanted) {
             Err(CallError::NoMemory) => return Ok(Outcome::Refused(Refusal::NoMemory)),
-            Err(error) => return Err(error),
+            Err(error) if error != CallError::Unwritten => return Err(error),
+            made => made,
         };
-        let outcome = self.note(owner, Words::Command(command), is_told);
-        self.record(Some(command));
         if let Command::Put { ts, key, .. } | Command::Del { ts, key } = command {
             let is_delete = matches!(command, Command::Del { .. });
             self.cuts.note(key, Write { ts, is_delete }, || Some(key.to_vec()));
@@ -339,19 +323,21 @@ impl Core {
         outcome
     }
 
-    /// Tells the journal of the event of the call that was made last: of a command, or else of `line`. Each call of the
-    /// database ends in this, also where its text is lost.
-    fn record(&mut self, command: Option<Command<'_>>) {
-        if !self.journal.keeps() {
-            return;
-        }
-        let Some(record) = self.database.last() else { return };
-        if let Some(command) = command.filter(|_| self.journal.wants_line(&record)) {
-            self.line.clear();
-            // Writing to a vector can't fail.
-            let _ = writeln!(self.line, "{} {command}", record.seat);
-        }
-        self.journal.note(&record, &self.line, self.ledger.closed);
+    /// Makes the call of `line`. Where `most` is given, its answer has so many bytes at most.
+    fn call_line(&mut self, owner: Owner, most: Option<u64>, mut wanted: Wanted<'_>) -> Result<Outcome, CallError> {
+        let called = match most {
+            Some(most) => self.database.calls_within(&self.line, most).next().expect("a line has a result"),
+            None => self.database.call(&self.line),
+        };
+        let is_told = match called {
+            Ok(event) => keep(&mut self.transcript, event, &mut wanted),
+            Err(CallError::Unwritten) => self.keep_again(&mut wanted),
+            Err(error) => return Err(error),
+        };
+        let line = std::mem::take(&mut self.line);
+        let outcome = self.note(owner, Given::Line(&line), is_told);
+        self.line = line;
+        outcome
     }
 
     /// The last call was made by its parts: adds its event to the transcript, and tells whether there was memory for that.
@@ -375,10 +361,13 @@ impl Core {
         false
     }
 
-    /// Notes the last event in the ledger, also where its text is lost.
-    fn note(&mut self, owner: Owner, words: Words<'_>, is_told: bool) -> Result<Outcome, CallError> {
-        let outcome = Outcome::of_last(&mut self.database, words);
+    /// Notes the last event in the ledger and in the journal. Each call of the database ends in this, also where its text
+    /// is lost.
+    fn note(&mut self, owner: Owner, given: Given<'_>, is_told: bool) -> Result<Outcome, CallError> {
+        let record = self.database.last().expect("a call was made");
+        let outcome = Outcome::of(&record, &mut self.database, given);
         self.ledger.note(&mut self.seats, owner, &outcome);
+        self.journal.note(&record, given.line(), self.ledger.closed);
         if is_told {
             Ok(outcome)
         } else {

@@ -8,7 +8,7 @@
 //! ```
 
 use crate::growth::Read;
-use ripsawbean::{Closed, Command, CommandKind, Database, Outcome as Answer, Refusal};
+use ripsawbean::{Closed, CommandKind, Database, Outcome as Answer, Record, Refusal, Span};
 use std::fmt;
 
 /// What one event did.
@@ -75,62 +75,66 @@ pub enum Outcome {
     Refused(Refusal),
 }
 
-/// The words of a command, without seat and newline.
+/// How a call was given.
 #[derive(Clone, Copy, Debug)]
-pub enum Words<'a> {
+pub enum Given<'a> {
+    /// By a line, with its seat and its newline.
     Line(&'a [u8]),
-    Command(Command<'a>),
+    /// In parts: a scan of a span.
+    Scan(Span<'a>),
+    /// In parts too.
+    Poll,
 }
 
-impl Words<'_> {
-    fn text(self) -> String {
+impl<'a> Given<'a> {
+    /// The line, where there is one.
+    pub fn line(self) -> &'a [u8] {
         match self {
-            Words::Line(line) => String::from_utf8_lossy(line).into_owned(),
-            Words::Command(command) => command.to_string(),
+            Given::Line(line) => line,
+            Given::Scan(_) | Given::Poll => b"",
         }
     }
 
-    fn bytes(self) -> u64 {
-        let bytes = match self {
-            Words::Line(line) => line.len(),
-            Words::Command(_) => self.text().len(),
-        };
-        bytes as u64
+    /// The words of the command.
+    fn words(self) -> &'a [u8] {
+        let line = self.line();
+        let words = line.iter().position(|&byte| byte == b' ').map_or(line, |space| &line[space + 1..]);
+        words.strip_suffix(b"\n").unwrap_or(words)
     }
 
     /// Bytes that name the keys of a read, at most.
     fn keys(self) -> u64 {
         let bytes = match self {
-            Words::Line(line) => line.len(),
-            Words::Command(Command::Get { key, .. }) => key.len(),
-            Words::Command(Command::Scan { span, .. }) => span.lo.len() + span.hi.map_or(0, <[u8]>::len),
-            Words::Command(_) => 0,
+            Given::Scan(span) => span.lo.len() + span.hi.map_or(0, <[u8]>::len),
+            Given::Line(_) | Given::Poll => self.words().len(),
         };
         bytes as u64
     }
 }
 
 impl Outcome {
-    /// What the last event did, whose command has these words.
-    pub fn of_last(database: &mut Database, words: Words<'_>) -> Outcome {
-        let record = database.last().expect("a call was made");
+    /// What the last event did, which has this record.
+    pub fn of(record: &Record, database: &mut Database, given: Given<'_>) -> Outcome {
         let at = record.at;
         match record.outcome {
             Answer::None | Answer::Value(_) | Answer::Rows(_) => match record.command {
-                CommandKind::Get => Outcome::Read { read: Read::Key, bytes: words.keys() },
-                CommandKind::Scan => Outcome::Read { read: Read::Span, bytes: words.keys() },
+                CommandKind::Get => Outcome::Read { read: Read::Key, bytes: given.keys() },
+                CommandKind::Scan => Outcome::Read { read: Read::Span, bytes: given.keys() },
                 _ => Outcome::Nothing,
             },
             Answer::Stats { .. } => Outcome::Nothing,
             Answer::Written => {
                 let is_delete = record.command == CommandKind::Del;
-                Outcome::Written { ts: at, bytes: words.bytes(), is_delete }
+                Outcome::Written { ts: at, bytes: given.words().len() as u64, is_delete }
             }
             Answer::Started => Outcome::Started { ts: at },
             Answer::Committed(rows) => Outcome::Committed { ts: at, rows },
             Answer::Aborted => Outcome::Aborted { ts: at },
             Answer::Closed(Closed { at, aborted }) => Outcome::Closed { at, aborted },
-            Answer::Opened(feed) => Outcome::Opened { feed, cursor: at, command: words.text() },
+            Answer::Opened(feed) => {
+                let command = String::from_utf8_lossy(given.words()).into_owned();
+                Outcome::Opened { feed, cursor: at, command }
+            }
             Answer::Messages(count) => {
                 Outcome::Messages { feed: at, count, floor: database.places(Some(at)).floor.unwrap_or(0) }
             }
@@ -190,16 +194,15 @@ pub fn name_of(refusal: Refusal) -> &'static str {
 #[cfg(test)]
 mod tests {
     use super::*;
-    use ripsawbean::{Database, Span};
-
     /// The outcome of the last of some lines.
     fn last_of(lines: &[&str]) -> Outcome {
         let mut database = Database::open(16).expect("it opens");
         let mut last = None;
         for line in lines {
-            database.call(format!("{line}\n")).expect("a call");
-            let (_, words) = line.split_once(' ').expect("a seat");
-            last = Some(Outcome::of_last(&mut database, Words::Line(words.as_bytes())));
+            let line = format!("{line}\n");
+            database.call(&line).expect("a call");
+            let record = database.last().expect("it was made");
+            last = Some(Outcome::of(&record, &mut database, Given::Line(line.as_bytes())));
         }
         last.expect("there is a line")
     }
@@ -245,15 +248,11 @@ mod tests {
     }
 
     #[test]
-    fn words_of_a_line_and_of_a_command_are_the_same() {
-        let command = Command::Put { ts: 7, key: b"a b", value: b"1" };
-        let words = [Words::Line(b"put 7 a%20b 1"), Words::Command(command)];
-        assert_eq!(
-            words.map(|words| (words.text(), words.bytes())),
-            [("put 7 a%20b 1".to_string(), 13), ("put 7 a%20b 1".to_string(), 13)]
-        );
-        let scan = Command::Scan { ts: 7, span: Span { lo: b"a b", hi: Some(b"c") } };
-        assert_eq!([Words::Command(scan), Words::Line(b"scan 7 a%20b c")].map(Words::keys), [4, 14]);
+    fn a_line_and_parts_name_keys_of_so_many_bytes() {
+        let given = Given::Line(b"63 scan 7 a%20b c\n");
+        assert_eq!((given.words(), given.keys()), (&b"scan 7 a%20b c"[..], 14));
+        let scan = Given::Scan(Span { lo: b"a b", hi: Some(b"c") });
+        assert_eq!((scan.line(), scan.keys(), Given::Poll.keys()), (&b""[..], 4, 0));
     }
 
     #[test]

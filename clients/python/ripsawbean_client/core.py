@@ -179,7 +179,7 @@ class Core:
                     raise OutcomeUnknown(why.status, {"error": why.error, "why": LEFT_BEHIND}) from why
                 raise
             except Lost as why:
-                lost, last = why, None
+                lost, last, lost_at = why, None, address
                 is_down = was_sent and not why.was_sent
                 was_sent = was_sent or why.was_sent
                 # The server has ended. The next one may have another database, unless the write names its own.
@@ -193,7 +193,7 @@ class Core:
         if last and not was_written:
             raise refused(last.status, last.body)
         kind = OutcomeUnknown if was_written else Unreachable
-        raise kind(0, {"error": "unreachable", "why": str(lost)}) from lost
+        raise kind(0, {"error": "unreachable", "why": "%s: %s" % (lost_at.host, lost)}) from lost
 
     def _once(self, method: str, path: str, body: Optional[bytes], seconds: float, **headers: str) -> Steps[Answer]:
         """One try. The answer may have a status of AGAIN, and what else is refused is raised."""

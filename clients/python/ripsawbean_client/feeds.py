@@ -225,7 +225,8 @@ class Consumer(Feed):
                 raise
             if self.stored == outrun:
                 raise
-            raise Lost("an older consumer has stored, just before its end") from why
+            # As an older consumer stores just before its end, or as the target was emptied or put back.
+            raise Lost("the stored place isn't the last one, so the consumer begins again from it") from why
         self.stored, self.whole, self.is_reset, self.stored_at = place, [], False, time.monotonic()
         yield from self.acknowledge(place)
 

@@ -148,13 +148,8 @@ impl Journal {
         lines
     }
 
-    /// Whether the line of an event is looked at. Otherwise `note` may be given an empty one.
-    pub fn wants_line(&self, record: &Record) -> bool {
-        use ripsawbean::Outcome::{None, Value, Written};
-        self.writer.is_some() && matches!(record.outcome, Written | Value(_) | None)
-    }
-
-    /// An event of the database: its call was a line with seat and newline. `closed` is where closed stands.
+    /// An event of the database. A read of a key and a write were called by this line, with seat and newline. `closed` is
+    /// where closed stands.
     pub fn note(&mut self, record: &Record, line: &[u8], closed: u64) {
         use ripsawbean::Outcome as Did;
         let Some(writer) = &self.writer else { return };
