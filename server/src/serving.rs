@@ -39,6 +39,7 @@ use std::sync::Arc;
 use std::time::{Duration, Instant};
 use tokio::io::AsyncWriteExt;
 use tokio::net::{TcpListener, TcpSocket, TcpStream};
+use tokio::runtime::Runtime;
 use tokio::signal::unix::{signal, Signal, SignalKind};
 use tokio::sync::watch;
 use tokio::time::{interval, sleep, timeout, MissedTickBehavior};
@@ -94,9 +95,14 @@ pub fn serve(options: Options) -> Result<(), Failure> {
         .build()
         .map_err(Failure::System)?;
     let result = runtime.block_on(run(options));
-    // What doesn't end by itself has had its time.
-    runtime.shutdown_background();
+    leave(runtime);
     result
+}
+
+/// What doesn't end by itself has had its time, and ends with the process. Without its runtime, work that is in the
+/// lane just then would panic at its next rest, and the process would end as if it had failed.
+fn leave(runtime: Runtime) {
+    std::mem::forget(runtime);
 }
 
 async fn run(mut options: Options) -> Result<(), Failure> {
@@ -389,4 +395,33 @@ fn stop_feeds(core: &mut Core, until: Instant) -> Turn {
         }
     }
     Turn::Done
+}
+
+#[cfg(test)]
+mod tests {
+    use super::*;
+    use crate::door::Length;
+    use crate::shares::LOOPBACK;
+    use crate::testing;
+    use std::sync::mpsc;
+    use std::thread;
+
+    #[test]
+    fn work_in_the_lane_does_not_panic_where_the_server_has_ended() {
+        let (server, (begun, has_begun), (ended, has_ended)) = (testing::server(&[]), mpsc::channel(), mpsc::channel());
+        let runtime = tokio::runtime::Builder::new_multi_thread().worker_threads(1).enable_all().build();
+        let runtime = runtime.expect("a runtime");
+        runtime.spawn(async move {
+            let long = |_: &mut Core, _| {
+                begun.send(()).expect("it is waited for");
+                thread::sleep(Duration::from_millis(100));
+            };
+            server.door.turn_of(Length::Long, &LOOPBACK, long).await;
+            sleep(Duration::from_millis(1)).await;
+            ended.send(()).expect("it is waited for");
+        });
+        has_begun.recv().expect("it begins");
+        leave(runtime);
+        assert_eq!(has_ended.recv_timeout(Duration::from_secs(60)), Ok(()));
+    }
 }

@@ -22,7 +22,8 @@
 //!
 //! 1. What is taken goes beyond no share. Where room is asked for under one lock, what is set does by one answer at most.
 //! 2. A client that has nothing takes no memory here.
-//! 3. What is known of nobody is the server's: it counts among all, and has no share.
+//! 3. What is known of nobody, as what stands behind a restart, is the server's. It has no share, and shares are parts of
+//!    what it leaves: else who had his share before would take the others' too.
 
 use crate::gate::{Right, Who};
 use crate::refusal::Refusal;
@@ -100,12 +101,13 @@ impl Full {
     }
 }
 
-/// What is in the way of a client that would have `own` of a table of `most`, and all together `all`.
-pub fn full(most: usize, client: &Client, own: usize, all: usize) -> Option<Full> {
-    let kept = most / FOR_OPERATORS;
+/// What is in the way of a client that would have `own` of a table of `most`, and all together `all`, of which are
+/// `nobodys`.
+pub fn full(most: usize, client: &Client, own: usize, all: usize, nobodys: usize) -> Option<Full> {
+    let (kept, left) = (most / FOR_OPERATORS, most.saturating_sub(nobodys));
     let (of_one, of_all) = match client.may_operate {
-        true => (most - most / FOR_OTHERS + kept, most),
-        false => (most - most / FOR_OTHERS, most - kept),
+        true => (left - left / FOR_OTHERS + kept, most),
+        false => (left - left / FOR_OTHERS, most - kept),
     };
     match client.whose {
         Whose::Token(_) | Whose::Network(_) if own > of_one => Some(Full::OfOne),
@@ -180,8 +182,9 @@ impl Table {
     }
 
     fn full(&self, counted: &Counted, client: &Client, more: usize) -> Option<Full> {
-        let own = counted.of.get(client).copied().unwrap_or(0);
-        full(self.most, client, own.saturating_add(more), counted.all.saturating_add(more))
+        let of = |client| counted.of.get(client).copied().unwrap_or(0);
+        let (own, nobodys) = (of(client), of(&Client::SERVER));
+        full(self.most, client, own.saturating_add(more), counted.all.saturating_add(more), nobodys)
     }
 
     fn refusal(&self, full: Full) -> Refusal {
@@ -330,12 +333,18 @@ mod tests {
     }
 
     #[test]
-    fn what_is_known_of_nobody_has_no_share() {
+    fn of_what_nobody_has_left_each_client_has_its_share() {
         let table = Table::of_places(64, "consumers", "names");
         let mut left = table.begin(&Client::SERVER);
-        left.set(60);
-        let others = all_of(&table, &client(1));
+        left.set(48);
+        let taken = all_of(&table, &client(1));
+        assert_eq!((taken.len(), refused(table.take(&client(1)))), (12, Some((503, "consumers", "client".into()))));
+        let others = all_of(&table, &client(2));
         assert_eq!((others.len(), table.taken()), (3, 63));
+        // Nobody's own is bounded by the table alone.
+        left.set(60);
+        drop((taken, others));
+        assert_eq!(all_of(&table, &client(1)).len(), 3);
     }
 
     #[test]

@@ -81,7 +81,7 @@ impl Holds {
         let one_more = |is_held: bool, count: usize| if is_held { 0 } else { count + 1 };
         let is_own = self.ends.contains_key(&(client.clone(), timestamp));
         let all = one_more(self.snapshots.contains_key(&timestamp), self.snapshots.len());
-        let (full, first) = match full(MOST, client, one_more(is_own, own.clone().count()), all) {
+        let (full, first) = match full(MOST, client, one_more(is_own, own.clone().count()), all, 0) {
             Some(Full::OfOne) => (Full::OfOne, own.min()),
             Some(Full::OfAll) => (Full::OfAll, self.snapshots.values().map(|snapshot| snapshot.until).min()),
             None if one_more(is_own, self.ends.len()) > MOST_HOLDS => (Full::OfAll, self.ends.values().min().copied()),
