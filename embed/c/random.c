@@ -335,9 +335,9 @@ static void call_typed(database *db, uint8_t expected) {
             uint8_t *beginning = malloc(shown + 1);
             CHECK(beginning != NULL);
             memcpy(beginning, out, shown);
-            // Of a feed that doesn't live no messages find room.
+            // Of a feed that doesn't live no messages find room, and one is asked for.
             if (parts.is_within && (answer.kind == RIPSAWBEAN_ANSWER_NOFEED || answer.kind == RIPSAWBEAN_ANSWER_FEEDCANCELLED))
-                line_length = (size_t)sprintf(line, "%u poll %llu 0\n", parts.seat, (unsigned long long)parts.number);
+                line_length = (size_t)sprintf(line, "%u poll %llu %d\n", parts.seat, (unsigned long long)parts.number, parts.most > 0);
             take_event(db, out, 0);
             see_answer(db, beginning, shown, length, status == RIPSAWBEAN_OK, &answer);
             free(beginning);
