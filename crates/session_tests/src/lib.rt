@@ -10,8 +10,8 @@
 //! together    threads that call at once, and the engine that comes back with all their seats
 //! apart       threads one after the other
 //! tickets     turns of a lock one after the other: who is refused meanwhile, the floor, the last ticket
-//! turns       a turn of a lock, during which another thread is refused, or sleeps
-//! sleepers    seats that sleep at once, and are woken in turn
+//! turns       a turn of a lock, during which another thread is refused
+//! sleepers    seats that sleep at once, and are all woken
 //! leases      eight sessions that take their timestamps from leases
 //! seats       calls that wait for nobody, floors, and leases
 //! texts       scripts and transcripts for all of them

@@ -27,7 +27,7 @@ pub enum CallDenied {
 }
 
 impl Db {
-    /// Makes a call, once all calls with older tickets are over. `Spent` comes exactly where the next position would be
+    /// Makes a call, once no other has a turn. `Spent` comes exactly where the next position would be
     /// 18446744073709551615, and at each later call of this seat too. Whether the wait ends is not promised.
     pub fn call<R: Wait>(&self, rt: &R, seat: &mut Seat, cmd: Cmd) -> Result<Event, Spent>
         requires own { IsOf self.now seat.old }
@@ -65,7 +65,7 @@ impl Db {
         Ok(())
     }
 
-    /// Makes a call, if no other has a turn or waits for one. It waits for nobody. `Spent` comes where the next position
+    /// Makes a call, if no other has a turn. It waits for nobody. `Spent` comes where the next position
     /// would be 18446744073709551615, and before `Busy`.
     pub fn try_call(&self, seat: &mut Seat, cmd: Cmd) -> Result<Event, CallDenied>
         requires own { IsOf self.now seat.old }

@@ -69,7 +69,3 @@ module _ {T E : Type 0} (stands : T → ℕ → List E → Type 0) (seat_of : E 
         unmoved s r id v (looked v r.serving) at refl refl refl (knows_looked s r id v k r.serving (le_refl r.serving)) (λ f. refl),
         (k.low, far s r id v k sits, λ z e. (more z e, (λ same. let y = sym drew ∙ e in let q : t ≡ z = cc in absurd (ne (same ∙ sym q))), (λ _. refl))),
       )))
-
-  -- the wait goes on from a seat that has only looked
-  pub awaits_from : (slots id : ℕ) (v : View E) (n : ℕ) (cs : List (ℕ × Option T)) (m : Mine T E) (t : ℕ) → m ≡ (looked v n, cs) → v.sits ≡ true → v.ticket ≡ Some t → v.holds ≡ false → Allows Rule slots id m 1 (λ n. n) (awaited stands floor_of (step slots 1 0 0 none) m)
-  awaits_from slots id v n cs m t is sits mine idle = subst (λ (z : Mine T E). Allows Rule slots id z 1 (λ n. n) (awaited stands floor_of (step slots 1 0 0 none) z)) (sym is) (awaits slots id (looked v n, cs) t sits mine idle)

@@ -1,6 +1,6 @@
 -- What a turn's steps tell, put together.
 use Rattle.std.proofs.Common.{◌≡◌, ℕ, ◌<◌, ◌≤◌, ◌≢◌, List, [], ◌∷◌, sym, ap, ◌∙◌, subst, arith, Option, Some}
-use Rattle.atomic_table.specs.Table.{Me, rest}
+use Rattle.atomic_table.specs.Table.{rest}
 use Rattle.ticket_lock.specs.declared.rule.View.{View}
 use Rattle.ticket_lock.specs.declared.rule.SeatRecord.{SeatRecord}
 use Rattle.ticket_lock.specs.Lists.{most, StartsWith, longer}
@@ -12,9 +12,6 @@ use Rattle.ticket_lock.proofs.Keeping.{Mine}
 module _ {T E : Type 0} (stands : T → ℕ → List E → Type 0) (floor_of : T → ℕ) where
   abbrev pub Came : View E → ℕ → Mine T E → Type 0
   Came v t m = (found : List E) × (x : T) × (m ≡ (holding v t found, (0, Some x) ∷ [])) × Finds stands floor_of v t found x
-
-  pub came : (v : View E) (n t r : ℕ) (m m' : Mine T E) → m ≡ (looked v n, []) → v.ticket ≡ Some t → r ≡ t → Waits stands floor_of m r m' → Came v t m'
-  came v n t r m m' is mine here a = let a' = subst (λ (z : Mine T E). Waits stands floor_of z r m') is a in ((a'.2 t mine).1 here)
 
   pub in_front : (v : View E) (t : ℕ) (m : Mine T E) → Came v t m → (x : Option T) × (m.1 ≡ (0, x) ∷ rest m.1)
   in_front v t m c = (Some c.1, let e = ap (λ (z : Mine T E). z.1) c.2 in e ∙ ap (λ (l : List (ℕ × Option T)). (0, Some c.1) ∷ rest l) (sym e))

@@ -65,20 +65,20 @@ module _ {T E : Type 0} where
   HearsOf seat_of other known m m' = (n : ℕ) × (m' ≡ (caught_up (record m.0 { kept = record m.0.kept { known = max m.0.kept.known known }; looks = Ignored ∷ m.0.looks; heard = other }) n, m.1)) × StartsWith (longer m.0.kept.seen other) m.0.kept.seen × StartsWith (longer m.0.kept.seen other) other
       × (m.0.kept.mine ≡ of_seat seat_of m.0.kept.number m.0.kept.seen → m.0.kept.mine ≡ of_seat seat_of m.0.kept.number (longer m.0.kept.seen other))
 
+-- a seat found that no ticket is left
+abbrev pub FindsSpent : {T E : Type 0} → SeatState T E → SeatState T E → Type 0
+FindsSpent m m' = (n : ℕ) × (m' ≡ (met_spent (looking (looked m.0 n) m'.0.looks), m.1))
+
 -- what a refused turn tells
 abbrev pub DeniedAt : {T E : Type 0} → SeatState T E → Denied → SeatState T E → Type 0
 DeniedAt m (Busy served next) m' = (served < next) × (m.0.kept.first + length m.0.kept.seen ≤ served) × (m.0.kept.spent ≡ false) × HasLooked m.0.looks served next m'.0.looks × (m' ≡ (looking (looked m.0 served) m'.0.looks, m.1))
-DeniedAt m Spent m' = (n : ℕ) × (m' ≡ (met_spent (looking (looked m.0 n) m'.0.looks), m.1))
+DeniedAt m Spent m' = FindsSpent m m'
 
 -- what a seat knows that looked for a free turn in vain, or found that no ticket is left
 abbrev pub PutOffAt : {T E : Type 0} → SeatState T E → Denied → SeatState T E → Type 0
-PutOffAt m (Busy served next) m' = (m.0.kept.spent ≡ false) × (m' ≡ (looking (looked m.0 m'.0.loaded) m'.0.looks, m.1))
-PutOffAt m Spent m' = DeniedAt m Spent m'
+PutOffAt m (Busy served next) m' = m' ≡ (looking (looked m.0 m'.0.loaded) m'.0.looks, m.1)
+PutOffAt m Spent m' = FindsSpent m m'
 
--- a seat that hadn't met the end of all tickets has drawn this one
-abbrev pub Draws : {T E : Type 0} → SeatState T E → SeatState T E → ℕ → Type 0
-Draws m m' n = (n < 2 ^ 64 - 1) × (m' ≡ (drawn (looking m.0 m'.0.looks) n, m.1)) × (m.0.kept.spent ≡ false)
-
--- and found that it is served
+-- a seat that hadn't met the end of all tickets has drawn this one, and found that it is served
 abbrev pub DrawsServed : {T E : Type 0} → SeatState T E → SeatState T E → ℕ → Type 0
 DrawsServed m m' n = (n < 2 ^ 64 - 1) × (m' ≡ (drawn (looking (looked m.0 n) m'.0.looks) n, m.1)) × (m.0.kept.spent ≡ false)

@@ -7,7 +7,7 @@ ghost use Rattle.ticket_lock.specs.Seats.{number, IsNew, AllNew, IsBegun};
 use crate::chronicle::Chronicle;
 use crate::lock::{Seat, TicketLock};
 use crate::plays::IssueSeat;
-use crate::rule::{BEDS, Pass, SERVING, Setup, TICKET};
+use crate::rule::{Pass, SERVING, Setup, TICKET, WORDS};
 use atomic_table::Table;
 use std::alloc::{AllocError, Global};
 
@@ -51,7 +51,7 @@ impl<T: Chronicle + Drop> TicketLock<T> {
         requires value { T.stands value first [] }
         ensures begun { IfOk result (λ r. IsBegun first seats r.0 r.1.items) }
     {
-        let mut words = vec![in alloc; 0; BEDS + seats]?;
+        let mut words = vec![in alloc; 0; WORDS]?;
         words[TICKET] = first;
         words[SERVING] = first;
         let mut slots = Vec::with_capacity(alloc, 1)?;

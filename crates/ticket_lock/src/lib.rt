@@ -14,25 +14,25 @@
 //!                    ticket serving floor  value    history
 //! new(.., 5, 2)         5      5      0    at home  (none)
 //! seat 0 has a turn     6      5      0    seat 0   (none)       seat 1: try_turn is Busy{5, 6}
-//! seat 1 waits          7      5      0    seat 0   (none)
-//! raise_floor to 40     7      5     40    seat 0   (none)       seat 1: floor is 40
-//! end with entry a      7      6     40    at home  a            seat 0 has seen a, mine is a
+//! raise_floor to 40     6      5     40    seat 0   (none)       seat 1: floor is 40, and it waits
+//! end with entry a      6      6     40    at home  a            seat 0 has seen a, mine is a
 //! seat 1 has its turn   7      6     40    seat 1   a            it has found a
 //! ```
 //!
 //! Costs, in steps on words of the lock:
 //!
-//! - `turn`, where no other seat draws: a load and a compare-exchange of the ticket word, two loads of the serving word
-//! - `turn`, where others draw: it looks a number of times for a free turn, and else draws a ticket and waits in line
-//! - `end`: a store of the serving word and a look at the next ticket's bed; a store and a wake more, where a seat
-//!   sleeps there
+//! - `turn`, where no other seat has one: a load and a compare-exchange of the ticket word, two loads of the serving word
+//! - `turn`, where others have theirs: some looks by the one seat that spins, and a sleep by all others
+//! - `end`: a store of the serving word and a look at the bed; a look, a store and a wake more, where a seat sleeps
 //! - `try_turn`: four, or two or three where it is `Busy`
 //! - `floor`, `raise_floor`: one
 //! - `meet`: six
 //! - `new`, `finish`: some for each seat
 //!
-//! Each seat in line has a bed, a word of its own to sleep on. It sleeps there while its turn is far, or when it has
-//! waited for long, and is woken when the turn before its own ends. Only `new` takes memory, and only `turn` waits.
+//! A seat draws a ticket only where it is served at once, so no turn belongs to a thread that isn't running. Until then one
+//! seat at a time spins, which a word says, and all others sleep on another word, the bed. A turn's end wakes one of them
+//! unless a seat spins. Who runs may be served before one that has slept for longer. Only `new` takes memory, and only
+//! `turn` waits.
 //!
 //! Tests: `session_tests`.
 #![tactic(auto)]

@@ -13,7 +13,7 @@ pub struct TicketLock<T: Chronicle> {
     pub(crate) board: Table<Option<T>, View<T::Entry>, Setup, TurnOrder<T>, Global>,
     pub(crate) first: u64,
     pub(crate) count: u8,
-    pub(crate) ghost sized: { (board.shared.table_id.words ≡ 3 + count) × (board.shared.table_id.slots ≡ 1) },
+    pub(crate) ghost sized: { (board.shared.table_id.words ≡ 5) × (board.shared.table_id.slots ≡ 1) },
     pub(crate) ghost few: { (0 < count) × (count ≤ 64) },
     pub(crate) ghost keyed: { board.shared.key ≡ setup first count },
 }

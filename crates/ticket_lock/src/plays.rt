@@ -74,7 +74,7 @@ impl<T: Chronicle> Play<Option<T>, View<T::Entry>> for LoadFloor {
     ghost then = { saw_floor };
 }
 
-/// A store of a bed.
+/// A store or a swap of the bed or of the spinner's word.
 pub struct MarkBed;
 
 impl<T: Chronicle> Play<Option<T>, View<T::Entry>> for MarkBed {

@@ -17,21 +17,32 @@ pub(crate) const SERVING: usize = 1;
 /// The word with the greatest floor that a holder raised it to.
 pub(crate) const FLOOR: usize = 2;
 
-/// The first of the beds, one word for each seat, on which seats sleep. The rule below says nothing
-/// of what they contain.
-pub(crate) const BEDS: usize = 3;
+/// The bed: the word on which seats sleep. The rule below says nothing of what it contains.
+pub(crate) const BED: usize = 3;
 
-/// A bed's word while a seat sleeps there, or is about to.
+/// The word that says whether a seat spins. Nor does it of this one.
+pub(crate) const SPINNER: usize = 4;
+
+/// How many words there are.
+pub(crate) const WORDS: usize = 5;
+
+/// The bed's word while a seat sleeps there, or is about to, and nobody has been woken since.
 pub(crate) const ASLEEP: u64 = 1;
 
-/// A bed's word else.
+/// The bed's word else.
 pub(crate) const AWAKE: u64 = 0;
 
-/// How often a seat looks for a free turn before it draws a ticket and waits in line.
-pub(crate) const LOOKS: u64 = 200;
+/// The spinner's word while a seat spins.
+pub(crate) const TAKEN: u64 = 1;
 
-/// How many turns a seat may be from its own and not sleep at once.
-pub(crate) const NEAR: u64 = 3;
+/// The spinner's word else.
+pub(crate) const FREE: u64 = 0;
+
+/// How often the seat that spins looks for a free turn before it sleeps.
+pub(crate) const LOOKS: u64 = 40;
+
+/// How often it does when it was woken.
+pub(crate) const LOOKS_WOKEN: u64 = 8;
 
 /// The slot that has the value while nobody has a turn.
 pub(crate) const HOME: usize = 0;
@@ -62,7 +73,7 @@ pub enum Look {
     Floor(u64),
     /// Nothing: what the load found is ignored.
     Ignored,
-    /// Nothing: it stored a bed.
+    /// Nothing: it wrote that it sleeps, spins, or does so no longer.
     Bed,
 }
 

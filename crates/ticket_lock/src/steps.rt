@@ -1,42 +1,22 @@
-//! The single steps of a turn: a ticket is drawn, waited for and served, the value is taken and released, and the seat
-//! that comes next is woken.
+//! The single steps of a turn: a ticket is drawn once it is served, the value is taken and released, and a seat that
+//! sleeps is woken.
 ghost use Rattle.std.specs.Prelude.{◌≡◌, ◌≤◌, ◌<◌, ◌+◌, ◌-◌, ◌^◌, ◌++◌, [], ◌∷◌, true, false, Some, None, IfSome, IfNone, IfOk, IfErr};
 ghost use Rattle.ticket_lock.specs.Lists.{of_seat};
-ghost use Rattle.ticket_lock.specs.Views.{met_spent, looked, looking, ended, IsSamePass};
+ghost use Rattle.ticket_lock.specs.Views.{looking, ended, IsSamePass};
 ghost use Rattle.ticket_lock.specs.declared.rule.Look.TheVariants.{Serving, Next};
 ghost use Rattle.ticket_lock.specs.Seats.{HasMetSpent};
-ghost use Rattle.ticket_lock.specs.Steps.{DeniedAt, Draws, DrawsServed, PutOffAt, HasDrawn, Took};
+ghost use Rattle.ticket_lock.specs.Steps.{DeniedAt, DrawsServed, FindsSpent, PutOffAt, HasDrawn, Took};
 
 use crate::chronicle::Chronicle;
 use crate::lock::{Denied, TicketLock};
 use crate::plays::{AwaitTurn, DrawTicket, EndTurn, EndsWith, LoadServing, LoadTicket, MarkBed};
-use crate::rule::{ASLEEP, AWAKE, BEDS, HOME, LOOKS, NEAR, Pass, SERVING, TICKET};
+use crate::rule::{
+    ASLEEP, AWAKE, BED, FREE, HOME, LOOKS, LOOKS_WOKEN, Pass, SERVING, SPINNER, TAKEN, TICKET,
+};
 use crossbeam_utils::Backoff;
 use std::sync::Wait;
 
 impl<T: Chronicle> TicketLock<T> {
-    // Draws a ticket, unless none is left.
-    pub(crate) fn draw<R: Wait>(&self, rt: &R, pass: &mut Pass<T, T::Entry>) -> Option<u64>
-        requires own { pass.old.table_id ≡ self.now.board.shared.table_id }
-        requires free { (pass.old.me.0.sits ≡ true) × (pass.old.me.0.ticket ≡ None) }
-        ensures same { IsSamePass pass.old pass.new }
-        ensures some { IfSome result (Draws pass.old.me pass.new.me) }
-        ensures none { IfNone result (pass.new.me ≡ (met_spent (looking pass.old.me.0 pass.new.me.0.looks), pass.old.me.1)) }
-    {
-        let shared = &self.board.shared;
-        for _ in rt.forever() {
-            let next = shared.load::<LoadTicket>(pass, TICKET);
-            if next == u64::MAX {
-                return None;
-            }
-            let found = shared.compare_exchange::<DrawTicket>(pass, TICKET, next, next + 1);
-            if found == next {
-                return Some(next);
-            }
-        }
-        unreachable!()
-    }
-
     // Draws a ticket if it is served at once.
     pub(crate) fn try_draw(&self, pass: &mut Pass<T, T::Entry>) -> Result<u64, Denied>
         requires own { pass.old.table_id ≡ self.now.board.shared.table_id }
@@ -63,9 +43,8 @@ impl<T: Chronicle> TicketLock<T> {
         Ok(served)
     }
 
-    // Draws a ticket that is served at once, unless others keep the turn for long. Meanwhile it has
-    // none, so that no other seat waits for a thread that isn't running.
-    pub(crate) fn draw_served(&self, pass: &mut Pass<T, T::Entry>) -> Result<u64, Denied>
+    // Looks for a free turn a number of times, with longer and longer pauses in between.
+    fn look_often(&self, pass: &mut Pass<T, T::Entry>, looks: u64) -> Result<u64, Denied>
         requires own { pass.old.table_id ≡ self.now.board.shared.table_id }
         requires free { (pass.old.me.0.sits ≡ true) × (pass.old.me.0.ticket ≡ None) }
         ensures same { IsSamePass pass.old pass.new }
@@ -73,13 +52,100 @@ impl<T: Chronicle> TicketLock<T> {
         ensures err { IfErr result (λ d. PutOffAt pass.old.me d pass.new.me) }
     {
         let backoff = Backoff::new();
-        for _ in 1..LOOKS {
+        for _ in 1..looks {
             match self.try_draw(pass) {
-                Err(Denied::Busy { .. }) => backoff.snooze(),
+                Err(Denied::Busy { .. }) => backoff.spin(),
                 settled => return settled,
             }
         }
         self.try_draw(pass)
+    }
+
+    // Looks for a free turn, and looks often where no other seat does: one that spins takes little from
+    // the seat that has the turn, and many take much.
+    fn look(&self, pass: &mut Pass<T, T::Entry>, woken: bool) -> Result<u64, Denied>
+        requires own { pass.old.table_id ≡ self.now.board.shared.table_id }
+        requires free { (pass.old.me.0.sits ≡ true) × (pass.old.me.0.ticket ≡ None) }
+        ensures same { IsSamePass pass.old pass.new }
+        ensures ok { IfOk result (DrawsServed pass.old.me pass.new.me) }
+        ensures err { IfErr result (λ d. PutOffAt pass.old.me d pass.new.me) }
+    {
+        let drawn = self.try_draw(pass);
+        let Err(Denied::Busy { .. }) = drawn else {
+            return drawn;
+        };
+        if !self.starts_to_spin(pass) {
+            return drawn;
+        }
+        let looks = if woken { LOOKS_WOKEN } else { LOOKS };
+        let drawn = self.look_often(pass, looks);
+        self.mark(pass, SPINNER, FREE);
+        drawn
+    }
+
+    // The same by a seat that may have been woken. Its mark was taken away then, while others may sleep
+    // still: so it marks the bed again once it has a ticket.
+    fn look_again(&self, pass: &mut Pass<T, T::Entry>, woken: bool) -> Result<u64, Denied>
+        requires own { pass.old.table_id ≡ self.now.board.shared.table_id }
+        requires free { (pass.old.me.0.sits ≡ true) × (pass.old.me.0.ticket ≡ None) }
+        ensures same { IsSamePass pass.old pass.new }
+        ensures ok { IfOk result (DrawsServed pass.old.me pass.new.me) }
+        ensures err { IfErr result (λ d. PutOffAt pass.old.me d pass.new.me) }
+    {
+        let drawn = self.look(pass, woken);
+        if woken && drawn.is_ok() {
+            self.mark(pass, BED, ASLEEP);
+        }
+        drawn
+    }
+
+    // Marks the bed where no turn is free, and looks once more, so that whoever ends a turn meanwhile
+    // either was seen or sees the mark. Then it sleeps until it is woken.
+    fn draw_or_sleep<R: Wait>(
+        &self,
+        rt: &R,
+        pass: &mut Pass<T, T::Entry>,
+        woken: bool,
+    ) -> Result<u64, Denied>
+        requires own { pass.old.table_id ≡ self.now.board.shared.table_id }
+        requires free { (pass.old.me.0.sits ≡ true) × (pass.old.me.0.ticket ≡ None) }
+        ensures same { IsSamePass pass.old pass.new }
+        ensures ok { IfOk result (DrawsServed pass.old.me pass.new.me) }
+        ensures err { IfErr result (λ d. PutOffAt pass.old.me d pass.new.me) }
+    {
+        let drawn = self.look_again(pass, woken);
+        let Err(Denied::Busy { .. }) = drawn else {
+            return drawn;
+        };
+        self.mark(pass, BED, ASLEEP);
+        let drawn = self.try_draw(pass);
+        if let Err(Denied::Busy { .. }) = drawn {
+            self.board.shared.park(rt, BED, ASLEEP as u32);
+        }
+        drawn
+    }
+
+    // Draws a ticket once it is served at once, unless none is left. Until then it has none, so that no
+    // turn belongs to a thread that isn't running.
+    pub(crate) fn draw_served<R: Wait>(&self, rt: &R, pass: &mut Pass<T, T::Entry>) -> Option<u64>
+        requires own { pass.old.table_id ≡ self.now.board.shared.table_id }
+        requires free { (pass.old.me.0.sits ≡ true) × (pass.old.me.0.ticket ≡ None) }
+        ensures same { IsSamePass pass.old pass.new }
+        ensures some { IfSome result (DrawsServed pass.old.me pass.new.me) }
+        ensures none { IfNone result (FindsSpent pass.old.me pass.new.me) }
+    {
+        let mut woken = false;
+        for _ in rt.forever() {
+            match self.draw_or_sleep(rt, pass, woken) {
+                Ok(ticket) => return Some(ticket),
+                Err(Denied::Spent) => {
+                    self.wake_all(pass);
+                    return None;
+                }
+                Err(Denied::Busy { .. }) => woken = true,
+            }
+        }
+        unreachable!()
     }
 
     // Takes the value, where the ticket was drawn at its turn.
@@ -93,40 +159,6 @@ impl<T: Chronicle> TicketLock<T> {
         let _ = ticket;
         self.board.shared.load::<AwaitTurn>(pass, SERVING);
         self.board.shared.exchange(pass, HOME, None).unwrap()
-    }
-
-    // Waits for the turn of the ticket, and takes the value. While its turn is near it spins and then
-    // gives way to other threads; after that, or while its turn is far, it sleeps until it is woken by
-    // name.
-    pub(crate) fn await_turn<R: Wait>(&self, rt: &R, pass: &mut Pass<T, T::Entry>, ticket: u64) -> T
-        requires own { pass.old.table_id ≡ self.now.board.shared.table_id }
-        requires drew { HasDrawn ticket pass.old.me }
-        ensures same { IsSamePass pass.old pass.new }
-        ensures takes { Took T.stands T.floor_of (looking pass.old.me.0 pass.new.me.0.looks) ticket result pass.new.me }
-    {
-        let shared = &self.board.shared;
-        let bed = self.bed(ticket);
-        let backoff = Backoff::new();
-        let mut announced = false;
-        for _ in rt.forever() {
-            let serving = shared.load::<AwaitTurn>(pass, SERVING);
-            if serving == ticket {
-                return shared.exchange(pass, HOME, None).unwrap();
-            }
-            if announced {
-                shared.park(rt, bed, ASLEEP as u32);
-                announced = false;
-                backoff.reset();
-            } else if backoff.is_completed() || ticket.saturating_sub(serving) > NEAR {
-                // It sleeps after one more look, so that whoever passes the turn on meanwhile
-                // either was seen or sees the mark.
-                shared.store::<MarkBed>(pass, bed, ASLEEP);
-                announced = true;
-            } else {
-                backoff.snooze();
-            }
-        }
-        unreachable!()
     }
 
     // Gives the value back, and the turn to the next ticket.
@@ -154,28 +186,49 @@ impl<T: Chronicle> TicketLock<T> {
         let empty = shared.exchange(pass, HOME, Some(value));
         let None = empty else { unreachable!() };
         shared.store::<EndTurn<J>>(pass, SERVING, ticket + 1);
-        self.wake(pass, ticket + 1);
+        self.wake(pass);
     }
 
-    // The bed of the seat with this ticket. At most as many tickets are out as there are seats, so
-    // two that wait have different beds.
-    pub(crate) fn bed(&self, ticket: u64) -> usize
-        ensures { (3 ≤ result) × (result < self.now.board.shared.table_id.words) }
-    {
-        BEDS + (ticket % u64::from(self.count)) as usize
-    }
-
-    // Wakes the seat with this ticket, if it sleeps. Where it marked its bed too late to be seen
-    // here, it will find its turn before it sleeps.
-    fn wake(&self, pass: &mut Pass<T, T::Entry>, ticket: u64)
+    // Wakes a seat that sleeps, if one does and none spins: that one has the next turn, or marks the bed
+    // and looks. Where a seat marked it too late to be seen here, it will find that the turn is over.
+    fn wake(&self, pass: &mut Pass<T, T::Entry>)
         requires own { pass.old.table_id ≡ self.now.board.shared.table_id }
         ensures same { IsSamePass pass.old pass.new × (pass.new.me ≡ (looking pass.old.me.0 pass.new.me.0.looks, pass.old.me.1)) }
     {
         let shared = &self.board.shared;
-        let bed = self.bed(ticket);
-        if shared.peek(bed) == ASLEEP {
-            shared.store::<MarkBed>(pass, bed, AWAKE);
-            shared.wake_one(bed);
+        if shared.peek(BED) == ASLEEP && shared.peek(SPINNER) == FREE {
+            self.mark(pass, BED, AWAKE);
+            shared.wake_one(BED);
         }
+    }
+
+    // Wakes all seats that sleep, since no turn will end any more.
+    fn wake_all(&self, pass: &mut Pass<T, T::Entry>)
+        requires own { pass.old.table_id ≡ self.now.board.shared.table_id }
+        ensures same { IsSamePass pass.old pass.new × (pass.new.me ≡ (looking pass.old.me.0 pass.new.me.0.looks, pass.old.me.1)) }
+    {
+        self.mark(pass, BED, AWAKE);
+        self.board.shared.wake_all(BED);
+    }
+
+    // Writes the bed or the spinner's word.
+    fn mark(&self, pass: &mut Pass<T, T::Entry>, word: usize, state: u64)
+        requires own { pass.old.table_id ≡ self.now.board.shared.table_id }
+        requires word { (3 ≤ word) × (word < 5) }
+        ensures same { IsSamePass pass.old pass.new × (pass.new.me ≡ (looking pass.old.me.0 pass.new.me.0.looks, pass.old.me.1)) }
+    {
+        self.board.shared.store::<MarkBed>(pass, word, state);
+    }
+
+    // Takes the spinner's word, unless another seat has it.
+    fn starts_to_spin(&self, pass: &mut Pass<T, T::Entry>) -> bool
+        requires own { pass.old.table_id ≡ self.now.board.shared.table_id }
+        ensures same { IsSamePass pass.old pass.new × (pass.new.me ≡ (looking pass.old.me.0 pass.new.me.0.looks, pass.old.me.1)) }
+    {
+        let shared = &self.board.shared;
+        if shared.peek(SPINNER) != FREE {
+            return false;
+        }
+        shared.swap::<MarkBed>(pass, SPINNER, TAKEN) == FREE
     }
 }

@@ -6,20 +6,17 @@ ghost use Rattle.ticket_lock.specs.declared.rule.Look.TheVariants.{Serving, Next
 
 use crate::chronicle::Chronicle;
 use crate::lock::{Denied, Held, Seat, Spent, TicketLock};
-use crate::rule::ASLEEP;
 use std::marker::Brand;
 use std::sync::Wait;
 
 impl<T: Chronicle> TicketLock<T> {
     /// The turn of the next ticket, for which it may wait.
     ///
-    /// While others have theirs it looks again a number of times, giving way in between, and draws a
-    /// ticket once that is served at once. Where that takes long it draws the next ticket all the same
-    /// and waits in line: who draws later has the turn later.
+    /// While others have theirs it looks again some times, or sleeps until a turn ends. It draws a ticket only
+    /// where that is served at once: seats that wait have none, and no order among them.
     ///
     /// `Spent` comes exactly where the next ticket would be 18446744073709551615, and at each later
-    /// call for a turn of this seat too. That the wait ends is not promised: it takes as long as the
-    /// turns of all older tickets.
+    /// call for a turn of this seat too. That the wait ends is not promised.
     pub fn turn<R: Wait>(&self, rt: &R, seat: &mut Seat<T>) -> Result<Held<T>, Spent>
         requires own { IsOf self.now seat.old }
         requires free { ticket seat.old ≡ None }
@@ -27,18 +24,9 @@ impl<T: Chronicle> TicketLock<T> {
         ensures err { IfErr result (λ _. IsSpent seat.old seat.new) }
         ensures own { mine seat.old ≡ of_seat T.seat_of (number seat.old) (seen seat.old) }
     {
-        match self.draw_served(&mut seat.pass) {
-            Ok(ticket) => {
-                let value = self.take_value(&mut seat.pass, ticket);
-                Ok(Held { value, ticket })
-            }
-            Err(Denied::Spent) => Err(Spent),
-            Err(Denied::Busy { .. }) => {
-                let ticket = self.draw(rt, &mut seat.pass).ok_or(Spent)?;
-                let value = self.await_turn(rt, &mut seat.pass, ticket);
-                Ok(Held { value, ticket })
-            }
-        }
+        let ticket = self.draw_served(rt, &mut seat.pass).ok_or(Spent)?;
+        let value = self.take_value(&mut seat.pass, ticket);
+        Ok(Held { value, ticket })
     }
 
     /// The turn of the next ticket, if it is served at once. It waits for nobody, and draws a ticket
@@ -62,7 +50,7 @@ impl<T: Chronicle> TicketLock<T> {
     }
 
     /// Ends a turn: the value goes back for the next ticket, and the entry is the last of the
-    /// history so far. It is one store, and a wake where the next seat sleeps. It waits for nobody.
+    /// history so far. It is one store, and a wake where a seat sleeps. It waits for nobody.
     pub fn end(&self, seat: &mut Seat<T>, held: Held<T>, entry: &T::Entry)
         requires own { IsOf self.now seat.old }
         requires turn { ticket seat.old ≡ Some held.ticket }
@@ -81,12 +69,6 @@ impl<T: Chronicle> TicketLock<T> {
     {
         let Held { value, ticket } = held;
         self.release::<Brand>(&mut seat.pass, value, ticket, entry);
-    }
-
-    /// Whether the seat that waits with this ticket sleeps, or is about to. It is one look, for tests: no clause speaks of
-    /// sleep.
-    pub fn is_asleep(&self, ticket: u64) -> bool {
-        self.board.shared.peek(self.bed(ticket)) == ASLEEP
     }
 }
 

@@ -1,12 +1,11 @@
-//! A turn, during which another thread is refused, or sleeps until it is woken.
+//! A turn, during which another thread is refused.
 ghost use Rattle.std.specs.Prelude.{◌≡◌, None};
 ghost use Rattle.ticket_lock.specs.Seats.{IsOf, ticket};
 
-use super::counter::{Counter, Mark, is_busy, last, try_tick};
+use super::counter::{Counter, end, is_busy, last, try_tick};
 use std::sync::Wait;
 use std::test::Fail;
-use std::thread::{Threads, join, sleep};
-use std::time::{Clock, Duration};
+use std::thread::{Threads, join};
 use ticket_lock::{Seat, TicketLock};
 
 /// How many of a thousand calls are refused.
@@ -34,10 +33,9 @@ fn refused_meanwhile<R: Threads + Wait + Sync>(
     requires others { IsOf lock.now other × (ticket other ≡ None) }
     ensures others { IsOf lock.now result.0 × (ticket result.0 ≡ None) }
 {
-    let Ok(mut held) = lock.turn(rt, seat) else {
+    let Ok(held) = lock.turn(rt, seat) else {
         return (other, 0);
     };
-    held.value.count += 1;
     let (after, ()) = join(
         rt,
         || -> (Seat<Counter>, u64)
@@ -46,10 +44,7 @@ fn refused_meanwhile<R: Threads + Wait + Sync>(
         { refused(lock, other) },
         || (),
     );
-    let mark = Mark {
-        seat: seat.number(),
-    };
-    lock.end(seat, held, &mark);
+    end(lock, seat, held);
     after
 }
 
@@ -61,59 +56,5 @@ fn another_thread_is_refused_until_a_turn_ends(rt: HostRuntime) -> Result<(), Fa
     let (mut second, count) = refused_meanwhile(&rt, &lock, &mut first, second);
     assert!(rt; count == 1000);
     assert!(rt; try_tick(&lock, &mut second).ok() == Some(1));
-    Ok(())
-}
-
-/// One turn, which adds a mark: it is asked for after a while, and lasts a while. The ticket that it had.
-fn tick_late<R: Wait + Clock>(
-    rt: &R,
-    lock: &TicketLock<Counter>,
-    mut seat: Seat<Counter>,
-    after: Duration,
-    lasts: Duration,
-) -> Option<u64>
-    requires own { IsOf lock.now seat × (ticket seat ≡ None) }
-{
-    sleep(rt, after);
-    let mut held = lock.turn(rt, &mut seat).ok()?;
-    let ticket = held.ticket();
-    held.value.count += 1;
-    sleep(rt, lasts);
-    let mark = Mark {
-        seat: seat.number(),
-    };
-    lock.end(&mut seat, held, &mark);
-    Some(ticket)
-}
-
-/// The tickets of two seats, of which the second asks for its turn long before that of the first ends.
-fn woken<R: Threads + Wait + Clock + Sync>(
-    rt: &R,
-    lock: &TicketLock<Counter>,
-    first: Seat<Counter>,
-    second: Seat<Counter>,
-) -> (Option<u64>, Option<u64>)
-    requires first { IsOf lock.now first × (ticket first ≡ None) }
-    requires second { IsOf lock.now second × (ticket second ≡ None) }
-{
-    join(
-        rt,
-        || -> Option<u64>
-            requires { IsOf lock.now first × (ticket first ≡ None) }
-        { tick_late(rt, lock, first, Duration::ZERO, Duration::from_secs(6)) },
-        || -> Option<u64>
-            requires { IsOf lock.now second × (ticket second ≡ None) }
-        { tick_late(rt, lock, second, Duration::from_secs(2), Duration::ZERO) },
-    )
-}
-
-#[test]
-fn a_seat_that_sleeps_is_woken(rt: HostRuntime) -> Result<(), Fail> {
-    let (lock, mut seats) = TicketLock::new(rt.alloc(), Counter { count: 0 }, 0, 2)?;
-    let second = last(&rt, &lock, &mut seats);
-    let first = last(&rt, &lock, &mut seats);
-    let (first, second) = woken(&rt, &lock, first, second);
-    assert!(rt; first == Some(0));
-    assert!(rt; second == Some(1));
     Ok(())
 }

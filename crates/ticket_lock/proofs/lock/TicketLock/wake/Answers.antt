@@ -1,6 +1,0 @@
-use Rattle.std.proofs.Common.{rules}
-use Rattle.ticket_lock.proofs.Sleeping.{marks_bed}
-use Rattle.ticket_lock.proofs.lock.TicketLock.wake.Goals as goal
-
-pub store-requires : goal.store-requires
-store-requires g c = (search rules, search rules, marks_bed _ _ _ _ _ _ _ _ _ c.bed-bed.ensures.0)
