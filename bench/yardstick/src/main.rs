@@ -6,10 +6,11 @@
 //!
 //! ```text
 //! yardstick run [--seats N] [--ring N] [--first N]    a script on standard input
-//! yardstick threads N CALLS                           calls of one engine under a mutex by N threads
+//! yardstick threads mutex|barging N CALLS [1]         calls of one engine under that lock by N threads; 1: each is timed
 //! yardstick peer N [PROGRAM]                          the peers' work in process, or by PROGRAM's `run` over pipes
 //! yardstick time LIMIT INPUT OUTPUT PROGRAM [ARG..]   what a run of a program took
 //! ```
+mod barging;
 mod bytes;
 mod calls;
 mod engine;
@@ -33,7 +34,7 @@ fn main() {
     let number = |place: usize| words.get(place).and_then(|word| word.parse().ok()).unwrap_or_else(|| usage());
     match words.first().map(String::as_str) {
         Some("run") => run_script(&words),
-        Some("threads") => threads::run(number(1), number(2)),
+        Some("threads") if words.len() >= 4 => threads::run(&words[1], number(2), number(3), words.len() > 4),
         Some("peer") => peer::run(number(1), words.get(2).map(String::as_str)),
         Some("time") if words.len() >= 5 => measure::time(number(1), &words[2], &words[3], &words[4], &words[5..]),
         _ => usage(),

@@ -1,13 +1,15 @@
-//! Calls by threads at once, of one engine under a `std::sync::Mutex`: those of `bench/bench_calls`, so that the two
-//! can be compared. It prints how many nanoseconds passed from the first call to the end of the last, how many calls
-//! were refused, and how many rows were told.
+//! Calls by threads at once, of one engine under a `std::sync::Mutex` or under a lock of its own: those of
+//! `bench/bench_calls`, so that they can be compared. It prints how many nanoseconds passed from the first call to the end
+//! of the last, how many calls were refused, how many rows were told, and how long the longest call took, or 0 where calls
+//! weren't timed.
+use crate::barging::Barging;
 use crate::calls::{Cmd, Kind, Reply, Sink, Span};
 use crate::engine::Engine;
 use std::hint::black_box;
 use std::sync::atomic::{AtomicU64, Ordering::SeqCst};
 use std::sync::Mutex;
 use std::thread::{scope, yield_now};
-use std::time::Instant;
+use std::time::{Duration, Instant};
 
 /// How many keys there are: as many as twelve drawn bits tell apart.
 const KEYS: u64 = 4096;
@@ -71,18 +73,38 @@ impl Dice {
     }
 }
 
-struct Caller<'a> {
-    engine: &'a Mutex<Engine>,
+/// What keeps threads apart.
+trait Lock: Sync {
+    fn step(&self, seat: u8, cmd: Cmd, tally: &mut Tally) -> Reply;
+}
+
+impl Lock for Mutex<Engine> {
+    fn step(&self, seat: u8, cmd: Cmd, tally: &mut Tally) -> Reply {
+        self.lock().expect("no thread panics").step(seat, cmd, tally)
+    }
+}
+
+impl Lock for Barging<Engine> {
+    fn step(&self, seat: u8, cmd: Cmd, tally: &mut Tally) -> Reply {
+        self.with(|engine| engine.step(seat, cmd, tally))
+    }
+}
+
+struct Caller<'a, L> {
+    engine: &'a L,
     gate: &'a Gate,
     seat: u8,
     tally: Tally,
+    /// How long the longest call took, if calls are timed.
+    longest: Option<Duration>,
 }
 
-impl Caller<'_> {
-    fn call(&mut self, cmd: Cmd) -> Reply {
-        let reply = self.engine.lock().expect("no thread panics").step(self.seat, cmd, &mut self.tally);
+impl<L: Lock> Caller<'_, L> {
+    fn call(&mut self, cmd: Cmd) {
+        let from = self.longest.map(|_| Instant::now());
+        let reply = self.engine.step(self.seat, cmd, &mut self.tally);
+        self.longest = from.map(|from| from.elapsed()).max(self.longest);
         self.tally.refused += u64::from(reply.is_refusal());
-        reply
     }
 
     fn round(&mut self, dice: &mut Dice) {
@@ -98,14 +120,14 @@ impl Caller<'_> {
         self.call(Cmd::Poll(u64::from(self.seat) + 1, MESSAGES));
     }
 
-    fn work(mut self, threads: u64, rounds: u64) -> (Instant, Instant, Tally) {
+    fn work(mut self, threads: u64, rounds: u64) -> (Instant, Instant, Tally, Duration) {
         let mut dice = Dice(u64::from(self.seat));
         self.gate.pass(threads);
         let from = Instant::now();
         for _ in 0..rounds {
             self.round(&mut dice);
         }
-        (from, Instant::now(), self.tally)
+        (from, Instant::now(), self.tally, self.longest.unwrap_or_default())
     }
 }
 
@@ -127,12 +149,18 @@ fn loaded(threads: u64) -> Engine {
     engine
 }
 
-pub fn run(threads: u64, calls: u64) {
-    let (engine, gate) =
-        (Mutex::new(loaded(threads)), Gate { arrived: AtomicU64::new(0), next: AtomicU64::new(LOADED + 1) });
-    let rounds = calls / ROUND / threads;
+pub fn run(lock: &str, threads: u64, calls: u64, timed: bool) {
+    match lock {
+        "barging" => measure(Barging::new(loaded(threads)), threads, calls, timed),
+        _ => measure(Mutex::new(loaded(threads)), threads, calls, timed),
+    }
+}
+
+fn measure(engine: impl Lock, threads: u64, calls: u64, timed: bool) {
+    let (engine, gate) = (&engine, &Gate { arrived: AtomicU64::new(0), next: AtomicU64::new(LOADED + 1) });
+    let (rounds, longest) = (calls / ROUND / threads, timed.then_some(Duration::ZERO));
     let parts: Vec<_> = scope(|s| {
-        let caller = |seat: u64| Caller { engine: &engine, gate: &gate, seat: seat as u8, tally: Tally::default() };
+        let caller = |seat: u64| Caller { engine, gate, seat: seat as u8, tally: Tally::default(), longest };
         let all: Vec<_> = (0..threads)
             .map(|seat| (s, caller(seat)))
             .map(|(s, one)| s.spawn(move || one.work(threads, rounds)))
@@ -143,5 +171,6 @@ pub fn run(threads: u64, calls: u64) {
     let to = parts.iter().map(|part| part.1).max().expect("a thread");
     let refused: u64 = parts.iter().map(|part| part.2.refused).sum();
     let told: u64 = parts.iter().map(|part| part.2.told).sum();
-    println!("{} {refused} {told}", (to - from).as_nanos());
+    let longest = parts.iter().map(|part| part.3).max().expect("a thread");
+    println!("{} {refused} {told} {}", (to - from).as_nanos(), longest.as_nanos());
 }
