@@ -3,13 +3,16 @@
 //!
 //! `speed TRANSACTIONS REFUSED RUNS`
 
-use ripsawbean::{CallError, Command, Database, LineFault};
+use ripsawbean::{CallError, Command, CommandError, Database, LineFault};
 use std::collections::HashMap;
 use std::error::Error;
 use std::fmt::Write;
+use std::sync::Mutex;
+use std::thread;
 use std::time::Instant;
 
 const KEYS: u64 = 100;
+const THREADS: u8 = 4;
 
 /// begin, put, get and commit of one drawn key each, the lines written by `make`.
 fn transactions(count: u64) -> Result<f64, Box<dyn Error>> {
@@ -39,6 +42,31 @@ fn typed(count: u64) -> Result<f64, Box<dyn Error>> {
         db.commit(0, ts)?;
     }
     Ok(4.0 * count as f64 / from.elapsed().as_secs_f64())
+}
+
+/// The same by four threads at once, each with a seat and keys of its own, behind a `Mutex`.
+fn threads(count: u64) -> Result<f64, Box<dyn Error>> {
+    let db = &Mutex::new(Database::open(1024)?);
+    let from = Instant::now();
+    thread::scope(|scope| {
+        let all: Vec<_> = (0..THREADS).map(|seat| scope.spawn(move || part(db, seat, count))).collect();
+        all.into_iter().try_for_each(|one| one.join().expect("no thread panics"))
+    })?;
+    Ok(4.0 * count as f64 / from.elapsed().as_secs_f64())
+}
+
+/// One thread's part.
+fn part(db: &Mutex<Database>, seat: u8, count: u64) -> Result<(), CommandError> {
+    let database = || db.lock().expect("no thread panics");
+    for ts in (1 + u64::from(seat)..=count).step_by(usize::from(THREADS)) {
+        let (key, value) = (format!("k{seat}.{}", ts * 7 % KEYS), format!("v{ts}"));
+        let key = key.as_bytes();
+        database().begin(seat, ts)?;
+        database().put(seat, ts, key, value.as_bytes())?;
+        database().get(seat, ts, key)?;
+        database().commit(seat, ts)?;
+    }
+    Ok(())
 }
 
 /// The same calls by lines, 1,000 at once.
@@ -93,6 +121,7 @@ fn main() -> Result<(), Box<dyn Error>> {
     };
     println!("transactions {:.0}", best(transactions, made)?);
     println!("typed {:.0}", best(typed, made)?);
+    println!("threads {:.0}", best(threads, made)?);
     println!("several {:.0}", best(several, made)?);
     println!("refused {:.0}", best(refused, faulty)?);
     println!("plain {:.0}", best(plain, made)?);
