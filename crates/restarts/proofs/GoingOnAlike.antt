@@ -12,10 +12,10 @@ use Rattle.restarts.proofs.TwinReplies.{twin_answer}
 use Rattle.restarts.proofs.TwinSteps.{AreTwins, effect_same, twin_step}
 
 -- e' is e with its feed numbered after n feeds, and its protection after m protections, at whatever position
-record IsRenumbered (n m : ℕ) (e e' : Event) : Type 0 where
-  seat : e'.seat ≡ e.seat
-  cmd : e'.cmd ≡ renumbered_cmd n m e.cmd
-  reply : e'.reply ≡ renumbered_reply n m e.reply
+pub record IsRenumbered (n m : ℕ) (e e' : Event) : Type 0 where
+  pub seat : e'.seat ≡ e.seat
+  pub cmd : e'.cmd ≡ renumbered_cmd n m e.cmd
+  pub reply : e'.reply ≡ renumbered_reply n m e.reply
 
 same_answer : (n m : ℕ) (h h' : List Event) (e e' : Event) → AreTwins n m h h' → IsRenumbered n m e e' → answer_of (effects_of h') e'.seat e'.cmd ≡ renumbered_reply n m (answer_of (effects_of h) e.seat e.cmd)
 same_answer n m h h' e e' twins is = rw (is.seat, is.cmd) (twin_answer n m twins.kept h h' twins.one twins.other e.seat e.cmd)
@@ -34,11 +34,11 @@ still_twins n m h h' e e' twins is right right' =
     twin_step n m h h' e e' twins right right' (effect_of e) refl (rw (is.seat, is.cmd, is.reply) (effect_same n m e.seat e.cmd e.reply))
 
 -- events in the one history, and renumbered in the other
-record AreAlikeAfter (n m : ℕ) (h h' : List Event) : Type 0 where
-  on : IsLegal h → AreTwins n m h h'
-  back : IsLegal h' → AreTwins n m h h'
+pub record AreAlikeAfter (n m : ℕ) (h h' : List Event) : Type 0 where
+  pub on : IsLegal h → AreTwins n m h h'
+  pub back : IsLegal h' → AreTwins n m h h'
 
-all_alike : (n m : ℕ) (h h' : List Event) (change : Event → Event) → ((e : Event) → IsRenumbered n m e (change e)) → AreTwins n m h h' → (es : List Event) → AreAlikeAfter n m (es ++ h) (map change es ++ h')
+pub all_alike : (n m : ℕ) (h h' : List Event) (change : Event → Event) → ((e : Event) → IsRenumbered n m e (change e)) → AreTwins n m h h' → (es : List Event) → AreAlikeAfter n m (es ++ h) (map change es ++ h')
 all_alike n m h h' change is twins [] = record { on = λ legal. twins; back = λ legal. twins }
 all_alike n m h h' change is twins (e ∷ es) =
     let more = all_alike n m h h' change is twins es in record {
