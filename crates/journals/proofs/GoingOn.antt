@@ -1,13 +1,15 @@
 -- What is there goes on as after the crash of what survives.
-use Rattle.std.proofs.Common.{◌≡◌, ℕ, ◌<◌, ◌≤◌, Bool, true, false, List, [], ◌∷◌, ◌++◌, length, map, Option, Some, None, refl, sym, ◌∙◌, ap, arith}
+use Rattle.std.proofs.Common.{◌≡◌, ℕ, ◌<◌, ◌≤◌, Bool, false, List, [], ◌∷◌, ◌++◌, length, map, refl, sym, ◌∙◌, ap, arith}
 use Rattle.std.specs.Prelude.{is_some, nat_le, ◌↔◌}
-use Rattle.restarts.proofs.Common.{After, AllAllowed, Allowed, Cmd, Collects, Commit, Commits, Committed, Del, Effect, Event, Put, Refused, Reply, TooLate, effect_of, event, IsLegal, StandsFor, alike_stands, by_test, committed_version_of, common_steps, effects_of, horizon_of, is_committed, left_version_of, legal_allowed, nat_tests, newest, newest_same, write_of}
+use Rattle.restarts.proofs.Common.{AllAllowed, Allowed, Cmd, Collects, Commit, Commits, Committed, Del, Effect, Event, Put, Refused, Reply, TooLate, effect_of, event, IsLegal, StandsFor, alike_stands, by_test, committed_version_of, effects_of, horizon_of, left_version_of, legal_allowed, nat_tests, newest_same}
 use Rattle.restarts.specs.Running.{crash}
 use Rattle.restarts.specs.Restart.{CanRestart}
 use Rattle.restarts.proofs.Rebuilding.{left_kept}
 use Rattle.journals.specs.Batches.{AreInOrder, Noted, commits_key, did, events_of, kept_part, last_record, rests_on}
 use Rattle.journals.specs.OneHistory.{beyond, instead, is_wanting, survivors}
-use Rattle.journals.specs.Law.{CanCrash, renumbered}
+use Rattle.journals.specs.Law.{renumbered}
+use Rattle.journals.specs.Lives.{CanCrash}
+use Rattle.journals.proofs.Left.{left_like}
 use Rattle.journals.proofs.OneHistory.{one, plain_of, safe}
 use Rattle.journals.proofs.Reading.{other_commit}
 use Rattle.journals.proofs.Surviving.{IsPlain, IsSurviving}
@@ -19,21 +21,10 @@ pub record AreLeftAlike (p q : List Effect) : Type 0 where
   pub versions : (x : List ℕ) (t : ℕ) → committed_version_of p x t ≡ committed_version_of q x t
 
 left_alike : (p q : List Effect) → AreLeftAlike p q → (x : List ℕ) (t : ℕ) → left_version_of p x t ≡ left_version_of q x t
-left_alike p q alike x t = by_option (committed_version_of p x t) refl
-  where
-    by_option : (o : Option After) → committed_version_of p x t ≡ o → left_version_of p x t ≡ left_version_of q x t
-    by_option None e = let e' : committed_version_of q x t ≡ None = sym (alike.versions x t) ∙ e in grind (arith, common_steps, by_test, e, e')
-    by_option (Some a) e =
-        let e' : committed_version_of q x t ≡ Some a = sym (alike.versions x t) ∙ e in
-        let n : newest (committed_version_of p x) (horizon_of q) ≡ newest (committed_version_of q x) (horizon_of q) = newest_same (committed_version_of p x) (committed_version_of q x) (horizon_of q) (λ i low. alike.versions x i) in
-        let done : is_committed p t ≡ true = grind (arith, common_steps, by_test, e) in
-        let done' : is_committed q t ≡ true = grind (arith, common_steps, by_test, e') in
-        let w : write_of p t x ≡ Some a = grind (arith, common_steps, done, e) in
-        let w' : write_of q t x ≡ Some a = grind (arith, common_steps, done', e') in
-        rw (done, done', w, w', alike.horizon, n) refl
+left_alike p q alike x t = left_like p q x t alike.horizon (alike.versions x t) (newest_same (committed_version_of p x) (committed_version_of q x) (horizon_of q) (λ i low. alike.versions x i))
 
 pub goes_as : (h s : List Event) (r : List Event) (m : ℕ) → AreLeftAlike (effects_of s) (effects_of h) → StandsFor (left_kept (effects_of h) m) r → CanRestart s m → (es : List Event)
-    → IsLegal (es ++ r) ↔ IsLegal (map (renumbered r s) es ++ crash s m)
+    → IsLegal (es ++ r) ↔ IsLegal (map (renumbered r s m) es ++ crash s m)
 goes_as h s r m alike stands can es = go_on s r m (alike_stands (left_kept (effects_of h) m) (left_kept (effects_of s) m) r stands (record {
   closed = refl;
   horizon = alike.horizon;

@@ -1,12 +1,12 @@
 -- The beginning that is kept: its lines, and what it has.
-use Rattle.std.proofs.Common.{◌≡◌, ℕ, ◌≤◌, ◌==◌, true, false, List, [], ◌∷◌, ◌++◌, refl, sym, ◌∙◌, ap, subst, arith}
+use Rattle.std.proofs.Common.{◌≡◌, ℕ, ◌<◌, ◌≤◌, ◌==◌, true, false, List, [], ◌∷◌, ◌++◌, refl, sym, ◌∙◌, ap, subst, arith}
 use Rattle.std.specs.Prelude.{is_some, nat_le}
-use Rattle.restarts.proofs.Common.{AllAllowed, Begins, Cmd, Effect, IsLegal, both_ways, by_test, closed_of, common_steps, effect_of, legal_allowed, nat_tests, owner_of}
+use Rattle.restarts.proofs.Common.{AllAllowed, Begins, Cmd, Effect, IsLegal, by_test, closed_of, effect_of, legal_allowed, nat_tests, owner_of}
 use Rattle.restarts.specs.Restart.{CanRestart}
 use Rattle.spans.proofs.Copies.{closed_grows}
-use Rattle.journals.specs.Recorded.{journal_of}
-use Rattle.journals.specs.Batches.{AreInOrder, Noted, did, events_of, is_empty, kept_part, last_record, latest, lines_of, lines_through}
-use Rattle.journals.specs.Law.{BeginsWith, CanCrash, KeepsWhatWasTold, beginning}
+use Rattle.journals.specs.Batches.{AreInOrder, BeginsWith, Noted, did, events_of, is_empty, kept_lines, kept_part, last_record, latest, lines_of}
+use Rattle.journals.specs.Law.{KeepsWhatWasTold, beginning}
+use Rattle.journals.specs.Lives.{CanCrash}
 
 -- ---- lists
 
@@ -47,11 +47,13 @@ kept_later k (n ∷ later) old = by_test (nat_le (last_record (n ∷ later ++ ol
     (λ is. rw is (begins_further (n ∷ later ++ old) old (kept_part k old) (n ∷ later, refl) (kept_begins k old)))
     (λ isnt. rw isnt (kept_later k later old))
 
-pub kept_told : (ns : List Noted) (k m : ℕ) → KeepsWhatWasTold ns k m
-kept_told ns k m n old begins all told =
-    let low : last_record (n ∷ old) ≤ k = omega (arith, all, told) in
-    subst (λ ws. BeginsWith (kept_part k ws) (n ∷ old)) (sym begins.1)
-    (subst (BeginsWith (kept_part k (begins.0 ++ n ∷ old))) (kept_whole k (n ∷ old) low) (kept_later k begins.0 (n ∷ old)))
+-- a beginning of which no record is lost is in it
+pub kept_all : (ns old : List Noted) (k : ℕ) → BeginsWith ns old → last_record old ≤ k → BeginsWith (kept_part k ns) old
+kept_all ns old k begins low =
+    subst (λ ws. BeginsWith (kept_part k ws) old) (sym begins.1) (subst (BeginsWith (kept_part k (begins.0 ++ old))) (kept_whole k old low) (kept_later k begins.0 old))
+
+pub kept_told : (ns : List Noted) (k : ℕ) → KeepsWhatWasTold ns k
+kept_told ns k n old begins all told = kept_all ns (n ∷ old) k begins (omega (arith, all, told))
 
 -- ---- its lines
 
@@ -65,27 +67,32 @@ none_empty : (cs : List Cmd) → is_empty cs ≡ true → cs ≡ []
 none_empty [] is = refl
 none_empty (c ∷ cs) is = cc
 
-all_kept : (k : ℕ) (ns : List Noted) → AreInOrder ns → last_record ns ≤ k → lines_through k ns ≡ journal_of (did ns)
-all_kept k [] ordered low = refl
-all_kept k (n ∷ ns) ordered low = by_test (is_empty (lines_of n ns))
-    (λ is.
-    let none : lines_of n ns ≡ [] = none_empty (lines_of n ns) is in
-    let before = all_kept k ns ordered.1 (grind (arith, common_steps, is, low)) in
-    by_test (nat_le n.batch k) (λ here. rw (here, before) refl) (λ gone. rw (gone, before, none) refl))
-    (λ isnt.
-    let here : n.batch ≤ k = grind (arith, common_steps, isnt, low) in
-    let is : nat_le n.batch k ≡ true = grind (arith, nat_tests, here) in
-    rw (is, all_kept k ns ordered.1 (omega (arith, record_low ns ordered.1, ordered.0, here))) refl)
+-- an event that leaves no line leaves none on the disk
+none_kept : (n : Noted) (ns : List Noted) (k : ℕ) → is_empty (lines_of n ns) ≡ true → kept_lines k n ns ≡ []
+none_kept n ns k is = by_test (nat_le n.batch k) (λ here. rw here (none_empty (lines_of n ns) is)) (λ gone. rw gone refl)
 
-pub kept_lines : (k : ℕ) (ns : List Noted) → AreInOrder ns → lines_through k ns ≡ journal_of (did (kept_part k ns))
-kept_lines k [] ordered = refl
-kept_lines k (n ∷ ns) ordered = by_test (nat_le (last_record (n ∷ ns)) k)
-    (λ is. let low : last_record (n ∷ ns) ≤ k = grind (arith, nat_tests, is) in rw is (all_kept k (n ∷ ns) ordered low))
-    (λ isnt. rw isnt (by_test (nat_le n.batch k)
-    (λ here.
-    let none : lines_of n ns ≡ [] = none_empty (lines_of n ns) (by_test (is_empty (lines_of n ns)) (λ e. e) (λ e. let no' : nat_le n.batch k ≡ false = rw e at isnt in absurd (both_ways _ no' here))) in
-    rw (here, none) (empty_end (lines_through k ns) ∙ kept_lines k ns ordered.1))
-    (λ gone. rw gone (empty_end (lines_through k ns) ∙ kept_lines k ns ordered.1))))
+-- where no record is lost none was before, and the event's lines are there
+pub record_before : (n : Noted) (ns : List Noted) (k : ℕ) → AreInOrder (n ∷ ns) → last_record (n ∷ ns) ≤ k → last_record ns ≤ k
+record_before n ns k ordered low = by_test (is_empty (lines_of n ns)) (λ is. rw is at low) (λ isnt. let here : n.batch ≤ k = rw isnt at low in omega (arith, record_low ns ordered.1, ordered.0, here))
+
+pub kept_now : (n : Noted) (ns : List Noted) (k : ℕ) → last_record (n ∷ ns) ≤ k → kept_lines k n ns ≡ lines_of n ns
+kept_now n ns k low = by_test (is_empty (lines_of n ns))
+    (λ is. none_kept n ns k is ∙ sym (none_empty (lines_of n ns) is))
+    (λ isnt. let low' : n.batch ≤ k = rw isnt at low in let here : nat_le n.batch k ≡ true = grind (arith, nat_tests, low') in rw here refl)
+
+-- where one is lost they aren't
+pub lost_now : (n : Noted) (ns : List Noted) (k : ℕ) → k < last_record (n ∷ ns) → kept_lines k n ns ≡ []
+lost_now n ns k over = by_test (is_empty (lines_of n ns))
+    (λ is. none_kept n ns k is)
+    (λ isnt. let over' : k < n.batch = rw isnt at over in let gone : nat_le n.batch k ≡ false = grind (arith, nat_tests, over') in rw gone refl)
+
+pub records_before : (later old : List Noted) (k : ℕ) → AreInOrder (later ++ old) → last_record (later ++ old) ≤ k → last_record old ≤ k
+records_before [] old k ordered low = low
+records_before (n ∷ later) old k ordered low = records_before later old k ordered.1 (record_before n (later ++ old) k ordered low)
+
+pub ordered_before : (later old : List Noted) → AreInOrder (later ++ old) → AreInOrder old
+ordered_before [] old ordered = ordered
+ordered_before (n ∷ later) old ordered = ordered_before later old ordered.1
 
 -- ---- a beginning of what can crash
 

@@ -162,7 +162,7 @@ read_there later old n k t x v all here f low =
 
 -- ---- snapshots
 
-closed_same : (later old : List Noted) → AllAllowed (did (later ++ old)) → (x : List ℕ) (i : ℕ) → i ≤ closed_of (did old) → committed_version_of (did (later ++ old)) x i ≡ committed_version_of (did old) x i
+pub closed_same : (later old : List Noted) → AllAllowed (did (later ++ old)) → (x : List ℕ) (i : ℕ) → i ≤ closed_of (did old) → committed_version_of (did (later ++ old)) x i ≡ committed_version_of (did old) x i
 closed_same [] old all x i low = refl
 closed_same (n ∷ later) old all x i low =
     closed_stays (did (later ++ old)) (effect_of n.event) all.0 x i (omega (arith, low, closed_begins later old all.1)) ∙ closed_same later old all.1 x i low

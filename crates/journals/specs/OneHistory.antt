@@ -1,9 +1,9 @@
 -- The one history of all that was told before a crash (this project).
-use Rattle.std.specs.Prelude.{ℕ, List, [], ◌∷◌, ◌++◌, map, length, nat_le, if◌then◌else◌, Bool, true, false, is_some, ◌≡◌, ◌≤◌, ◌<◌, ◌↔◌}
-use Rattle.journals.specs.Prelude.{Abort, Aborted, Close, Cmd, Collect, Commit, Committed, Del, Effect, Event, IsLegal, NoMemory, Put, Refused, Reply, Step, TooLate, closed_of, crash, event, horizon_of, owner_of, versions_through}
-use Rattle.journals.specs.Recorded.{recovered}
-use Rattle.journals.specs.Batches.{Noted, did, events_of, last_record, latest, lines_of, rests_on}
-use Rattle.journals.specs.Law.{BeginsWith, renumbered, there}
+use Rattle.std.specs.Prelude.{ℕ, List, [], ◌∷◌, ◌++◌, ◌-◌, map, length, take, nat_le, if◌then◌else◌, Bool, true, false, ◌↔◌}
+use Rattle.journals.specs.Prelude.{Abort, Aborted, Cmd, Commit, Committed, Del, Event, IsLegal, NoMemory, Put, Refused, Reply, TooLate, crash, event}
+use Rattle.journals.specs.Batches.{Noted, events_of, last_record, rests_on}
+use Rattle.journals.specs.Lives.{Life, base_of, disk, noted, there}
+use Rattle.journals.specs.Law.{renumbered}
 
 -- what stands for an event that rests on what is lost: an abort, where it ended a transaction, and else nothing
 abbrev pub instead : List Event → ℕ → Cmd → Reply → List Event
@@ -29,10 +29,22 @@ abbrev pub survivors : ℕ → List Noted → List Event
 survivors k [] = []
 survivors k (n ∷ ns) = if nat_le (last_record (n ∷ ns)) k then n.event ∷ events_of ns else beyond k n ns (survivors k ns)
 
--- they are one legal history, and what is there goes on as after its crash. So the law of histories holds of all that was
--- told before the crash and after it together
-abbrev pub SurvivorsAreLegal : List Noted → ℕ → ℕ → Type 0
-SurvivorsAreLegal ns k m = IsLegal (survivors k ns)
+-- what is there goes on as after their crash
+abbrev pub GoesOnAsSurvivors : List Noted → ℕ → ℕ → List Event → Type 0
+GoesOnAsSurvivors ns k m r = (es : List Event) → IsLegal (es ++ r) ↔ IsLegal (map (renumbered r (survivors k ns) m) es ++ crash (survivors k ns) m)
 
-abbrev pub GoesOnAsSurvivors : List Noted → ℕ → ℕ → Type 0
-GoesOnAsSurvivors ns k m = (es : List Event) → IsLegal (es ++ there ns k m) ↔ IsLegal (map (renumbered (there ns k m) (survivors k ns)) es ++ crash (survivors k ns) m)
+-- the events of h behind those that were there before
+abbrev pub since : List Event → List Event → List Event
+since before h = take (length h - length before) h
+
+-- the events of a life, behind what survives of all lives before it, each of which ended by a crash
+abbrev pub whole : List Life → List Event → List Event
+whole [] es = es
+whole (l ∷ ls) es = whole ls
+    (map (renumbered (there l ls) (survivors l.kept (noted l ls)) l.mark) es
+    ++ since (events_of (base_of (disk ls) ls)) (crash (survivors l.kept (noted l ls)) l.mark))
+
+-- that is one legal history wherever the events are legal after what is there. So the law of histories holds of all that
+-- was told in any life
+abbrev pub AreOneHistory : Life → List Life → Type 0
+AreOneHistory l ls = (es : List Event) → IsLegal (es ++ there l ls) ↔ IsLegal (whole (l ∷ ls) es)
