@@ -1,10 +1,13 @@
 -- The example that the crate's page draws, worked.
-use Rattle.std.specs.Prelude.{ℕ, List, [], ◌∷◌, ◌++◌, ◌≡◌, Some, None, drop, map, refl, take}
+use Rattle.std.specs.Prelude.{ℕ, List, [], ◌∷◌, ◌++◌, ◌≡◌, ◌≤◌, ◌==◌, if◌then◌else◌, is_some, true, Some, None, drop, map, refl, take}
 use Rattle.spans.specs.declared.calls.commands.Cmd.TheVariants.{Get}
 use Rattle.spans.specs.declared.calls.replies.Reply.TheVariants.{Found}
 use Rattle.journals.specs.Prelude.{Abort, Aborted, Begin, Close, CloseHard, Cmd, Collect, Commit, Committed, Event, Put, closed_of, effects_of, event, map_at, run}
 use Rattle.journals.specs.Batches.{Noted, kept_part, lines_beyond, rests_on}
-use Rattle.journals.specs.Lives.{Life, disk, there}
+use Rattle.std.proofs.Common.{arith}
+use Rattle.restarts.proofs.Common.{by_test, common_steps, nat_tests}
+use Rattle.journals.proofs.Running.{run_legal}
+use Rattle.journals.specs.Lives.{AreLives, Life, disk, there}
 use Rattle.journals.specs.OneHistory.{survivors, whole}
 
 abbrev a : List ℕ
@@ -98,6 +101,33 @@ copied = record { later = longer; kept = 3; mark = 40; copy = Some (record { fir
 pub copy_there : disk (copied ∷ []) ≡ Begin 10 ∷ Put 10 a one ∷ Commit 10 ∷ Begin 20 ∷ Put 20 b two ∷ Commit 20 ∷ Close 25 ∷ Collect 0
     ∷ Begin 20 ∷ Put 20 b two ∷ Commit 20 ∷ Begin 30 ∷ Put 30 b two ∷ Commit 30 ∷ []
 copy_there = refl
+
+begun_low : (t : ℕ) → is_some {T = ℕ} (if 30 == t then Some 0 else (if 20 == t then Some 0 else (if 10 == t then Some 0 else None))) ≡ true → t ≤ 40
+begun_low t is = grind (arith, nat_tests, common_steps, by_test, is)
+
+-- it is a life as the law has it
+pub can_be : AreLives (copied ∷ [])
+can_be = (
+  record {
+    legal = run_legal [] (commands ++ Commit 20 ∷ Close 25 ∷ Begin 30 ∷ Put 30 b two ∷ Commit 30 ∷ []) tt;
+    ordered = (omega arith, (omega arith, (omega arith, (omega arith, (omega arith, (omega arith, (omega arith, (omega arith, (omega arith, (omega arith, (omega arith, tt)))))))))));
+    in_range = omega arith;
+    closed = omega arith;
+    begun = λ t is. begun_low t is;
+  },
+  omega arith,
+  record {
+    parts = refl;
+    taken = λ t. (take 3 longer, refl);
+    behind = λ t. (drop 3 (take 6 longer), refl);
+    begun = λ t is. grind (arith, nat_tests, common_steps, is);
+    closed = λ t low. low;
+    horizon = λ t. refl;
+    low = omega arith;
+    rests = λ t. omega arith;
+  },
+  tt,
+)
 
 -- a collection is recorded with where closed stood, and one that doesn't move isn't
 pub collected : lines_beyond 1 (numbered (run [] (Begin 10 ∷ Put 10 a one ∷ Commit 10 ∷ Close 15 ∷ Collect 12 ∷ Collect 9 ∷ [])) (1 ∷ 1 ∷ 1 ∷ 1 ∷ 1 ∷ 1 ∷ [])) []
