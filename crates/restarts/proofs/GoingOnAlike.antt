@@ -48,10 +48,10 @@ all_alike n m h h' change is twins (e ∷ es) =
           still_twins n m (es ++ h) (map change es ++ h') e (change e) t (is e) ((right_alike n m (es ++ h) (map change es ++ h') e (change e) t (is e)).1 legal.0) legal.0;
     }
 
--- the dump's run and the crash
-pub restart_twins : (h : List Event) (m : ℕ) → StandsFor (left_kept (effects_of h) m) (rebuilt h m) → StandsFor (crashed (effects_of h) m) (crash h m)
-    → AreTwins (feeds_opened (effects_of h)) (protections_made (effects_of h)) (rebuilt h m) (crash h m)
-restart_twins h m one other =
+-- a restart, by what is kept of it, and the crash
+pub restart_twins : (h r : List Event) (m : ℕ) → StandsFor (left_kept (effects_of h) m) r → StandsFor (crashed (effects_of h) m) (crash h m)
+    → AreTwins (feeds_opened (effects_of h)) (protections_made (effects_of h)) r (crash h m)
+restart_twins h r m one other =
     let n : ℕ = feeds_opened (effects_of h) in
     let made : ℕ = protections_made (effects_of h) in record {
       kept = left_kept (effects_of h) m;
@@ -73,5 +73,5 @@ restart_twins h m one other =
 pub go_on_alike : (h : List Event) (m : ℕ) → StandsFor (left_kept (effects_of h) m) (rebuilt h m) → StandsFor (crashed (effects_of h) m) (crash h m)
     → (es : List Event) → IsLegal (es ++ rebuilt h m) ↔ IsLegal (map (renumbered h m) es ++ crash h m)
 go_on_alike h m one other es =
-    let alike = all_alike (feeds_opened (effects_of h)) (protections_made (effects_of h)) (rebuilt h m) (crash h m) (renumbered h m) (λ e. record { seat = refl; cmd = refl; reply = refl }) (restart_twins h m one other) es in
+    let alike = all_alike (feeds_opened (effects_of h)) (protections_made (effects_of h)) (rebuilt h m) (crash h m) (renumbered h m) (λ e. record { seat = refl; cmd = refl; reply = refl }) (restart_twins h (rebuilt h m) m one other) es in
     (λ legal. (alike.on legal).other.legal, λ legal. (alike.back legal).one.legal)
