@@ -12,10 +12,10 @@ use Rattle.restarts.proofs.TwinReplies.{twin_answer}
 use Rattle.restarts.proofs.TwinSteps.{AreTwins, effect_same, twin_step}
 
 -- e' is e with its feed numbered after n feeds, and its protection after m protections, at whatever position
-record IsRenumbered (n m : ℕ) (e e' : Event) : Type 0 where
-  seat : e'.seat ≡ e.seat
-  cmd : e'.cmd ≡ renumbered_cmd n m e.cmd
-  reply : e'.reply ≡ renumbered_reply n m e.reply
+pub record IsRenumbered (n m : ℕ) (e e' : Event) : Type 0 where
+  pub seat : e'.seat ≡ e.seat
+  pub cmd : e'.cmd ≡ renumbered_cmd n m e.cmd
+  pub reply : e'.reply ≡ renumbered_reply n m e.reply
 
 same_answer : (n m : ℕ) (h h' : List Event) (e e' : Event) → AreTwins n m h h' → IsRenumbered n m e e' → answer_of (effects_of h') e'.seat e'.cmd ≡ renumbered_reply n m (answer_of (effects_of h) e.seat e.cmd)
 same_answer n m h h' e e' twins is = rw (is.seat, is.cmd) (twin_answer n m twins.kept h h' twins.one twins.other e.seat e.cmd)
@@ -34,11 +34,11 @@ still_twins n m h h' e e' twins is right right' =
     twin_step n m h h' e e' twins right right' (effect_of e) refl (rw (is.seat, is.cmd, is.reply) (effect_same n m e.seat e.cmd e.reply))
 
 -- events in the one history, and renumbered in the other
-record AreAlikeAfter (n m : ℕ) (h h' : List Event) : Type 0 where
-  on : IsLegal h → AreTwins n m h h'
-  back : IsLegal h' → AreTwins n m h h'
+pub record AreAlikeAfter (n m : ℕ) (h h' : List Event) : Type 0 where
+  pub on : IsLegal h → AreTwins n m h h'
+  pub back : IsLegal h' → AreTwins n m h h'
 
-all_alike : (n m : ℕ) (h h' : List Event) (change : Event → Event) → ((e : Event) → IsRenumbered n m e (change e)) → AreTwins n m h h' → (es : List Event) → AreAlikeAfter n m (es ++ h) (map change es ++ h')
+pub all_alike : (n m : ℕ) (h h' : List Event) (change : Event → Event) → ((e : Event) → IsRenumbered n m e (change e)) → AreTwins n m h h' → (es : List Event) → AreAlikeAfter n m (es ++ h) (map change es ++ h')
 all_alike n m h h' change is twins [] = record { on = λ legal. twins; back = λ legal. twins }
 all_alike n m h h' change is twins (e ∷ es) =
     let more = all_alike n m h h' change is twins es in record {
@@ -48,10 +48,10 @@ all_alike n m h h' change is twins (e ∷ es) =
           still_twins n m (es ++ h) (map change es ++ h') e (change e) t (is e) ((right_alike n m (es ++ h) (map change es ++ h') e (change e) t (is e)).1 legal.0) legal.0;
     }
 
--- the dump's run and the crash
-pub restart_twins : (h : List Event) (m : ℕ) → StandsFor (left_kept (effects_of h) m) (rebuilt h m) → StandsFor (crashed (effects_of h) m) (crash h m)
-    → AreTwins (feeds_opened (effects_of h)) (protections_made (effects_of h)) (rebuilt h m) (crash h m)
-restart_twins h m one other =
+-- a restart, by what is kept of it, and the crash
+pub restart_twins : (h r : List Event) (m : ℕ) → StandsFor (left_kept (effects_of h) m) r → StandsFor (crashed (effects_of h) m) (crash h m)
+    → AreTwins (feeds_opened (effects_of h)) (protections_made (effects_of h)) r (crash h m)
+restart_twins h r m one other =
     let n : ℕ = feeds_opened (effects_of h) in
     let made : ℕ = protections_made (effects_of h) in record {
       kept = left_kept (effects_of h) m;
@@ -73,5 +73,5 @@ restart_twins h m one other =
 pub go_on_alike : (h : List Event) (m : ℕ) → StandsFor (left_kept (effects_of h) m) (rebuilt h m) → StandsFor (crashed (effects_of h) m) (crash h m)
     → (es : List Event) → IsLegal (es ++ rebuilt h m) ↔ IsLegal (map (renumbered h m) es ++ crash h m)
 go_on_alike h m one other es =
-    let alike = all_alike (feeds_opened (effects_of h)) (protections_made (effects_of h)) (rebuilt h m) (crash h m) (renumbered h m) (λ e. record { seat = refl; cmd = refl; reply = refl }) (restart_twins h m one other) es in
+    let alike = all_alike (feeds_opened (effects_of h)) (protections_made (effects_of h)) (rebuilt h m) (crash h m) (renumbered h m) (λ e. record { seat = refl; cmd = refl; reply = refl }) (restart_twins h (rebuilt h m) m one other) es in
     (λ legal. (alike.on legal).other.legal, λ legal. (alike.back legal).one.legal)
