@@ -9,6 +9,7 @@ from __future__ import annotations
 import json
 import os
 import re
+import shutil
 import sqlite3
 import subprocess
 import sys
@@ -24,7 +25,7 @@ from ripsawbean_client import connect  # noqa: E402
 
 SERVER = os.environ.get("SERVER") or os.path.join(HERE, "..", "server", "run")
 LONGEST = 60.0
-ENDLESS = "db.feed("
+ENDLESS = "db.feed(\""
 
 
 def programs(page: str, language: str) -> List[str]:
@@ -51,7 +52,7 @@ def run(command: List[str], program: str, folder: str, rows: Callable[[str], Dic
     server = Server(SERVER, None)
     try:
         url = "http://" + server.host
-        path = os.path.join(folder, "program" + (".mjs" if command == ["node"] else ".py"))
+        path = os.path.join(folder, "program" + {"node": ".mjs", "java": ".java"}.get(command[0], ".py"))
         with open(path, "w", encoding="utf-8") as file:
             file.write(at(url, program))
         if "consume(" in program:
@@ -86,9 +87,12 @@ def consumed(command: List[str], folder: str, url: str, rows: Callable[[str], Di
 
 def main() -> int:
     passed = failed = 0
-    for page, language, command, rows in (
-        ("python", "python", [sys.executable, "-B"], sqlite_rows), ("javascript", "js", ["node"], json_rows),
-    ):
+    pages = [("python", "python", [sys.executable, "-B"], sqlite_rows), ("javascript", "js", ["node"], json_rows)]
+    if shutil.which("javac"):
+        jar = tempfile.TemporaryDirectory()
+        subprocess.run([os.path.join(HERE, "java", "build"), jar.name], check=True)
+        pages.append(("java", "java", ["java", "-cp", os.path.join(jar.name, "ripsawbean-client.jar")], json_rows))
+    for page, language, command, rows in pages:
         os.environ["PYTHONPATH"] = os.path.join(HERE, "python")
         for number, program in enumerate(programs(page, language)):
             if ENDLESS in program:

@@ -33,8 +33,10 @@ const HTTPS_PORT: u16 = 443;
 pub enum Right {
     Read,
     Write,
+    /// To have the names of consumers, and to say what they have stored.
+    Consume,
     Operate,
-    /// One of the three, whichever.
+    /// One of the four, whichever.
     Any,
     /// Also who shows no token.
     Nobody,
@@ -45,6 +47,7 @@ impl Right {
         match self {
             Right::Read => "read",
             Right::Write => "write",
+            Right::Consume => "consume",
             Right::Operate => "operate",
             Right::Any => "do anything",
             Right::Nobody => "nobody",
@@ -98,7 +101,7 @@ pub struct Who {
 impl Who {
     /// Who may do everything: where there is no token, or just one.
     pub fn anyone() -> Who {
-        Who::of("", &[Right::Read, Right::Write, Right::Operate])
+        Who::of("", &[Right::Read, Right::Write, Right::Consume, Right::Operate])
     }
 
     pub fn of(name: &str, rights: &[Right]) -> Who {

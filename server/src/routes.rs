@@ -126,7 +126,9 @@ impl Place {
             Place::Key => &[(Get, Right::Read), (Head, Right::Read), (Put, Right::Write), (Delete, Right::Write)],
             Place::Seat => &[(Delete, Right::Operate)],
             Place::Feed | Place::Dump => &[(Get, Right::Read)],
-            Place::Consumer => &[(Get, Right::Read), (Head, Right::Read), (Post, Right::Write), (Delete, Right::Write)],
+            Place::Consumer => {
+                &[(Get, Right::Read), (Head, Right::Read), (Post, Right::Consume), (Delete, Right::Consume)]
+            }
             Place::Health => &[(Get, Right::Nobody), (Head, Right::Nobody)],
             _ => &[(Get, Right::Read), (Head, Right::Read)],
         }
@@ -221,8 +223,8 @@ mod tests {
         assert_eq!(right_of(Method::Get, "/consumer/a"), Right::Read);
         assert_eq!(right_of(Method::Get, "/session"), Right::Any);
         assert_eq!(["/call", "/transact"].map(|path| right_of(Method::Post, path)), [Right::Any; 2]);
-        assert_eq!(right_of(Method::Post, "/consumer/a"), Right::Write);
-        assert_eq!(right_of(Method::Delete, "/consumer/a"), Right::Write);
+        assert_eq!(right_of(Method::Post, "/consumer/a"), Right::Consume);
+        assert_eq!(right_of(Method::Delete, "/consumer/a"), Right::Consume);
         assert_eq!(right_of(Method::Delete, "/session/5"), Right::Operate);
         assert_eq!(right_of(Method::Put, "/key/a"), Right::Write);
         assert_eq!(right_of(Method::Head, "/key/a"), Right::Read);

@@ -112,8 +112,8 @@ pub async fn feed(server: &Arc<Server>, request: Request) -> Result<Response, Re
     }
     let name = given.bytes("consumer").map(name_in).transpose()?;
     // It takes the name from the stream before, and a new name holds the horizon.
-    if name.is_some() && !request.who.may(Right::Write) {
-        return Err(Refusal::no_right(Right::Write));
+    if name.is_some() && !request.who.may(Right::Consume) {
+        return Err(Refusal::no_right(Right::Consume));
     }
     let opened = server.door.run(|core| {
         let opened = open(server, core, &request.client, &given, name.as_ref());

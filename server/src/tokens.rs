@@ -7,6 +7,7 @@
 //! --tokens FILE     # a line a token: a name, its rights, the span of its keys, the token
 //!                   dashboard read - - 0f3a9c..
 //!                   orders read,write order/ order0 77b1e4..
+//!                   cache read,consume price/ price0 5cd102..
 //! ```
 //!
 //! The bounds are spelled as in a command, `-` for none.
@@ -79,7 +80,7 @@ impl fmt::Display for LineFault {
             LineFault::Long => "a token has 4096 bytes at most",
             LineFault::Byte => "a token has printable ASCII and no space",
             LineFault::Words => "a line is NAME RIGHTS LO HI TOKEN",
-            LineFault::Right => "the rights are read, write and operate, with commas between them",
+            LineFault::Right => "the rights are read, write, consume and operate, with commas between them",
             LineFault::Bound => "a bound is spelled as in a command, or - for none",
             LineFault::Twice => "the token stands above already",
             LineFault::None => "there is no token",
@@ -196,6 +197,7 @@ fn right(word: &str) -> Result<Right, LineFault> {
     match word {
         "read" => Ok(Right::Read),
         "write" => Ok(Right::Write),
+        "consume" => Ok(Right::Consume),
         "operate" => Ok(Right::Operate),
         _ => Err(LineFault::Right),
     }
@@ -236,7 +238,7 @@ mod tests {
     fn one_token_may_do_everything() {
         let tokens = one(format!("  {FIRST} \nnothing else is read\n").as_bytes()).expect("tokens");
         let who = tokens.who(FIRST.as_bytes()).expect("it is known");
-        assert!([Right::Read, Right::Write, Right::Operate].into_iter().all(|right| who.may(right)));
+        assert!([Right::Read, Right::Write, Right::Consume, Right::Operate].into_iter().all(|right| who.may(right)));
         assert!(who.keys().covers(b"", None));
         for other in ["", "0123456789abcde", "0123456789abcdeg", "0123456789abcdef0"] {
             assert!(tokens.who(other.as_bytes()).is_none(), "{other}");

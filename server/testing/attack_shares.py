@@ -11,7 +11,7 @@ import time
 from collections.abc import Callable, Iterator
 
 from attack_beside import Scale
-from attack_tokens import OPERATE, READ, WRITE, shown, with_tokens
+from attack_tokens import CONSUME, OPERATE, PART, READ, WRITE, shown, with_tokens
 from handmade import Refused, Session, Wire, bearer
 from machine import Room, Server, wait_for
 
@@ -124,11 +124,11 @@ def test_feeds(room: Room, scale: Scale) -> str:
 
 
 def test_names(room: Room, scale: Scale) -> str:
-    """Names want a right to write, so here the taker is the writer, and another one comes with a name."""
+    """Here the taker is a consumer, and others come with a name."""
     with with_tokens(room) as (server, _):
         said = "?identity=%s&generation=0&stored=0" % server.identity
-        statuses = [server.ask("POST", "/consumer/c%d%s" % (number, said), None, shown(WRITE))[0] for number in range(1024)]
-        for name, token in (("mine", OPERATE), ("part", "part-0123456789abcdef")):
+        statuses = [server.ask("POST", "/consumer/c%d%s" % (number, said), None, shown(CONSUME))[0] for number in range(1024)]
+        for name, token in (("mine", OPERATE), ("part", PART)):
             assert server.ask("POST", "/consumer/%s%s" % (name, said), None, shown(token))[0] == 200, name
         return "%d names, %s" % (statuses.count(200), others_are_served(server))
 

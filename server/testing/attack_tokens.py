@@ -1,4 +1,4 @@
-"""Tokens with rights and spans: who may read, who may write, who may operate, and within which keys.
+"""Tokens with rights and spans: who may read, write, consume and operate, and within which keys.
 
 Each function is a test. It gets a room, and how heavy the load is to be.
 """
@@ -18,8 +18,8 @@ from attack_wire import refused_start
 from handmade import Refused, Session, Wire, bearer
 from machine import Room, Server, wait_for
 
-READ, WRITE, OPERATE, PART, SENSOR = ("%s-0123456789abcdef" % name for name in (
-    "read", "write", "operate", "part", "sensor"))
+READ, WRITE, CONSUME, OPERATE, PART, SENSOR = ("%s-0123456789abcdef" % name for name in (
+    "read", "write", "consume", "operate", "part", "sensor"))
 
 
 def shown(token: str) -> dict[str, str]:
@@ -35,12 +35,12 @@ def status_of(server: Server, path: str, token: str) -> int:
 
 @contextlib.contextmanager
 def with_tokens(room: Room, *options: str) -> Iterator[tuple[Server, str]]:
-    """A server with five tokens, and their file."""
+    """A server with six tokens, and their file."""
     path = room.file("tokens")
     with open(path, "w") as file:
         file.write("reader read - - %s\nwriter read,write - - %s\n" % (READ, WRITE))
-        file.write("operator read,write,operate - - %s\npart read,write b c %s\n" % (OPERATE, PART))
-        file.write("sensor write b c %s\n" % SENSOR)
+        file.write("operator read,write,consume,operate - - %s\npart read,write,consume b c %s\n" % (OPERATE, PART))
+        file.write("sensor write b c %s\ncache read,consume - - %s\n" % (SENSOR, CONSUME))
     os.chmod(path, 0o600)
     yield started(room, "--tokens", path, *options, token=OPERATE), path
 
@@ -53,16 +53,18 @@ def test_rights(room: Room, scale: Scale) -> str:
         assert server.ask("GET", "/holders", None, shown("none-0123456789abcdef"))[0] == 401
         status, told = server.ask("POST", "/call", write, shown(READ))
         assert status == 403 or "fault " in told and "=> written" not in told, (status, told)
-        for token in (READ, WRITE, OPERATE):
+        for token in (READ, WRITE, CONSUME, OPERATE):
             for path in ("/holders", "/metrics", "/state", "/consumer"):
                 assert server.ask("GET", path, None, shown(token))[0] == 200, (path, token)
         assert "=> committed 1" in server.ask("POST", "/call", write, shown(WRITE))[1]
         name = "/consumer/mine?identity=%s&generation=0&stored=0" % server.identity
-        assert server.ask("POST", name, None, shown(READ))[0] == 403
-        assert server.ask("POST", name, None, shown(WRITE))[0] == 200
-        assert server.ask("DELETE", "/consumer/mine", None, shown(READ))[0] == 403
-        for token, status in ((READ, 403), (WRITE, 200)):
+        for token, status in ((READ, 403), (WRITE, 403), (CONSUME, 200)):
+            assert server.ask("POST", name, None, shown(token))[0] == status, token
             assert status_of(server, "/feed?consumer=mine", token) == status, token
+            assert server.ask("DELETE", "/consumer/mine", None, shown(token))[0] == status, token
+        status, told = server.ask("POST", "/call", write, shown(CONSUME))
+        assert "fault " in told and "=> written" not in told, (status, told)
+        assert server.ask("PUT", "/key/a", b"x", shown(CONSUME))[0] == 403
         session = Session(server.port, WRITE)
         session.call("begin\n")
         (seat,) = [one["seat"] for one in server.holders("transaction")]
@@ -73,7 +75,7 @@ def test_rights(room: Room, scale: Scale) -> str:
             status, told = server.ask("POST", "/call", line.encode(), shown(WRITE))
             assert status == 403 or "fault " in told, (line, status, told)
             assert "=> c" in server.ask("POST", "/call", line.encode(), shown(OPERATE))[1], line
-    return "three kinds"
+    return "four kinds"
 
 
 def test_spans_of_tokens(room: Room, scale: Scale) -> str:

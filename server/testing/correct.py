@@ -175,7 +175,7 @@ class Load:
         if consumer.is_own or not consumer.make:
             return
         with contextlib.closing(consumer.make()) as target:
-            place, rows = target.load(), target.all()
+            place, rows = target.load(), dict(target.rows())
         if place:
             digest = 0
             for key, value in rows.items():

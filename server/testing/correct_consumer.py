@@ -1,7 +1,7 @@
 #!/usr/bin/python3
 """A consumer by the README alone: correct_consumer.py PORT NAME FILE LO HI [events] follows into a file of SQLite.
 
-It shares no code with examples/consumers. With `events` it asks for server-sent events. Beside rows and place it
+It shares no code with clients/consumer. With `events` it asks for server-sent events. Beside rows and place it
 keeps a digest of all rows for each timestamp at which it stored, and each value that it was told.
 """
 

@@ -1,6 +1,6 @@
 """Whether data outlive any crash: `server/test durable`.
 
-The load of `correct`, with the consumers of examples/consumers beside it, on a server that keeps its data. It is killed
+The load of `correct`, with the consumers of clients/consumer beside it, on a server that keeps its data. It is killed
 again and again by kill -9. Half of the time its disk loses what wasn't synced, tears what is being written, and forgets
 names of files (`powerless.c`, preloaded into the very program). All lives of the server are one history, and the serial
 model of `correct` judges it: each acknowledged commit, each answered read, each row told, in one order over all restarts.
@@ -31,9 +31,9 @@ from durable_servers import DurableServer, Pair
 from journal_file import Batch, rewrite
 from ledger import Ledger
 from machine import TOP, Postgres, Program, Redis, Room, Server
-from postgres_replica import Table
-from redis_cache import Cache
-from search_index import Index
+from ripsawbean_consumers.postgres_replica import Table
+from ripsawbean_consumers.redis_cache import Cache
+from ripsawbean_consumers.search_index import Index
 from tally import Tally
 
 # Checkpoints are made all the time, and what is old goes soon. A key is asked again until it is answered.
@@ -142,7 +142,7 @@ class DurableLoad(Load):
 
 
 class WholeLoad(DurableLoad):
-    """With the cache, the index and the replica of examples/consumers, over Redis, SQLite and PostgreSQL."""
+    """With the cache, the index and the replica of clients/consumer, over Redis, SQLite and PostgreSQL."""
 
     program = ""
 
@@ -150,9 +150,9 @@ class WholeLoad(DurableLoad):
         super().__init__(room, size, seed, drops)
         redis, postgres, index = room.start(Redis(room.path)), room.start(Postgres(room.path)), room.file("index.db")
         for name, script, target, make in (
-            ("cache", "redis_cache.py", redis.url, lambda: Cache(redis.url, "cache")),
-            ("index", "search_index.py", index, lambda: Index(index)),
-            ("replica", "postgres_replica.py", postgres.dsn, lambda: Table(postgres.dsn)),
+            ("cache", "redis", redis.url, lambda: Cache(redis.url, "cache")),
+            ("index", "sqlite", index, lambda: Index(index)),
+            ("replica", "postgresql", postgres.dsn, lambda: Table(postgres.dsn)),
         ):
             command = (script, self.url, name, target, "-", "-")
             program = room.start(room.script(name, *command))

@@ -19,10 +19,10 @@ import aiohttp
 
 from ledger import Ledger
 from machine import LONGEST, Postgres, Redis, Server, wait_for
-from postgres_replica import Table
-from redis_cache import Cache
 from ripsawbean import Event
-from search_index import Index
+from ripsawbean_consumers.postgres_replica import Table
+from ripsawbean_consumers.redis_cache import Cache
+from ripsawbean_consumers.search_index import Index
 
 OPTIONS = ("--max-age", "2", "--history", "0.2", "--max-lag", "20000")
 SEATS = 49  # of 64: what one client has that may operate
@@ -49,11 +49,11 @@ def settled(server, make):
     """Waits until a target has all that is closed, and compares it with the scan at its own place."""
     def has_all():
         with contextlib.closing(make()) as target:
-            return target.all() == rows_at(server, server.closed()) and target.load()
+            return dict(target.rows()) == rows_at(server, server.closed()) and target.load()
 
     wait_for(has_all, "the consumer to have all")
     with contextlib.closing(make()) as target:
-        place, rows = target.load(), target.all()
+        place, rows = target.load(), dict(target.rows())
     assert rows_at(server, place.timestamp) == rows
 
 
@@ -241,8 +241,8 @@ def test_streams_that_are_cut(room, server):
 
 def test_full_disk(room, server):
     """A consumer whose disk is full stands still at a place that is right, and goes on once there is room."""
-    for script, make in (("ledger.py", Ledger), ("search_index.py", Index)):
-        name = script[:-3]
+    for script, make in (("ledger.py", Ledger), ("sqlite", Index)):
+        name = make.__name__.lower()
         file = room.file("full-%s.db" % name)
         consumer = room.start(room.script("full-" + name, script, server.url, name, file))
         put(server, 10)
@@ -253,7 +253,7 @@ def test_full_disk(room, server):
         put(server, 1000, size=300)
         wait_for(lambda: "Error" in consumer.words()[said:], "the disk of %s to be full" % name)
         with contextlib.closing(make(file)) as target:
-            place, rows = target.load(), target.all()
+            place, rows = target.load(), dict(target.rows())
         assert rows_at(server, place.timestamp) == rows and place.timestamp < server.closed()
         assert not consumer.has_ended()
         resource.prlimit(consumer.child.pid, resource.RLIMIT_FSIZE, (resource.RLIM_INFINITY, resource.RLIM_INFINITY))
@@ -299,9 +299,9 @@ def test_places_of_quiet_spans(room, server):
     """Cache, index and replica store what is closed elsewhere within some second, though no row of theirs comes."""
     redis, postgres, file = room.start(Redis(room.path)), room.start(Postgres(room.path)), room.file("quiet.db")
     targets = {
-        "cache": ("redis_cache.py", redis.url, lambda: Cache(redis.url, "cache")),
-        "index": ("search_index.py", file, lambda: Index(file)),
-        "replica": ("postgres_replica.py", postgres.dsn, lambda: Table(postgres.dsn)),
+        "cache": ("redis", redis.url, lambda: Cache(redis.url, "cache")),
+        "index": ("sqlite", file, lambda: Index(file)),
+        "replica": ("postgresql", postgres.dsn, lambda: Table(postgres.dsn)),
     }
     for name, (script, target, _) in targets.items():
         room.start(room.script(name, script, server.url, name, target, "key/", "key0"))

@@ -16,10 +16,10 @@ import time
 from history import History
 from ledger import Ledger
 from machine import Postgres, Redis, Room, Server, wait_for
-from postgres_replica import Table
-from redis_cache import Cache
 from ripsawbean import Event
-from search_index import Index
+from ripsawbean_consumers.postgres_replica import Table
+from ripsawbean_consumers.redis_cache import Cache
+from ripsawbean_consumers.search_index import Index
 
 WORDS, PACKAGES, ALL = ("word/", "word0"), ("package/", "package0"), ("-", "-")
 WRITERS = 3
@@ -49,7 +49,7 @@ class Consumer:
         """Place, rows, and the list of what was told where the target is a ledger."""
         target = self.make()
         try:
-            return target.load(), target.all(), target.told() if isinstance(target, Ledger) else None
+            return target.load(), dict(target.rows()), target.told() if isinstance(target, Ledger) else None
         finally:
             target.close()
 
@@ -82,9 +82,9 @@ class Kills:
         cache, dsn = self.redis.url, self.postgres.dsn
         index, ledger = room.file("index.db"), room.file("ledger.db")
         self.consumers = [self.consumer(*one) for one in (
-            ("cache", "redis_cache.py", cache, WORDS, lambda: Cache(cache, "cache"), self.redis.log_files),
-            ("index", "search_index.py", index, PACKAGES, lambda: Index(index), index + "-wal"),
-            ("replica", "postgres_replica.py", dsn, ALL, lambda: Table(dsn), self.postgres.log_files),
+            ("cache", "redis", cache, WORDS, lambda: Cache(cache, "cache"), self.redis.log_files),
+            ("index", "sqlite", index, PACKAGES, lambda: Index(index), index + "-wal"),
+            ("replica", "postgresql", dsn, ALL, lambda: Table(dsn), self.postgres.log_files),
             ("ledger", "ledger.py", ledger, ALL, lambda: Ledger(ledger), ledger + "-wal"),
         )]
         open(room.file("committed"), "w").close()

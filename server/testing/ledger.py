@@ -4,12 +4,14 @@
 The other consumers put a row that comes twice where it already stands, and look the same. This one has it twice.
 """
 
+import argparse
 import os
 import sqlite3
 import sys
 
-sys.path.append(os.path.join(os.path.dirname(os.path.abspath(__file__)), "..", "..", "examples", "consumers"))
-from following import Outrun, Place, command_line, follow  # noqa: E402
+sys.path.append(os.path.join(os.path.dirname(os.path.abspath(__file__)), "..", "..", "clients", "python"))
+from ripsawbean_client import Outrun, Place  # noqa: E402
+from ripsawbean_consumers.following import arguments, follow  # noqa: E402
 
 TABLES = """
     PRAGMA journal_mode = WAL;
@@ -38,10 +40,10 @@ class Ledger:
             self.db.executemany("INSERT INTO told (updated, key, after) VALUES (?, ?, ?)", told)
             self.db.execute("INSERT OR REPLACE INTO place VALUES (1, ?, ?, ?)", batch.place)
 
-    def all(self):
+    def rows(self):
         """The rows of the map, which the rows told make one after the other."""
         found = {key: after for _, key, after in self.told()}
-        return {key: after for key, after in found.items() if after is not None}
+        return [(key, after) for key, after in found.items() if after is not None]
 
     def told(self):
         return self.db.execute("SELECT updated, key, after FROM told ORDER BY id").fetchall()
@@ -51,5 +53,7 @@ class Ledger:
 
 
 if __name__ == "__main__":
-    given = command_line(__doc__, "file")
+    words = argparse.ArgumentParser(description=__doc__)
+    arguments(words, "file")
+    given = words.parse_args()
     follow(given, lambda: Ledger(given.file), (sqlite3.Error,))

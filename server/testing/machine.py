@@ -18,8 +18,8 @@ import time
 
 HERE = os.path.dirname(os.path.abspath(__file__))
 TOP = os.path.dirname(os.path.dirname(HERE))
-CONSUMERS = os.path.join(TOP, "examples", "consumers")
-sys.path[:0] = [CONSUMERS, os.path.join(TOP, "embed", "python")]
+CONSUMER = os.path.join(TOP, "clients", "consumer")
+sys.path[:0] = [os.path.join(TOP, "clients", "python"), os.path.join(TOP, "embed", "python")]
 SERVER = os.environ.get("SERVER") or os.path.join(TOP, "server", "run")  # SERVER names another one to test
 
 LONGEST = 120  # seconds
@@ -195,7 +195,7 @@ class Room:
     def file(self, name):
         return os.path.join(self.path, name)
 
-    def script(self, name, *words):
-        """A Python program of the examples or of the test, by the Python that runs this one."""
-        folder = CONSUMERS if os.path.exists(os.path.join(CONSUMERS, words[0])) else HERE
-        return Program(self.path, name, [sys.executable, "-B", os.path.join(folder, words[0]), *words[1:]])
+    def script(self, name, *words, **more):
+        """A Python program of the test, or a consumer by its kind, by the Python that runs this one."""
+        program = (os.path.join(HERE, words[0]), *words[1:]) if words[0].endswith(".py") else (CONSUMER, *words)
+        return Program(self.path, name, [sys.executable, "-B", *program], **more)

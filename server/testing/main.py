@@ -13,6 +13,7 @@ import traceback
 import unittest
 
 import attacks
+import copies
 import correct
 import durable
 import edges
@@ -27,7 +28,7 @@ OTHERS = {"attacks": attacks.main, "correct": correct.main, "durable": durable.m
 
 
 def try_edges(tally, only):
-    for test in edges.TESTS:
+    for test in edges.TESTS + copies.TESTS:
         name = test.__name__[len("test_") :].replace("_", " ")
         if only not in name:
             continue

@@ -10,7 +10,7 @@ import argparse
 import os
 import sys
 
-sys.path.append(os.path.join(os.path.dirname(os.path.abspath(__file__)), "..", "..", "clients", "python"))
+sys.path.append(os.path.join(os.path.dirname(os.path.abspath(__file__)), "..", "clients", "python"))
 from ripsawbean_client import connect  # noqa: E402
 
 STATUS = "/var/lib/dpkg/status"

@@ -1,27 +1,31 @@
-#!/usr/bin/python3
-"""A replica in PostgreSQL: postgres_replica.py SERVER NAME DSN [LO HI]
+"""A replica in PostgreSQL.
 
-    postgres_replica.py http://127.0.0.1:7077 shop "host=127.0.0.1 dbname=shop"
-
-The table `ripsawbean` has the rows of the keys from LO up to HI, and `ripsawbean_place` says of which timestamp they
-are. Both change in one transaction, so a reader at REPEATABLE READ sees the database as it was at that timestamp. It
-needs Debian's python3-psycopg2.
+The table `ripsawbean` has the rows, and `ripsawbean_place` says of which timestamp they are. Both change in one
+transaction, so a reader at REPEATABLE READ sees the database as it was at that timestamp. Where values are JSON, a view
+over `convert_from(value, 'UTF8')::jsonb` has their members as columns. It needs Debian's python3-psycopg2.
 """
 
 import psycopg2
 from psycopg2.extras import execute_values
 
-from following import Outrun, Place, command_line, follow
+from ripsawbean_client import Outrun, Place
 
+FAILURES = (psycopg2.Error,)
+TOGETHER = 1000  # rows that are read in one transaction
 TABLES = """
     CREATE TABLE IF NOT EXISTS ripsawbean (key bytea PRIMARY KEY, value bytea NOT NULL);
     CREATE TABLE IF NOT EXISTS ripsawbean_place
         (one int PRIMARY KEY CHECK (one = 1), identity text, timestamp bigint, generation bigint);
 """
 PUT = "INSERT INTO ripsawbean VALUES %s ON CONFLICT (key) DO UPDATE SET value = EXCLUDED.value"
+ROWS = "SELECT key, value FROM ripsawbean WHERE key > %s ORDER BY key LIMIT %s"
 GONE = "DELETE FROM ripsawbean WHERE key = ANY (%s)"
 PLACE = ("INSERT INTO ripsawbean_place VALUES (1, %s, %s, %s) ON CONFLICT (one) DO UPDATE "
          "SET identity = EXCLUDED.identity, timestamp = EXCLUDED.timestamp, generation = EXCLUDED.generation")
+
+
+def opened(dsn, name):
+    return Table(dsn)
 
 
 class Table:
@@ -51,15 +55,21 @@ class Table:
             cursor.execute(GONE, ([key for key, value in after.items() if value is None],))
             cursor.execute(PLACE, batch.place)
 
-    def all(self):
+    def rows(self):
+        key, some = b"", None
+        while some is None or len(some) == TOGETHER:
+            with self.db, self.db.cursor() as cursor:
+                cursor.execute(ROWS, (key, TOGETHER))
+                some = cursor.fetchall()
+            for key, value in some:
+                yield bytes(key), bytes(value)
+
+    def look(self, keys):
         with self.db, self.db.cursor() as cursor:
-            cursor.execute("SELECT key, value FROM ripsawbean")
-            return {bytes(key): bytes(value) for key, value in cursor}
+            cursor.execute("SET TRANSACTION ISOLATION LEVEL REPEATABLE READ")
+            cursor.execute("SELECT key, value FROM ripsawbean WHERE key = ANY (%s)", (keys,))
+            found = {bytes(key): bytes(value) for key, value in cursor}
+            return self.stored(cursor), found
 
     def close(self):
         self.db.close()
-
-
-if __name__ == "__main__":
-    given = command_line(__doc__, "dsn")
-    follow(given, lambda: Table(given.dsn), (psycopg2.Error,))

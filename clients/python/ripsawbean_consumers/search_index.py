@@ -1,19 +1,15 @@
-#!/usr/bin/python3
-"""A search index in SQLite's FTS5: search_index.py SERVER NAME FILE [LO HI]; search_index.py --search WORDS FILE
+"""A search index in SQLite's FTS5.
 
-    search_index.py http://127.0.0.1:7077 packages packages.db package/ package0
-    search_index.py --search "database server" packages.db
-
-The index has the values of the keys from LO up to HI. The table `place` says of which timestamp they are, and changes
-in the same transaction. Readers may ask meanwhile. It needs nothing but Python.
+It has the values of the keys of its span. The table `place` says of which timestamp they are, and changes in the same
+transaction. Readers may ask meanwhile. It needs nothing but Python.
 """
 
-import os
 import sqlite3
-import sys
 
-from following import Outrun, Place, command_line, follow
+from ripsawbean_client import Outrun, Place
 
+FAILURES = (sqlite3.Error,)
+TOGETHER = 1000  # rows that are read in one transaction
 TABLES = """
     PRAGMA journal_mode = WAL;
     CREATE TABLE IF NOT EXISTS place
@@ -21,10 +17,19 @@ TABLES = """
     CREATE TABLE IF NOT EXISTS document (id INTEGER PRIMARY KEY, key BLOB UNIQUE, value BLOB);
     CREATE VIRTUAL TABLE IF NOT EXISTS body USING fts5 (text);
 """
+# A row whose text isn't the one that is searched has that one as its value.
+ROWS = """
+    SELECT key, value, text FROM document LEFT JOIN body ON body.rowid = id WHERE key > ? ORDER BY key LIMIT ?
+"""
+ROW = "SELECT key, value, text FROM document LEFT JOIN body ON body.rowid = id WHERE key = ?"
 SEARCH = """
     SELECT key, snippet(body, 0, '[', ']', '..', 8) FROM body JOIN document ON id = body.rowid
     WHERE body MATCH ? ORDER BY rank, key LIMIT 10
 """
+
+
+def opened(file, name):
+    return Index(file)
 
 
 class Index:
@@ -59,10 +64,22 @@ class Index:
             self.db.execute("DELETE FROM document WHERE id = ?", known)
         if change.value is not None:
             at = self.db.execute("INSERT INTO document (key, value) VALUES (?, ?)", change[:2]).lastrowid
-            self.db.execute("INSERT INTO body (rowid, text) VALUES (?, ?)", (at, change.value.decode(errors="replace")))
+            self.db.execute("INSERT INTO body (rowid, text) VALUES (?, ?)", (at, text_of(change.value)))
 
-    def all(self):
-        return dict(self.db.execute("SELECT key, value FROM document"))
+    def rows(self):
+        key, some = b"", None
+        while some is None or len(some) == TOGETHER:
+            some = self.db.execute(ROWS, (key, TOGETHER)).fetchall()
+            for key, value, text in some:
+                yield key, searched(value, text)
+
+    def look(self, keys):
+        self.db.execute("BEGIN")
+        try:
+            found = [row for key in keys for row in self.db.execute(ROW, (key,))]
+            return self.load(), {key: searched(value, text) for key, value, text in found}
+        finally:
+            self.db.execute("ROLLBACK")
 
     def search(self, words):
         """Keys and a piece of the text of the ten best, the best first."""
@@ -72,14 +89,10 @@ class Index:
         self.db.close()
 
 
-if __name__ == "__main__":
-    if sys.argv[1:2] == ["--search"]:
-        if len(sys.argv) != 4:
-            sys.exit("search_index.py --search WORDS FILE")
-        if not os.path.exists(sys.argv[3]):
-            sys.exit("search_index.py: there is no %s" % sys.argv[3])
-        for key, text in Index(sys.argv[3]).search(sys.argv[2]):
-            print(os.fsdecode(key), text.replace("\n", " "))
-    else:
-        given = command_line(__doc__, "file")
-        follow(given, lambda: Index(given.file), (sqlite3.Error,))
+def text_of(value):
+    return value.decode(errors="replace")
+
+
+def searched(value, text):
+    """The value, where its text is the one that is searched, and else that one."""
+    return value if text == text_of(value) else (text or "").encode()
