@@ -1,11 +1,11 @@
-"""Runs all measurements once, and writes them as tables. The word `durable` asks for those that wait for the disk, and
-`heaps` for what one heap costs."""
+"""Runs all measurements once, and writes them as tables. The word `durable` asks for those that wait for the disk, `heaps`
+for what one heap costs, and `shares` for how long others wait beside one client that takes whatever it gets."""
 
 import os
 import sys
 from collections.abc import Callable
 
-from . import durable, heaps
+from . import durable, heaps, shares
 from .figures import Found
 from .loaded import Etcd, Ours, Redis, build_load
 from .postgres import Postgres
@@ -98,6 +98,6 @@ def rows(ours: Ours, scale: float) -> None:
 
 
 words = sys.argv[1:]
-run = {"durable": durable.main, "heaps": heaps.main}.get(words[0] if words else "", main)
+run = {"durable": durable.main, "heaps": heaps.main, "shares": shares.main}.get(words[0] if words else "", main)
 words = words[run is not main:]
 run(float(words[0]) if words else 1.0)

@@ -63,11 +63,6 @@ impl Answer {
         Answer { timestamp: answered.timestamp, form: answered.form.clone(), is_again: true, rests: None }
     }
 
-    #[cfg(test)]
-    pub fn form(&self) -> &Form {
-        &self.form
-    }
-
     fn into_response(self, place: Option<Place>) -> Response {
         let Answer { timestamp, form, is_again, rests } = self;
         let json = |text: Bytes| Response::whole("application/json; charset=utf-8", text);
@@ -153,6 +148,12 @@ mod tests {
             ("wait=1.2.3", None),
         ] {
             assert_eq!(wait(query), milliseconds.map(Duration::from_millis), "{query}");
+        }
+    }
+
+    impl Answer {
+        pub fn form(&self) -> &Form {
+            &self.form
         }
     }
 }

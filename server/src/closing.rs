@@ -12,7 +12,8 @@
 //! yet to take what the closing before has told, the next one waits for them, up to 20 ms: so a hundred readers are
 //! woken as often as they can read, and no more often.
 //!
-//! A hard closing would abort younger transactions below an old one too, so it isn't used. A collection stays
+//! A hard closing would abort younger transactions below an old one too, so it isn't used. Whoever may only read holds
+//! up others' commits for half a second at most, by one transaction or by many. A collection stays
 //! `--history` seconds behind closed, so that a timestamp that was just seen can be read.
 //!
 //! Each answer is foretold by the ledger. Where another comes, the server shouts: a line of the log, and a count in the
@@ -32,8 +33,11 @@ use std::time::{Duration, Instant};
 
 /// How long a closing waits for streams that are behind.
 const LONGEST_WAIT: Duration = Duration::from_millis(20);
+const SHORTEST_WAIT: Duration = Duration::from_millis(1);
 /// An undecided transaction may be so old while memory is full and others grow above it.
 const SHORT_AGE: Duration = Duration::from_secs(1);
+/// One of a session that may only read, while commits above it wait to be closed.
+const READERS_AGE: Duration = Duration::from_millis(500);
 /// Rows that one collection lets go within a turn, as far as closings allow.
 const ROWS_A_COLLECTION: u64 = 5000;
 
@@ -113,10 +117,10 @@ impl Core {
             self.closing.due.get_or_insert(now);
         }
         if self.close_at().is_some_and(|at| at <= now) {
-            self.close();
+            self.close(now);
         }
         self.note_waiting(now);
-        let is_due = self.closing.due.is_some() && !self.closing.is_told;
+        let is_due = self.close_at().is_some() && !self.closing.is_told;
         self.closing.is_told |= is_due;
         Settled { moved: std::mem::take(&mut self.ledger.moved), is_due }
     }
@@ -130,18 +134,31 @@ impl Core {
     /// When the closing that is due has to be done.
     fn close_at(&self) -> Option<Instant> {
         let wait = if self.ledger.behind > 0 { LONGEST_WAIT } else { Duration::ZERO };
-        self.closing.due.map(|since| since + self.closing.every.max(wait))
+        let due = self.closing.due.map(|since| since + self.closing.every.max(wait));
+        due.into_iter().chain(self.oldest_reader().map(|(_, _, at)| at)).min()
+    }
+
+    /// The transaction of a session that may only read, where commits wait for it alone: when it has to end.
+    fn oldest_reader(&self) -> Option<(Owner, u64, Instant)> {
+        let (&ts, transaction) = self.ledger.undecided.first_key_value().filter(|_| self.ledger.rows.has_waiting())?;
+        let Owner::Seat(seat) = transaction.owner else { return None };
+        let reads = self.seats.taken(seat).is_some_and(|taken| !taken.may_write);
+        reads.then_some((transaction.owner, ts, transaction.since + READERS_AGE.min(self.closing.max_age)))
     }
 
     /// The timer asks when to come back. `None` where nothing is due.
     fn next_close(&mut self) -> Option<Instant> {
-        self.closing.is_told = self.closing.due.is_some();
-        self.close_at()
+        let at = self.close_at();
+        self.closing.is_told = at.is_some();
+        at
     }
 
     /// Closes up to the greatest timestamp that began, or to just below the oldest undecided transaction.
-    fn close(&mut self) {
+    fn close(&mut self, now: Instant) {
         self.closing.due = None;
+        if let Some((owner, ts, _)) = self.oldest_reader().filter(|&(_, _, at)| at <= now) {
+            self.abort("old_transaction", owner, ts);
+        }
         let greatest = self.ledger.greatest;
         let limit = self.ledger.oldest().map_or(greatest, |oldest| oldest - 1);
         if limit > self.ledger.closed {
@@ -157,7 +174,7 @@ impl Core {
     fn close_again(&mut self, _until: Instant) -> Turn {
         self.take_spare();
         self.give_back_room();
-        self.close();
+        self.close(Instant::now());
         Turn::Done
     }
 
@@ -373,7 +390,9 @@ pub async fn close_when_due(door: &Door) {
     loop {
         door.due().await;
         while let Some(at) = door.run(Core::next_close) {
-            tokio::time::sleep_until(at.into()).await;
+            // What is due sooner meanwhile tells nobody, and what failed for want of memory comes again.
+            let wait = at.saturating_duration_since(Instant::now());
+            tokio::time::sleep(wait.clamp(SHORTEST_WAIT, LONGEST_WAIT)).await;
         }
     }
 }

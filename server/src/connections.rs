@@ -25,7 +25,7 @@ mod watched;
 use crate::refusal::Refusal;
 use crate::shares::{network_of, Client, Held, Table as Shared};
 use parking_lot::Mutex;
-use silences::Silences;
+use silences::{Silence, Silences};
 use std::collections::{BTreeSet, HashMap};
 use std::net::{IpAddr, SocketAddr};
 use std::sync::atomic::{AtomicBool, AtomicU64, Ordering};
@@ -64,7 +64,8 @@ struct Entry {
     /// Requests that are not answered yet, and what they count for.
     busy: usize,
     held: Option<Held>,
-    silence: Option<(u64, Instant)>,
+    has_asked: bool,
+    silence: Option<(Silence, Instant)>,
 }
 
 impl Connections {
@@ -119,7 +120,8 @@ fn cut_all(connections: impl IntoIterator<Item = Weak<Connection>>) {
 impl Table {
     fn add(&mut self, number: u64, connection: &Arc<Connection>) {
         let network = network_of(connection.peer.ip());
-        let entry = Entry { connection: Arc::downgrade(connection), network, busy: 0, held: None, silence: None };
+        let (connection, silence) = (Arc::downgrade(connection), None);
+        let entry = Entry { connection, network, busy: 0, held: None, has_asked: false, silence };
         self.open.insert(number, entry);
         self.silent.come(network);
         self.rests(number, HEAD);
@@ -128,7 +130,7 @@ impl Table {
     fn rests(&mut self, number: u64, most: Duration) {
         let Some(entry) = self.open.get_mut(&number).filter(|entry| entry.silence.is_none()) else { return };
         let until = Instant::now() + most;
-        entry.silence = Some((self.silent.add(entry.network, number), until));
+        entry.silence = Some((self.silent.add(entry.network, number, entry.has_asked), until));
         self.until.insert((until, number));
     }
 
@@ -210,6 +212,7 @@ impl Connection {
                 entry.held = Some(self.all.busy.take(client)?);
             }
             entry.busy += 1;
+            entry.has_asked = true;
         }
         table.speaks(self.number);
         Ok(Busy(self.clone()))

@@ -4,7 +4,7 @@
 //! 2. All names are told in turns, so that no one waits for long.
 
 use crate::core::Core;
-use crate::door::Door;
+use crate::door::{Door, Length};
 use crate::http::{Request, Response};
 use crate::json;
 use crate::ledger::Name;
@@ -13,6 +13,7 @@ use crate::query::{arguments, percent_decoded, Arguments};
 use crate::refusal::Refusal;
 use crate::reports::Report;
 use crate::routes::Server;
+use crate::shares::Client;
 use std::sync::Arc;
 
 /// Names that are told while the lock is held.
@@ -23,7 +24,7 @@ const BYTES_IN_METRICS: usize = 300;
 pub async fn list(server: &Arc<Server>, request: Request) -> Result<Response, Refusal> {
     arguments(&request.path, &request.query, &[])?;
     let mut report = Report::begin(server, &request);
-    lines_of_all(&server.door, &mut report).await?;
+    lines_of_all(&server.door, &request.client, &mut report).await?;
     Ok(report.told())
 }
 
@@ -88,13 +89,18 @@ impl Core {
 // ---- all of them
 
 /// Takes all names in turns: `each` is given those of one turn.
-async fn in_turns(door: &Door, mut each: impl FnMut(&Core, &[Name]) -> Result<(), Refusal>) -> Result<(), Refusal> {
+async fn in_turns(
+    door: &Door,
+    client: &Client,
+    mut each: impl FnMut(&Core, &[Name]) -> Result<(), Refusal>,
+) -> Result<(), Refusal> {
     let mut last = None;
     loop {
-        let names = door.run(|core| {
+        let turn = door.turn_of(Length::Short, client, |core, _| {
             let names = core.names.behind(last.as_ref(), NAMES_A_TURN);
             each(core, &names).map(|()| names)
-        })?;
+        });
+        let names = turn.await.0?;
         if names.len() < NAMES_A_TURN {
             return Ok(());
         }
@@ -104,14 +110,14 @@ async fn in_turns(door: &Door, mut each: impl FnMut(&Core, &[Name]) -> Result<()
 }
 
 /// What is known of each name, as lines of a report.
-pub async fn lines_of_all(door: &Door, report: &mut Report) -> Result<(), Refusal> {
-    in_turns(door, |core, names| report.add(names.iter().map(|name| core.line_of(name)).collect())).await
+pub async fn lines_of_all(door: &Door, client: &Client, report: &mut Report) -> Result<(), Refusal> {
+    in_turns(door, client, |core, names| report.add(names.iter().map(|name| core.line_of(name)).collect())).await
 }
 
 /// What `metrics` tells of each name, for a report which is to hold it.
-pub async fn told_of_all(door: &Door, report: &mut Report) -> Result<Vec<Told>, Refusal> {
+pub async fn told_of_all(door: &Door, client: &Client, report: &mut Report) -> Result<Vec<Told>, Refusal> {
     let mut found = Vec::new();
-    in_turns(door, |core, names| {
+    in_turns(door, client, |core, names| {
         found.extend(names.iter().map(|name| core.told_of(name)));
         report.will_have(found.len() * BYTES_IN_METRICS)
     })

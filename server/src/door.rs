@@ -17,21 +17,27 @@
 //! 8. No one has the lane who waits for anything but a turn, the lane's rest and the lock. Who goes away gives it back.
 //! 9. One of each client's waits for the lane, in the order in which they came, and its others wait for that one. So who
 //!    comes waits for one of each other client at most. The server's own work doesn't wait for it at all.
+//! 10. A client has few short turns at once, on all threads but one, and its others wait for a `Permit`. Else who has 400
+//!     requests ready, of 2 milliseconds each, would make everyone wait for 800: threads take what is ready in turn. So
+//!     it is on one thread too, as the permit of a long turn is kept until all that is ready was let in.
+//! 11. A permit is taken before a plan is read, and left behind its turn. So few plans of a client are read, and one where
+//!     their bodies are long: those wait with what waits for the lane. Who has a permit waits for nothing else.
 //!
 //! What is long is known before, by its size, or shows itself within the time of a short one, and then begins anew in the
 //! lane. What isn't found out so is known behind it: who overran its turn takes the lane for the next one.
 //!
 //! ```text
 //! door.run(|core| core.ledger.closed)                       a short look
-//! door.turns(client, |core, until, _| ..).await             work that can be cut: 5 ms, and again
-//! door.own_turns(|core, until| ..).await                    the same of the server's own, which waits for no lane
-//! door.turn_of(Length::Long, client, |core, _| ..).await    work that can't: in the lane
-//! door.turns_in_lane(client, |core, _| ..).await            work of many turns, beside which no other long work goes on
+//! door.turn_of(length, client, |core, until| ..).await      a turn: of work that can't be cut in the lane
+//! door.own_turns(|core, until| ..).await                    the same of the server's own, which waits for no permit
+//! door.turn_by(permit, |core, until| ..).await              a short turn behind what was read by its permit
+//! door.turns_in_lane(permit, |core, _| ..).await            work of many turns, beside which no other long work goes on
 //! ```
 
 use crate::core::Core;
 use crate::journal::{Durable, Ticket};
 use crate::process;
+use crate::serving::workers;
 use crate::shares::Client;
 use parking_lot::{Mutex, MutexGuard};
 use std::collections::HashMap;
@@ -51,6 +57,12 @@ const MUCH: Duration = Duration::from_micros(2500);
 const REST: u32 = 2;
 /// Shorter rests aren't worth a timer.
 const SHORTEST_REST: Duration = Duration::from_millis(1);
+/// Short turns that one client has at once: one that has the lock, and others that are read or wait for it.
+const AT_ONCE: usize = 3;
+/// Behind a turn that took so long others are let in before its client has another one.
+const LONG_TURN: Duration = Duration::from_micros(500);
+/// Bytes of a body whose plan is read by the permit for the lane.
+const LONG_BODY: usize = 1 << 14;
 
 /// How long work may hold the lock, or has held it.
 #[derive(Clone, Copy, Debug, PartialEq, Eq)]
@@ -84,37 +96,54 @@ impl Turn {
     }
 }
 
-/// Where long work goes one at a time.
-struct Lane {
-    /// Who has its permit has the lane. It is fair.
-    one: Semaphore,
-    /// Of each client that has the lane or waits for it, who has its permit.
+/// The permits of each client that has any, or waits for one.
+struct Permits {
+    most: usize,
     of: Mutex<HashMap<Client, Arc<Semaphore>>>,
 }
 
-/// The lane, and the place of its client.
-pub struct InLane<'a> {
-    _one: SemaphorePermit<'a>,
-    _own: OwnedSemaphorePermit,
-}
-
-impl Lane {
-    async fn take(&self, client: &Client) -> InLane<'_> {
+impl Permits {
+    async fn take(&self, client: &Client) -> OwnedSemaphorePermit {
         let own = {
             let mut of = self.of.lock();
             of.retain(|_, own| Arc::strong_count(own) > 1);
-            of.entry(client.clone()).or_insert_with(|| Arc::new(Semaphore::new(1))).clone()
+            of.entry(client.clone()).or_insert_with(|| Arc::new(Semaphore::new(self.most))).clone()
         };
-        let _own = own.acquire_owned().await.expect("it is never closed");
-        InLane { _one: self.one.acquire().await.expect("it is never closed"), _own }
+        own.acquire_owned().await.expect("it is never closed")
     }
+}
+
+/// What a client has to have for a short turn, or for the lane, where it is taken.
+pub struct Permit {
+    pub client: Client,
+    own: Option<(Length, OwnedSemaphorePermit)>,
+}
+
+impl Permit {
+    /// One that is taken later.
+    pub fn of(client: &Client) -> Permit {
+        Permit { client: client.clone(), own: None }
+    }
+
+    pub fn leave(&mut self) {
+        self.own = None;
+    }
+}
+
+/// The lane, and the permit of its client.
+pub struct InLane<'a> {
+    _one: SemaphorePermit<'a>,
+    _own: OwnedSemaphorePermit,
 }
 
 pub struct Door {
     core: Mutex<Core>,
     /// How many wait for the lock.
     waiting: AtomicUsize,
-    lane: Lane,
+    permits: Permits,
+    /// Who has its permit has the lane. It is fair.
+    lane: Semaphore,
+    for_lane: Permits,
     /// Until when the lane rests.
     rests: Mutex<Instant>,
     durable: Durable,
@@ -126,9 +155,10 @@ impl Door {
     pub fn new(core: Core) -> Door {
         let durable = core.journal.durable();
         let (waiting, moved) = (AtomicUsize::new(0), watch::channel(0).0);
-        let lane = Lane { one: Semaphore::new(1), of: Mutex::default() };
-        let rests = Mutex::new(Instant::now());
-        Door { core: Mutex::new(core), waiting, lane, rests, durable, moved, due: Notify::new() }
+        let permits_of = |most| Permits { most, of: Mutex::default() };
+        let (permits, for_lane) = (permits_of(workers().saturating_sub(1).clamp(1, AT_ONCE)), permits_of(1));
+        let (lane, rests) = (Semaphore::new(1), Mutex::new(Instant::now()));
+        Door { core: Mutex::new(core), waiting, permits, lane, for_lane, rests, durable, moved, due: Notify::new() }
     }
 
     fn lock(&self) -> MutexGuard<'_, Core> {
@@ -167,6 +197,33 @@ impl Door {
         self.measured(TURN, work).0
     }
 
+    /// A client's permit, for a request with a body of so many bytes that isn't read yet.
+    pub async fn permit(&self, client: &Client, bytes: usize) -> Permit {
+        let own = match bytes > LONG_BODY {
+            true => (Length::Long, self.for_lane.take(client).await),
+            false => (Length::Short, self.permits.take(client).await),
+        };
+        Permit { client: client.clone(), own: Some(own) }
+    }
+
+    /// A short turn by a client's permit, which is taken where it isn't yet, and left.
+    pub async fn turn_by<R>(&self, permit: &mut Permit, work: impl FnOnce(&mut Core, Instant) -> R) -> (R, Length) {
+        if permit.own.is_none() {
+            *permit = self.permit(&permit.client, 0).await;
+        }
+        let mut is_long = false;
+        let turn = self.measured(TURN, |core, until| {
+            let result = work(core, until);
+            is_long = Instant::now() + TURN > until + LONG_TURN;
+            result
+        });
+        if is_long {
+            tokio::task::yield_now().await;
+        }
+        permit.leave();
+        turn
+    }
+
     /// The same of work that may be so long: in the lane, where it may be long. And how long it was.
     pub async fn turn_of<R>(
         &self,
@@ -175,9 +232,9 @@ impl Door {
         work: impl FnOnce(&mut Core, Instant) -> R,
     ) -> (R, Length) {
         match length {
-            Length::Short => self.measured(TURN, work),
+            Length::Short => self.turn_by(&mut Permit::of(client), work).await,
             Length::Long => {
-                let _lane = self.lane(client).await;
+                let _lane = self.lane(Permit::of(client)).await;
                 aside(|| self.measured(TURN, work))
             }
         }
@@ -186,8 +243,8 @@ impl Door {
     /// Work in turns, which keeps the lane from its first turn to its last one: that gives something. So other long work
     /// waits for all of it, and short work for one turn. The lane rests behind each of them, because together they are
     /// long.
-    pub async fn turns_in_lane<R>(&self, client: &Client, mut work: impl FnMut(&mut Core, Instant) -> Option<R>) -> R {
-        let _lane = self.lane(client).await;
+    pub async fn turns_in_lane<R>(&self, permit: Permit, mut work: impl FnMut(&mut Core, Instant) -> Option<R>) -> R {
+        let _lane = self.lane(permit).await;
         loop {
             if let (Some(result), _) = aside(|| self.measured(Duration::ZERO, &mut work)) {
                 return result;
@@ -197,15 +254,20 @@ impl Door {
         }
     }
 
-    /// Keeps the lane, as long work does.
-    #[cfg(test)]
-    pub async fn keep_lane(&self) -> InLane<'_> {
-        self.lane.take(&crate::shares::LOOPBACK).await
+    async fn in_lane(&self, Permit { client, own }: Permit) -> InLane<'_> {
+        let _own = match own {
+            Some((Length::Long, own)) => own,
+            other => {
+                drop(other);
+                self.for_lane.take(&client).await
+            }
+        };
+        InLane { _one: self.lane.acquire().await.expect("it is never closed"), _own }
     }
 
     /// Waits for the lane, and until it has rested.
-    async fn lane(&self, client: &Client) -> InLane<'_> {
-        let lane = self.lane.take(client).await;
+    async fn lane(&self, permit: Permit) -> InLane<'_> {
+        let lane = self.in_lane(permit).await;
         self.rested().await;
         lane
     }
@@ -238,20 +300,6 @@ impl Door {
     pub async fn own_turns(&self, mut work: impl FnMut(&mut Core, Instant) -> Turn) {
         while self.turn(&mut work) != Turn::Done {
             tokio::task::yield_now().await;
-        }
-    }
-
-    /// Work in turns, to its end. It is told how long its next call may be.
-    pub async fn turns(&self, client: &Client, mut work: impl FnMut(&mut Core, Instant, Length) -> Turn) {
-        let mut length = Length::Short;
-        loop {
-            let (turn, was) = self.turn_of(length, client, |core, until| work(core, until, length)).await;
-            length = if turn == Turn::Long { Length::Long } else { was };
-            match turn {
-                Turn::Done => return,
-                Turn::More | Turn::Crowded | Turn::Long => tokio::task::yield_now().await,
-                Turn::Until(ticket) => self.until(ticket).await,
-            }
         }
     }
 
@@ -291,212 +339,4 @@ fn aside<R>(work: impl FnOnce() -> R) -> R {
 }
 
 #[cfg(test)]
-mod tests {
-    use super::*;
-    use crate::gate::Who;
-    use crate::shares::LOOPBACK;
-    use crate::testing::{server, waits};
-    use std::future::Future;
-    use std::sync::atomic::{AtomicBool, Ordering::SeqCst};
-    use std::thread::{self, sleep, yield_now};
-
-    const LONG: Duration = Duration::from_millis(45);
-
-    /// Waits as a thread, however busy the machine is.
-    fn wait_until(is_so: impl Fn() -> bool) {
-        while !is_so() {
-            yield_now();
-        }
-    }
-
-    fn run<T>(work: impl Future<Output = T>) -> T {
-        tokio::runtime::Builder::new_current_thread().enable_all().build().expect("a runtime").block_on(work)
-    }
-
-    /// Keeps the lock for long, until another one waits for it. Gives when it had it.
-    fn while_one_waits(door: &Door) -> Instant {
-        sleep(LONG);
-        wait_until(|| door.waiting.load(Relaxed) > 0);
-        Instant::now()
-    }
-
-    #[test]
-    fn where_much_long_work_waits_one_of_it_is_in_the_way_of_short_work() {
-        let server = server(&[]);
-        let (door, has_begun, all_wait) = (&server.door, AtomicBool::new(false), AtomicBool::new(false));
-        let others = || async {
-            wait_until(|| has_begun.load(SeqCst));
-            let long = || door.turn_of(Length::Long, &LOOPBACK, |_, _| {});
-            // Each has asked for the lane when the last one is asked.
-            let last = async { all_wait.store(true, SeqCst) };
-            tokio::join!(long(), long(), long(), long(), long(), long(), long(), last);
-        };
-        let waiting = thread::scope(|scope| {
-            let first = scope.spawn(|| {
-                let first = door.turn_of(Length::Long, &LOOPBACK, |_, _| {
-                    has_begun.store(true, SeqCst);
-                    wait_until(|| all_wait.load(SeqCst) && door.waiting.load(Relaxed) > 0);
-                    door.waiting.load(Relaxed)
-                });
-                run(first).0
-            });
-            scope.spawn(|| run(others()));
-            wait_until(|| all_wait.load(SeqCst));
-            door.run(|_| {});
-            first.join().expect("it doesn't panic")
-        });
-        // No one but the short work waited for the lock.
-        assert_eq!((waiting, door.waiting.load(Relaxed), door.lane.one.available_permits()), (1, 0, 1));
-    }
-
-    #[test]
-    fn the_lane_rests_behind_work_that_was_too_long_while_others_waited() {
-        let server = server(&[]);
-        let door = &server.door;
-        let next = || run(door.turn_of(Length::Long, &LOOPBACK, |_, _| Instant::now())).0;
-        let rests = || *door.rests.lock();
-        let (before, (_, was)) = (rests(), run(door.turn_of(Length::Long, &LOOPBACK, |_, _| sleep(LONG))));
-        assert_eq!((rests(), was), (before, Length::Long));
-        // Also where it didn't have the lane.
-        for length in [Length::Long, Length::Short] {
-            thread::scope(|scope| {
-                let (end, was) = run(door.turn_of(length, &LOOPBACK, |_, _| {
-                    scope.spawn(|| door.run(|_| {}));
-                    while_one_waits(door)
-                }));
-                assert!(was == Length::Long && next() >= end + (LONG - TURN) * REST);
-            });
-        }
-    }
-
-    #[test]
-    fn the_lane_rests_between_turns_that_keep_it_however_short_they_are() {
-        let server = server(&[]);
-        let door = &server.door;
-        let mut ends = Vec::new();
-        thread::scope(|scope| {
-            run(door.turns_in_lane(&LOOPBACK, |_, _| {
-                let begun = Instant::now();
-                if let Some(&end) = ends.last() {
-                    assert!(begun >= end + TURN / 2 * REST);
-                    return Some(());
-                }
-                scope.spawn(|| door.run(|_| {}));
-                wait_until(|| door.waiting.load(Relaxed) > 0);
-                sleep((TURN / 2).saturating_sub(begun.elapsed()));
-                ends.push(Instant::now());
-                None
-            }));
-        });
-    }
-
-    #[test]
-    fn work_in_the_lane_holds_up_no_other_task_of_its_thread() {
-        let (server, goes_on) = (server(&[]), Arc::new(AtomicBool::new(false)));
-        let one = tokio::runtime::Builder::new_multi_thread().worker_threads(1).enable_all().build();
-        let (one, other) = (one.expect("a runtime"), goes_on.clone());
-        let long = one.spawn(async move {
-            let wait_for_another = |_: &mut Core, _| {
-                tokio::spawn(async move { other.store(true, SeqCst) });
-                (0..6000).any(|_| {
-                    goes_on.load(SeqCst) || {
-                        sleep(Duration::from_millis(10));
-                        false
-                    }
-                })
-            };
-            server.door.turn_of(Length::Long, &LOOPBACK, wait_for_another).await.0
-        });
-        assert!(one.block_on(long).expect("it doesn't panic"));
-    }
-
-    #[tokio::test(start_paused = true)]
-    async fn the_lane_goes_to_who_came_first_and_is_given_back_by_who_goes_away() {
-        let server = server(&[]);
-        let (door, order) = (&server.door, Mutex::new(Vec::new()));
-        let long = |name: u8| {
-            let order = &order;
-            async move { door.turn_of(Length::Long, &LOOPBACK, |_, _| order.lock().push(name)).await }
-        };
-        let (first, mut goes) = (door.lane(&LOOPBACK).await, Box::pin(door.lane(&LOOPBACK)));
-        assert!(waits(goes.as_mut()).await);
-        let behind = async { tokio::join!(long(1), long(2), long(3)) };
-        let given_back = async {
-            drop(goes);
-            drop(first);
-        };
-        let all = async { tokio::join!(behind, given_back) };
-        tokio::time::timeout(Duration::from_secs(60), all).await.expect("who went away isn't waited for");
-        assert_eq!(*order.lock(), [1, 2, 3]);
-    }
-
-    #[tokio::test(start_paused = true)]
-    async fn who_has_much_long_work_is_waited_for_once() {
-        let server = server(&[]);
-        let (door, order) = (&server.door, Mutex::new(Vec::new()));
-        let [taker, other] = [1, 2].map(|last| Client::new([192, 0, 2, last].into(), &Who::anyone()));
-        let long = |client, name| {
-            let order = &order;
-            async move { door.turn_of(Length::Long, client, |_, _| order.lock().push(name)).await }
-        };
-        let first = door.lane(&taker).await;
-        let takers = async { tokio::join!(long(&taker, 1), long(&taker, 2), long(&taker, 3)) };
-        let given_back = async { drop(first) };
-        tokio::join!(takers, long(&other, 9), given_back);
-        assert_eq!(*order.lock(), [9, 1, 2, 3]);
-        // Who has none takes no memory.
-        drop(door.lane(&other).await);
-        assert_eq!(door.lane.of.lock().len(), 1);
-    }
-
-    #[tokio::test]
-    async fn between_two_turns_in_the_lane_short_work_is_done_and_long_work_waits() {
-        let server = server(&[]);
-        let (door, order, mut turns) = (&server.door, Mutex::new(Vec::new()), 0);
-        let first = door.turns_in_lane(&LOOPBACK, |_, _| {
-            order.lock().push("turn");
-            turns += 1;
-            (turns == 3).then_some(turns)
-        });
-        let long = door.turn_of(Length::Long, &LOOPBACK, |_, _| order.lock().push("long"));
-        let short = async { door.run(|_| order.lock().push("short")) };
-        assert_eq!(tokio::join!(first, long, short).0, 3);
-        assert_eq!(*order.lock(), ["turn", "short", "turn", "turn", "long"]);
-        assert_eq!(door.lane.one.available_permits(), 1);
-    }
-
-    #[tokio::test]
-    async fn work_in_turns_takes_the_lane_where_it_asks_for_that() {
-        let server = server(&[]);
-        let (door, mut had) = (&server.door, Vec::new());
-        door.turns(&LOOPBACK, |_, _, length| {
-            had.push((length, door.lane.one.available_permits()));
-            if length == Length::Short {
-                Turn::Long
-            } else {
-                Turn::Done
-            }
-        })
-        .await;
-        assert_eq!(had, [(Length::Short, 1), (Length::Long, 0)]);
-    }
-
-    #[tokio::test]
-    async fn work_in_turns_takes_the_lane_behind_a_turn_that_was_long() {
-        let server = server(&[]);
-        let (door, mut had) = (&server.door, Vec::new());
-        door.turns(&LOOPBACK, |_, _, _| {
-            had.push(door.lane.one.available_permits() == 0);
-            if had.len() == 1 {
-                sleep(LONG);
-            }
-            // On a busy machine some more may be long.
-            match had[..] {
-                [_, .., false] => Turn::Done,
-                _ => Turn::More,
-            }
-        })
-        .await;
-        assert!(had.len() > 2 && had[..2] == [false, true], "{had:?}");
-    }
-}
+mod tests;

@@ -6,6 +6,7 @@
 //! waits for its reader counts as a report does.
 
 use crate::core::Core;
+use crate::door::Length;
 use crate::http::{Request, Response, Sender};
 use crate::journal::copy::{Broken, Copy, Next};
 use crate::journal::DUMP;
@@ -48,7 +49,8 @@ async fn tell(place: &Place, copy: &mut Copy, sender: &Sender) -> Option<()> {
     let (door, is_ending) = (&place.server().door, place.server().is_ending.subscribe());
     while !*is_ending.borrow() {
         sender.room().await.ok()?;
-        let next = door.turn(|core, until| copy.turn(core, until)).ok()?;
+        let (next, _) = door.turn_of(Length::Short, place.client(), |core, until| copy.turn(core, until)).await;
+        let next = next.ok()?;
         if matches!(next, Next::Take | Next::Done) {
             door.until(door.all()).await;
             let piece = copy.take();

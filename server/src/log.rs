@@ -22,8 +22,8 @@ use std::fmt::Write as _;
 use std::io::Write;
 use std::str::FromStr;
 use std::sync::{mpsc, Arc};
-use std::thread;
 use std::time::{Duration, Instant, SystemTime, UNIX_EPOCH};
+use std::{panic, process, thread};
 
 const MOST: u64 = 60; // lines of one event a minute
 const MINUTE: Duration = Duration::from_secs(60);
@@ -256,11 +256,20 @@ impl Shared {
 /// The process ends with these words. They have a second.
 pub fn last_words(words: String) {
     let (said, is_said) = mpsc::channel();
-    thread::spawn(move || {
+    // Where there is no thread nobody waits: whoever is to say them is dropped.
+    let _ = thread::Builder::new().spawn(move || {
         eprintln!("ripsawbean-server: {words}");
         let _ = said.send(());
     });
     let _ = is_said.recv_timeout(END);
+}
+
+/// Whatever panics ends the process, also where nobody reads what it says.
+pub fn end_at_a_panic() {
+    panic::set_hook(Box::new(|why| {
+        last_words(why.to_string());
+        process::abort();
+    }));
 }
 
 fn json_line(time: &str, level: Level, event: &str, fields: &[Field]) -> String {
@@ -324,6 +333,8 @@ fn date_of(days: u64) -> (u64, u64, u64) {
 #[cfg(test)]
 mod tests {
     use super::*;
+    use std::os::unix::process::ExitStatusExt;
+    use std::process::{Command, Stdio};
 
     /// What was written. Whoever holds it holds up the writing.
     #[derive(Clone, Default)]
@@ -451,6 +462,33 @@ mod tests {
         assert_eq!(lines.iter().filter(|line| *line == "error flood").count(), 180);
         assert_eq!(lines.iter().filter(|line| *line == "error flood left_out=60").count(), 2);
     }
+
+    /// What the next test runs as a process of its own.
+    #[test]
+    #[ignore = "it ends its process"]
+    fn panics_while_nobody_reads_standard_error() {
+        end_at_a_panic();
+        thread::spawn(|| loop {
+            eprintln!("{}", "x".repeat(4096));
+        });
+        thread::sleep(Duration::from_millis(500));
+        panic!("nobody reads this");
+    }
+
+    #[test]
+    fn a_panic_ends_the_process_though_nobody_reads_standard_error() {
+        let words = ["--ignored", "--nocapture", "--exact", "log::tests::panics_while_nobody_reads_standard_error"];
+        let mut child = Command::new(std::env::current_exe().expect("a program"));
+        let child = child.args(words).stdout(Stdio::null()).stderr(Stdio::piped());
+        let (mut child, end) = (child.spawn().expect("it starts"), Instant::now() + MINUTE);
+        while child.try_wait().expect("a status").is_none() && Instant::now() < end {
+            thread::sleep(Duration::from_millis(50));
+        }
+        // One that goes on is killed here.
+        child.kill().expect("it is there");
+        assert_eq!(child.wait().expect("a status").signal(), Some(6));
+    }
+
     #[test]
     fn nobody_waits_for_who_reads_it_and_what_is_lost_is_counted() {
         let (log, kept) = log(Level::Info, false);

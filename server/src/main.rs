@@ -92,6 +92,7 @@ use std::process::ExitCode;
 const WRONG: u8 = 2;
 
 fn main() -> ExitCode {
+    log::end_at_a_panic();
     let options = match options::read(std::env::args_os().skip(1)) {
         Ok(Asked::Serve(options)) => *options,
         Ok(Asked::Help(text) | Asked::Version(text)) => {

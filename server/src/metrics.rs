@@ -11,6 +11,7 @@
 
 use crate::consumers::told_of_all;
 use crate::core::Core;
+use crate::door::Length;
 use crate::histogram::Histogram;
 use crate::http::{Request, Response};
 use crate::journal::{Counts, Ticket};
@@ -45,13 +46,13 @@ impl Default for Metrics {
 pub async fn metrics(server: &Arc<Server>, request: Request) -> Result<Response, Refusal> {
     arguments(&request.path, &request.query, &[])?;
     let mut report = Report::begin(server, &request);
-    let names = told_of_all(&server.door, &mut report).await?;
+    let names = told_of_all(&server.door, &request.client, &mut report).await?;
     let mut text = Text::default();
-    let counts = server.door.run(|core| {
+    let turn = server.door.turn_of(Length::Short, &request.client, |core, _| {
         of_database(&mut text, core, server);
         core.journal.counts()
     });
-    if let Some(counts) = counts {
+    if let (Some(counts), _) = turn.await {
         of_journal(&mut text, &counts);
     }
     of_names(&mut text, &names);

@@ -13,8 +13,8 @@
 //! 1. A name that is held has exactly one protection, at `stored`, and `stored` rises while the name stands.
 //! 2. Generations rise over all names, and a deleted name's are never given again. The consumer with the name's last
 //!    one is its owner.
-//! 3. At most one stream has a name. A name is of the client that came with it first, and behind a restart of the one
-//!    that comes first.
+//! 3. At most one stream has a name. A name is of the client that came with it first, also behind a restart. Of one whose
+//!    client isn't known then it is the one that comes first.
 //! 4. A timestamp above closed or below the horizon, an older timestamp and an older generation are refused with a
 //!    reason, and change nothing.
 
@@ -56,7 +56,8 @@ struct Consumer {
 impl Consumer {
     /// What a restart leaves of it.
     fn kept(&self) -> Kept {
-        Kept { stored: self.stored, generation: self.generation, is_held: self.protection.is_some() }
+        let owner = self.place.as_ref().and_then(|place| place.client().word());
+        Kept { stored: self.stored, generation: self.generation, is_held: self.protection.is_some(), owner }
     }
 }
 
@@ -254,8 +255,9 @@ impl Core {
     /// Names as they were: those that were held are held again.
     pub fn recover_names(&mut self, generation: u64, names: BTreeMap<String, Kept>) {
         self.names.generation = generation;
-        for (name, Kept { stored, generation, is_held }) in names {
-            let (name, mut place): (Name, _) = (name.into(), self.names.places.begin(&Client::SERVER));
+        for (name, Kept { stored, generation, is_held, owner }) in names {
+            let owner = owner.and_then(|word| Client::in_word(&word)).unwrap_or(Client::SERVER);
+            let (name, mut place): (Name, _) = (name.into(), self.names.places.begin(&owner));
             place.set(1);
             let mut consumer = Consumer { stored, generation, place: Some(place.into()), ..Consumer::default() };
             match stored.filter(|_| is_held).map(|stored| self.hold(&name, &mut consumer, stored)) {
@@ -324,6 +326,7 @@ pub fn not_closed(closed: u64) -> Refusal {
 #[cfg(test)]
 mod tests {
     use super::*;
+    use crate::gate::Right;
     use crate::testing::{core, put, session, IDENTITY};
     use ripsawbean::Span;
 
@@ -471,6 +474,24 @@ mod tests {
         let text = said.text();
         let told: Vec<&str> = text.lines().filter_map(|line| Some(line.split_once(" info ")?.1)).collect();
         assert_eq!(told, ["name_changed name=a by=two of=one", "name_changed name=a by=one of=two"]);
+    }
+
+    #[test]
+    fn names_are_their_clients_behind_each_restart() {
+        let [one, other] =
+            ["one", "other"].map(|token| Client::new([192, 0, 2, 1].into(), &Who::of(token, &[Right::Write])));
+        let mut before = core(&["--max-consumers", "64"]);
+        for at in 0..48 {
+            before.store(&name(&format!("n{at}")), 0, 0, &one).expect("it is held");
+        }
+        for _ in 0..2 {
+            let names = before.names.all.iter().map(|(name, consumer)| (name.to_string(), consumer.kept())).collect();
+            before = core(&["--max-consumers", "64"]);
+            before.recover_names(0, names);
+            assert_eq!(refused(before.store(&name("more"), 0, 0, &one)), (429, "consumers"));
+            let at = before.names.all.len();
+            before.store(&name(&format!("other{at}")), 0, 0, &other).expect("the last quarter is for others");
+        }
     }
 
     #[test]

@@ -27,7 +27,7 @@ impl Notify {
         Notify::new(word("NOTIFY_SOCKET").as_deref(), word("WATCHDOG_USEC").as_deref())
     }
 
-    fn new(socket: Option<&str>, watchdog: Option<&str>) -> Notify {
+    pub fn new(socket: Option<&str>, watchdog: Option<&str>) -> Notify {
         let to = socket.and_then(address).and_then(|to| Some((UnixDatagram::unbound().ok()?, to)));
         let every = watchdog.and_then(|word| word.parse().ok()).filter(|&it| it > 0);
         Notify { to, every: every.map(|whole| Duration::from_micros(whole) / 2) }

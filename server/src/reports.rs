@@ -26,7 +26,7 @@ use crate::query::arguments;
 use crate::refusal::Refusal;
 use crate::routes::Server;
 use crate::seats::{Owner, Taken};
-use crate::shares::Held;
+use crate::shares::{Client, Held};
 use bytes::Bytes;
 use std::sync::Arc;
 use std::time::Instant;
@@ -63,10 +63,11 @@ pub async fn holders(server: &Arc<Server>, request: Request) -> Result<Response,
     arguments(&request.path, &request.query, &[])?;
     let mut report = Report::begin(server, &request);
     for each in [sessions, transactions, protections, feeds] {
-        report.add(server.door.run(|core| each(core, request.who.keys())))?;
+        let told = server.door.turn_of(Length::Short, &request.client, |core, _| each(core, request.who.keys()));
+        report.add(told.await.0)?;
         tokio::task::yield_now().await;
     }
-    lines_of_all(&server.door, &mut report).await?;
+    lines_of_all(&server.door, &request.client, &mut report).await?;
     Ok(report.told())
 }
 
@@ -132,7 +133,7 @@ pub async fn transcript(server: &Arc<Server>, request: Request) -> Result<Respon
         return Err(Refusal::new(410, "gone", why).with_number("first", first));
     }
     let (response, sender) = Response::stream("text/plain; charset=us-ascii");
-    server.spawn(tell(server.clone(), from, next, sender));
+    server.spawn(tell(server.clone(), request.client.clone(), from, next, sender));
     Ok(response
         .with("cache-control", "no-store")
         .with("ripsawbean-identity", identity)
@@ -147,12 +148,12 @@ fn check_keys(request: &Request) -> Result<(), Refusal> {
 }
 
 /// Tells the events from one position to below another, piece by piece, as their reader has room.
-async fn tell(server: Arc<Server>, from: u64, until: u64, sender: Sender) {
+async fn tell(server: Arc<Server>, client: Client, from: u64, until: u64, sender: Sender) {
     let (mut at, mut piece) = (from, Bytes::from_static(HEADER));
     while sender.send(piece).await.is_ok() && at < until && sender.room().await.is_ok() {
         // Events may be dropped while their reader takes those before them.
-        let taken = server.door.run(|core| core.transcript.piece(at, until, PIECE));
-        let Some((data, next)) = taken else { return sender.cut() };
+        let taken = server.door.turn_of(Length::Short, &client, |core, _| core.transcript.piece(at, until, PIECE));
+        let Some((data, next)) = taken.await.0 else { return sender.cut() };
         (piece, at) = (data.into(), next);
     }
 }
@@ -286,7 +287,6 @@ fn seat_of(owner: Owner) -> Option<u64> {
 mod tests {
     use super::*;
     use crate::gate::{Right, Who};
-    use crate::shares::Client;
     use crate::testing::{core, put, say, session, tidy, IDENTITY};
     use serde_json::Value;
 

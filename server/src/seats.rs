@@ -7,7 +7,7 @@
 //! 2. A `Taken` has what stands in the database under the seat by its session's own lines. All of it ends with the
 //!    session (`Core::end`), and only then is the seat given back.
 
-use crate::gate::Who;
+use crate::gate::{Right, Who};
 use crate::refusal::Refusal;
 use crate::shares::{Client, Held, Table};
 use std::collections::{BTreeSet, VecDeque};
@@ -91,6 +91,7 @@ pub struct Taken {
     pub idle: Option<Duration>,
     /// The address of its client.
     pub peer: SocketAddr,
+    pub may_write: bool,
     _place: Held,
     pub begun: BTreeSet<u64>,
     pub feeds: BTreeSet<u64>,
@@ -132,6 +133,7 @@ impl Seats {
             heard: now,
             idle: None,
             peer,
+            may_write: who.may(Right::Write),
             _place: place,
             begun: BTreeSet::new(),
             feeds: BTreeSet::new(),
@@ -192,7 +194,6 @@ impl Seats {
 #[cfg(test)]
 mod tests {
     use super::*;
-    use crate::gate::Right;
 
     fn taken(seats: &mut Seats, last: u8) -> Option<Session> {
         seats.take(([192, 0, 2, last], 1).into(), Who::anyone()).ok()

@@ -279,12 +279,15 @@ async fn work_until_told_to_end(server: &Server, mut signals: Signals, notify: &
                 read_tokens_anew(server);
                 read_certificate_anew(server, acceptor);
             }
-            _ = beats.tick() => {
-                server.door.run(|_| {});
-                notify.lives();
-            }
+            _ = beats.tick() => beat(server, notify),
         }
     }
+}
+
+/// Who gets no lock tells nobody that the server lives.
+fn beat(server: &Server, notify: &Notify) {
+    server.door.run(|_| {});
+    notify.lives();
 }
 
 fn read_tokens_anew(server: &Server) {
@@ -401,10 +404,40 @@ fn stop_feeds(core: &mut Core, until: Instant) -> Turn {
 mod tests {
     use super::*;
     use crate::door::Length;
-    use crate::shares::LOOPBACK;
     use crate::testing;
+    use crate::testing::LOOPBACK;
+    use std::os::unix::net::UnixDatagram;
     use std::sync::mpsc;
     use std::thread;
+
+    #[test]
+    fn systemd_is_told_by_who_gets_the_lock() {
+        let server = testing::server(&[]);
+        let path = std::env::temp_dir().join(format!("ripsawbean-beat-{}", std::process::id()));
+        let _ = std::fs::remove_file(&path);
+        let (socket, notify) = (UnixDatagram::bind(&path).expect("a socket"), Notify::new(path.to_str(), None));
+        let heard = |time| {
+            let mut room = [0; 100];
+            socket.set_read_timeout(Some(Duration::from_millis(time))).expect("a time");
+            socket.recv(&mut room).ok().map(|length| room[..length].to_vec())
+        };
+        let ((held, is_held), (free, is_free)) = (mpsc::channel(), mpsc::channel::<()>());
+        thread::scope(|scope| {
+            let door = &server.door;
+            scope.spawn(move || {
+                door.run(|_| {
+                    held.send(()).expect("it is waited for");
+                    is_free.recv().expect("it is told");
+                });
+            });
+            is_held.recv().expect("it begins");
+            scope.spawn(|| beat(&server, &notify));
+            assert_eq!(heard(300), None);
+            free.send(()).expect("it is waited for");
+            assert_eq!(heard(60_000).as_deref(), Some(&b"WATCHDOG=1"[..]));
+        });
+        std::fs::remove_file(path).expect("it is there");
+    }
 
     #[test]
     fn work_in_the_lane_does_not_panic_where_the_server_has_ended() {

@@ -11,7 +11,8 @@
 //! 5. A line whose call is long waits for the lane, and with it the lines behind it.
 
 use crate::connections::Connection;
-use crate::door::{Length, Turn};
+use crate::core::Core;
+use crate::door::{Length, Permit, Turn};
 use crate::gate::Who;
 use crate::http::{Request, Response};
 use crate::journal::Ticket;
@@ -62,10 +63,11 @@ impl Drop for Seated {
     fn drop(&mut self) {
         let seat = self.session.seat;
         if self.server.door.turn(|core, until| core.end(seat, until, Length::Short)) != Turn::Done {
-            let (server, client) = (self.server.clone(), self.session.client.clone());
-            let end =
-                async move { server.door.turns(&client, |core, until, length| core.end(seat, until, length)).await };
-            tokio::spawn(end);
+            let (server, permit) = (self.server.clone(), Permit::of(&self.session.client));
+            tokio::spawn(async move {
+                let end = |core: &mut Core, until| (core.end(seat, until, Length::Long) == Turn::Done).then_some(());
+                server.door.turns_in_lane(permit, end).await;
+            });
         }
     }
 }
@@ -251,7 +253,7 @@ mod tests {
         let mut places: Vec<_> = std::iter::from_fn(|| place("reader").ok()).collect();
         assert_eq!((places.len(), place("reader").err().map(|refusal| refusal.error)), (48, Some("answers")));
         places.extend((0..15).map(|_| place("other").expect("the last quarter is for others")));
-        assert!(place("other").is_err() && place_of_answer(&server, &crate::shares::LOOPBACK).is_ok());
+        assert!(place("other").is_err() && place_of_answer(&server, &crate::testing::LOOPBACK).is_ok());
     }
 
     /// What a call of lines is refused with, and bytes of their answers.

@@ -76,12 +76,26 @@ impl Client {
         // Who has no right at all is told that the server lives, as an operator is.
         Client { whose, may_operate: who.may(Right::Operate) || !who.may(Right::Any) }
     }
-}
 
-/// A client of loopback that may do everything.
-#[cfg(test)]
-pub static LOOPBACK: std::sync::LazyLock<Client> =
-    std::sync::LazyLock::new(|| Client::new([127, 0, 0, 1].into(), &Who::anyone()));
+    /// What names it behind a restart, where anything does.
+    pub fn word(&self) -> Option<String> {
+        match &self.whose {
+            Whose::Server => None,
+            Whose::Token(name) => Some(format!("token/{name}")),
+            Whose::Network(address) => Some(format!("network/{address}")),
+        }
+    }
+
+    /// Whom a word names. What it may do is known once it comes.
+    pub fn in_word(word: &str) -> Option<Client> {
+        let whose = match word.split_once('/')? {
+            ("token", name) => Whose::Token(name.into()),
+            ("network", address) => Whose::Network(address.parse().ok()?),
+            _ => return None,
+        };
+        Some(Client { whose, may_operate: false })
+    }
+}
 
 /// Whose share leaves no room.
 #[derive(Clone, Copy, Debug, PartialEq, Eq)]
@@ -132,7 +146,7 @@ pub struct Table {
 #[derive(Debug, Default)]
 struct Counted {
     all: usize,
-    of: HashMap<Client, usize>,
+    of: HashMap<Whose, usize>,
 }
 
 /// What is taken of a table, as long as it is there.
@@ -159,12 +173,6 @@ impl Table {
         self.counted.lock().all
     }
 
-    #[cfg(test)]
-    pub fn is_empty(&self) -> bool {
-        let counted = self.counted.lock();
-        counted.all == 0 && counted.of.is_empty()
-    }
-
     /// Something of a client, which counts nothing yet.
     pub fn begin(self: &Arc<Table>, client: &Client) -> Held {
         Held { table: self.clone(), client: client.clone(), count: 0 }
@@ -182,8 +190,7 @@ impl Table {
     }
 
     fn full(&self, counted: &Counted, client: &Client, more: usize) -> Option<Full> {
-        let of = |client| counted.of.get(client).copied().unwrap_or(0);
-        let (own, nobodys) = (of(client), of(&Client::SERVER));
+        let (own, nobodys) = (counted.of(client), counted.of(&Client::SERVER));
         full(self.most, client, own.saturating_add(more), counted.all.saturating_add(more), nobodys)
     }
 
@@ -193,17 +200,21 @@ impl Table {
 }
 
 impl Counted {
+    fn of(&self, client: &Client) -> usize {
+        self.of.get(&client.whose).copied().unwrap_or(0)
+    }
+
     fn add(&mut self, client: &Client, more: usize) {
         self.all += more;
-        *self.of.entry(client.clone()).or_default() += more;
+        *self.of.entry(client.whose.clone()).or_default() += more;
     }
 
     fn take(&mut self, client: &Client, less: usize) {
         self.all -= less;
-        if let Some(own) = self.of.get_mut(client) {
+        if let Some(own) = self.of.get_mut(&client.whose) {
             *own -= less;
             if *own == 0 {
-                self.of.remove(client);
+                self.of.remove(&client.whose);
             }
         }
     }
@@ -400,5 +411,12 @@ mod tests {
         waited.await.expect("who waits is woken");
         drop((one, other, waits));
         assert!(answers.is_empty());
+    }
+
+    impl Table {
+        pub fn is_empty(&self) -> bool {
+            let counted = self.counted.lock();
+            counted.all == 0 && counted.of.is_empty()
+        }
     }
 }

@@ -12,6 +12,7 @@
 //! 2. `open` counts the streams from their feed's opening to their end.
 
 use crate::core::Core;
+use crate::door::Length;
 use crate::form::Form;
 use crate::gate::Right;
 use crate::http::{Request, Response};
@@ -115,11 +116,11 @@ pub async fn feed(server: &Arc<Server>, request: Request) -> Result<Response, Re
     if name.is_some() && !request.who.may(Right::Consume) {
         return Err(Refusal::no_right(Right::Consume));
     }
-    let opened = server.door.run(|core| {
+    let turn = server.door.turn_of(Length::Short, &request.client, |core, _| {
         let opened = open(server, core, &request.client, &given, name.as_ref());
         opened.inspect(|_| name.iter().for_each(|name| core.give_name(name, &request.who)))
     });
-    let (place, opened, snapshot) = opened?;
+    let (place, opened, snapshot) = turn.await.0?;
     let form = Form::asked(&request.list("accept"), &opened.identity);
     let (response, sender) = Response::stream(form.content_type());
     let opening = form.opening(&opened.text());
@@ -240,7 +241,7 @@ mod tests {
     async fn a_connection_whose_reader_takes_no_end_is_cut() {
         let server = crate::testing::server(&[]);
         let connection = server.connections.come(([127, 0, 0, 1], 1).into()).expect("a place");
-        let place = Place::take(&server, &crate::shares::LOOPBACK).expect("a place");
+        let place = Place::take(&server, &crate::testing::LOOPBACK).expect("a place");
         let feed = server.door.run(|core| open_feed(core, &Arguments::default(), false)).expect("a feed");
         let (_response, sender) = Response::stream("application/x-ndjson");
         let stream = Stream::new(place, feed, Form::JsonLines, sender, connection.clone());

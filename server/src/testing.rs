@@ -1,6 +1,8 @@
 //! What tests share: a core without sockets, and numbers that are drawn.
 
-use crate::api::remembered::Remembered;
+use crate::api::plan::Plan;
+use crate::api::remembered::{Keep, Remembered};
+use crate::api::run::{End, Pace, Running, Stop};
 use crate::closing;
 use crate::connections::Connections;
 use crate::core::Core;
@@ -17,7 +19,7 @@ use crate::reports;
 use crate::routes::{self, Server};
 use crate::seats::{Session, SEATS};
 use crate::session;
-use crate::shares::Table;
+use crate::shares::{Client, Table};
 use crate::streams::Streams;
 use crate::tasks::Tasks;
 use std::collections::VecDeque;
@@ -26,12 +28,25 @@ use std::io::Write;
 use std::path::PathBuf;
 use std::pin::Pin;
 use std::sync::atomic::{AtomicU64, Ordering};
-use std::sync::{Arc, Mutex};
+use std::sync::{Arc, LazyLock, Mutex};
 use std::time::{Duration, Instant};
 use tokio::sync::watch;
 
+/// Runs a plan, and lets nobody in between two turns.
+pub fn run<'p>(core: &mut Core, plan: &'p Plan<'_>, pace: Pace, keep: Option<&Keep<'_>>) -> Result<End<'p>, Stop> {
+    let mut running = Running::begin(core, plan, pace)?;
+    loop {
+        if let Some(end) = running.turn(core, keep)? {
+            return Ok(end);
+        }
+    }
+}
+
 /// The identity of a test's database.
 pub const IDENTITY: &str = "0123456789abcdef";
+
+/// A client of loopback that may do everything.
+pub static LOOPBACK: LazyLock<Client> = LazyLock::new(|| Client::new([127, 0, 0, 1].into(), &Who::anyone()));
 
 pub fn options(words: &[&str]) -> Options {
     match options::read(words.iter().map(|word| (*word).into())).expect("options") {

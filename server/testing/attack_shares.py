@@ -12,6 +12,7 @@ from collections.abc import Callable, Iterator
 
 from attack_beside import Scale
 from attack_tokens import CONSUME, OPERATE, PART, READ, WRITE, shown, with_tokens
+from beside import others_wait_little
 from handmade import Refused, Session, Wire, bearer
 from machine import Room, Server, wait_for
 
@@ -185,6 +186,59 @@ def test_long_reads(room: Room, scale: Scale) -> str:
             over.set()
             for one in threads:
                 one.join()
+
+
+def beside_reader(room: Room, kind: str, count: int) -> str:
+    with with_tokens(room) as (server, _):
+        fill(server, 1000, KILOBYTE)
+        return others_wait_little(room, server, kind, str(count), READ, ask="put", token=WRITE)
+
+
+def test_many_short_transactions(room: Room, scale: Scale) -> str:
+    """Each has the lock for 2 milliseconds. Others wait for a few of them, and not for all that are ready."""
+    return beside_reader(room, "short_plans", 380)
+
+
+def test_many_short_pages(room: Room, scale: Scale) -> str:
+    return beside_reader(room, "short_pages", 47)
+
+
+def test_transactions_that_only_read(room: Room, scale: Scale) -> str:
+    """Two sessions, of which one has always begun: others' rows are told all the same."""
+    with with_tokens(room, "--max-age", "60") as (server, _):
+        over = threading.Event()
+
+        def begins_in_turn() -> None:
+            with contextlib.closing(Session(server.port, READ)) as one, contextlib.closing(Session(server.port, READ)) as other:
+                while not over.is_set():
+                    one.call("begin\n")
+                    other.call("abort .\n")
+                    over.wait(2 * SOON)
+                    one, other = other, one
+
+        holds = threading.Thread(target=begins_in_turn)
+        holds.start()
+        try:
+            time.sleep(1)
+            waited = max(told_of_feed(server, WRITE) for _ in range(3))
+            assert waited < SOON, "a feed was told behind %.1f s" % waited
+            return "a feed %.0f ms" % (1000 * waited)
+        finally:
+            over.set()
+            holds.join()
+
+
+def test_names_behind_restarts(room: Room, scale: Scale) -> str:
+    """A client has its share of names behind each restart."""
+    with with_tokens(room, "--max-consumers", "8", "--data", room.file("data")) as (server, path):
+        for life in range(3):
+            said = "?identity=%s&generation=0&stored=0" % server.identity
+            statuses = [server.ask("POST", "/consumer/c%d%s" % (number, said), None, shown(WRITE))[0] for number in range(8)]
+            assert statuses == [200] * 6 + [429] * 2, (life, statuses)
+            server.kill()
+            server.start()
+        assert server.ask("POST", "/consumer/mine" + said, None, shown(OPERATE))[0] == 200
+        return "6 names of 8, behind 3 restarts"
 
 
 TESTS: list[Callable[[Room, Scale], str]] = [one for name, one in list(globals().items()) if name.startswith("test_")]

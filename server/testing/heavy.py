@@ -20,6 +20,7 @@ from handmade import HANDSHAKE, Cut, Session, Wire, bearer, fill, framed
 
 TOKEN = ""
 PAUSE = 0.05  # seconds before a client that was thrown out comes again
+CROWDED = 503
 MOST_ROWS = 32768  # of a scan that the library lets through
 HOLDERS: list[Session] = []  # of snapshots, as long as threads ask
 
@@ -289,7 +290,7 @@ def all_ask(port: int, count: int, status: int, method: str, path: str, body: st
         while True:
             wire.ask(method, path, bearer(TOKEN), body.encode())
             told, answer = wire.answer()
-            if told != status:
+            if told not in (status, CROWDED):
                 raise ValueError("%d %r" % (told, answer[:200]))
             say("done")
             if anew:
@@ -341,6 +342,17 @@ def long_plans(port: int, count: int = 8) -> None:
     fill(session(port), "asked/", 10_000)
     conditions = [{"key": "asked/%07d" % at, "absent": True} for at in range(10_000)]
     all_ask(port, count, 409, "POST", "/transact", json.dumps({"if": conditions, "then": []}))
+
+
+def short_plans(port: int, count: int = 380) -> None:
+    """So many clients with transactions of 700 reads, each of which has the lock for a short turn."""
+    gets = [{"get": "k%06d" % at} for at in range(700)]
+    all_ask(port, count, 200, "POST", "/transact", json.dumps({"then": gets}))
+
+
+def short_pages(port: int, count: int = 47) -> None:
+    """So many that read pages of a thousand rows."""
+    all_ask(port, count, 200, "GET", "/rows?lo=k&limit=1000")
 
 
 def scan_calls(port: int, count: int = 8, anew: bool = False) -> None:

@@ -43,12 +43,6 @@ impl Wanted {
         Ok(Wanted { by: request.client.clone(), time: seconds_in(given, "hold", LONGEST)? })
     }
 
-    /// What a request of a client of loopback asks that says nothing.
-    #[cfg(test)]
-    pub fn unsaid() -> Wanted {
-        Wanted { by: crate::shares::LOOPBACK.clone(), time: None }
-    }
-
     pub fn by(&self) -> &Client {
         &self.by
     }
@@ -119,12 +113,6 @@ impl Core {
         let protection = self.protection_of(timestamp)?;
         self.holds.add(client, timestamp, protection, now + time);
         Ok(())
-    }
-
-    /// Holds it for one client of loopback.
-    #[cfg(test)]
-    pub fn hold_snapshot(&mut self, timestamp: u64, time: Duration) -> Result<(), Refusal> {
-        self.hold_by(&crate::shares::LOOPBACK, timestamp, Instant::now(), time)
     }
 
     /// The protection of a snapshot, which is made where none stands.
@@ -294,5 +282,19 @@ mod tests {
         };
         assert_eq!([held_by(Some(Duration::ZERO), Some(MINUTE)), held_by(None, None)], [0, 0]);
         assert_eq!([held_by(Some(MINUTE), None), held_by(None, Some(MINUTE))], [1, 1]);
+    }
+
+    impl Wanted {
+        /// What a request of a client of loopback asks that says nothing.
+        pub fn unsaid() -> Wanted {
+            Wanted { by: crate::testing::LOOPBACK.clone(), time: None }
+        }
+    }
+
+    impl Core {
+        /// Holds it for one client of loopback.
+        pub fn hold_snapshot(&mut self, timestamp: u64, time: Duration) -> Result<(), Refusal> {
+            self.hold_by(&crate::testing::LOOPBACK, timestamp, Instant::now(), time)
+        }
     }
 }

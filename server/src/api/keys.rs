@@ -22,7 +22,7 @@ use super::run::{Committed, End, Failed, Row, Stop, Told};
 use super::transact::{answer_once, run_until, tell_members};
 use super::{body_of, spelling_in, wait_in};
 use crate::core::Core;
-use crate::door::Length;
+use crate::door::{Length, Permit};
 use crate::http::{Request, Response};
 use crate::journal::{Form, Ticket};
 use crate::outcome::Outcome;
@@ -142,7 +142,8 @@ fn read_at(core: &mut Core, key: &[u8], at: u64) -> Result<Read, Refusal> {
 
 async fn read_by_transaction(server: &Server, client: &Client, key: &[u8], until: Instant) -> Result<Read, Refusal> {
     let plan = Plan { then: vec![Step::Get { key: Cow::Borrowed(key) }], ..Plan::default() };
-    let End::Committed(mut committed) = run_until(server, client, &plan, until, None, None).await? else {
+    let End::Committed(mut committed) = run_until(server, &mut Permit::of(client), &plan, until, None, None).await?
+    else {
         return Err(Stop::Unexpected.refusal());
     };
     let Committed { timestamp, rests, .. } = committed;
@@ -168,7 +169,8 @@ async fn write(server: &Arc<Server>, mut request: Request, kind: Kind) -> Result
     let start = Instant::now();
     let given = arguments(&request.path, &request.query, &["wait"])?;
     let (wait, key, mut conditions) = (wait_in(&given)?, key_in(&request)?, conditions_in(&request)?);
-    let (asked, is_matched) = (server.remembered.asked(&request, &value)?, request.header("if-match").is_some());
+    let mut asked = server.remembered.asked(&request, &value, Permit::of(&request.client))?;
+    let is_matched = request.header("if-match").is_some();
     let borrowed = || Cow::Borrowed(key.as_slice());
     let step = match kind {
         Kind::Put => Step::Put { key: borrowed(), value: Cow::Borrowed(&value) },
@@ -188,7 +190,7 @@ async fn write(server: &Arc<Server>, mut request: Request, kind: Kind) -> Result
         Kind::Delete if !is_matched => no_value(failed.timestamp),
         _ => other_version(failed),
     };
-    let answered = answer_once(server, &asked, &plan, start + wait, &form_of, refused, None).await;
+    let answered = answer_once(server, &mut asked, &plan, start + wait, &form_of, refused, None).await;
     server.metrics.transactions.note(start.elapsed());
     Ok(answered?.into_response(None))
 }

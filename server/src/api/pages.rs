@@ -42,13 +42,7 @@ pub enum Unread {
 }
 
 impl Core {
-    /// The first rows of a span at a closed timestamp, `most` at most.
-    #[cfg(test)]
-    pub fn page(&mut self, span: Span<'_>, at: u64, most: usize) -> Result<Page, Unread> {
-        self.page_until(span, at, Room { rows: most as u64, bytes: MOST_BYTES }, Instant::now() + crate::door::TURN)
-    }
-
-    /// The same of those that find room, as far as it comes until then.
+    /// The first rows of a span at a closed timestamp, as far as they find room, and as it comes until then.
     pub fn page_until(&mut self, span: Span<'_>, at: u64, mut room: Room, until: Instant) -> Result<Page, Unread> {
         let mut page = Page::default();
         if at == 0 || span.hi.is_some_and(|hi| span.lo >= hi) {
@@ -273,5 +267,12 @@ mod tests {
         tidy(&mut core);
         assert_eq!(core.page(Span::ALL, 1, 9), Err(Unread::BelowHorizon(2)));
         assert_eq!(keys(&core.page(Span::ALL, 2, 9).expect("a page")), ["a"]);
+    }
+
+    impl Core {
+        /// The first rows of a span at a closed timestamp, `most` at most.
+        pub fn page(&mut self, span: Span<'_>, at: u64, most: usize) -> Result<Page, Unread> {
+            self.page_until(span, at, Room { rows: most as u64, bytes: MOST_BYTES }, Instant::now() + crate::door::TURN)
+        }
     }
 }

@@ -2,12 +2,12 @@
 //! this by itself. What comes to nothing has changed nothing and leaves nothing, and what is told is right.
 
 use super::plan::Plan;
-use super::run::{run, End, Pace, Stop};
+use super::run::{End, Pace, Stop};
 use crate::before::with_before;
 use crate::core::Core;
 use crate::outcome::Outcome;
 use crate::seats::Owner;
-use crate::testing::{core, say, session, tidy};
+use crate::testing::{core, run, say, session, tidy};
 use ripsawbean::refusing::{refuse_after, refuse_none};
 use ripsawbean::{Command, Refusal, Room, Span};
 use std::time::{Duration, Instant};

@@ -20,6 +20,7 @@
 use super::run::{Committed, Stop};
 use super::transact::head_of;
 use super::Answer;
+use crate::door::Permit;
 use crate::http::Request;
 use crate::journal::{Answered, Form};
 use crate::refusal::Refusal;
@@ -67,7 +68,7 @@ struct Table {
 
 /// Who asks, and what, where it has a key.
 pub struct Asked {
-    pub client: Client,
+    pub permit: Permit,
     key: Option<Key>,
 }
 
@@ -81,7 +82,7 @@ impl Asked {
     /// By the token's name, its key, and the parts of its request.
     pub fn new(client: &Client, who: &str, key: &str, request: &[&[u8]]) -> Asked {
         let key = Key { named: digest(&[who.as_bytes(), key.as_bytes()]), asked: digest(request) };
-        Asked { client: client.clone(), key: Some(key) }
+        Asked { permit: Permit::of(client), key: Some(key) }
     }
 }
 
@@ -122,11 +123,10 @@ impl Remembered {
         self.before.saturating_add(passed)
     }
 
-    /// What a request asks.
-    pub fn asked(&self, request: &Request, body: &[u8]) -> Result<Asked, Refusal> {
-        let client = &request.client;
+    /// What a request asks, with its client's permit.
+    pub fn asked(&self, request: &Request, body: &[u8], permit: Permit) -> Result<Asked, Refusal> {
         let Some(header) = request.header("idempotency-key") else {
-            return Ok(Asked { client: client.clone(), key: None });
+            return Ok(Asked { permit, key: None });
         };
         let key = key_in(header).ok_or_else(|| {
             let why = "an Idempotency-Key has 1 to 64 printable characters without a space, quote or backslash";
@@ -134,17 +134,18 @@ impl Remembered {
         })?;
         let [matched, others] = ["if-match", "if-none-match"].map(|name| request.list(name));
         let head = [request.method.name(), &request.path, &request.query, &matched, &others].map(str::as_bytes);
-        Ok(Asked::new(client, request.who.name(), &key, &[&head[..], &[body]].concat()))
+        Ok(Asked { permit, ..Asked::new(&request.client, request.who.name(), &key, &[&head[..], &[body]].concat()) })
     }
 
     /// The answer that was given before, or the word to run. A request that runs is waited for until then.
-    pub async fn begin(&self, asked: &Asked, until: Instant) -> Result<Begun<'_>, Refusal> {
+    pub async fn begin(&self, asked: &mut Asked, until: Instant) -> Result<Begun<'_>, Refusal> {
         if let Some(key) = asked.key {
             loop {
-                match self.find(key, &asked.client)? {
+                match self.find(key, &asked.permit.client)? {
                     Found::Answer(answer) => return Ok(Begun::Told(answer)),
                     Found::Nothing => break,
                     Found::Running(mut end) => {
+                        asked.permit.leave();
                         if tokio::time::timeout_at(until.into(), end.changed()).await.is_err() {
                             let why = "a request with this Idempotency-Key isn't answered yet";
                             return Err(Refusal::busy("running", why));
@@ -153,7 +154,7 @@ impl Remembered {
                 }
             }
         }
-        Ok(Begun::Runs(Running { remembered: self, key: asked.key, client: asked.client.clone() }))
+        Ok(Begun::Runs(Running { remembered: self, key: asked.key, client: asked.permit.client.clone() }))
     }
 
     /// Looks for an answer. Where there is nothing, it is noted that the request runs.

@@ -18,7 +18,7 @@ use super::run::{Row, Stop};
 use super::transact::tell_rows;
 use super::{bytes::MOST_BOUND, spelling_in, wait_in};
 use crate::core::Core;
-use crate::door::{Length, TURN};
+use crate::door::{Length, Permit, TURN};
 use crate::http::{Request, Response};
 use crate::journal::Ticket;
 use crate::outcome::Outcome;
@@ -99,14 +99,15 @@ async fn in_turns(
         Read::All(next) => next,
         Read::Part(lo) => {
             span.lo = Cow::Owned(lo);
-            let others = server.door.turns_in_lane(hold.by(), |core, _| match part(core, &span, timestamp) {
-                Ok(Read::Part(lo)) => {
-                    span.lo = Cow::Owned(lo);
-                    None
-                }
-                Ok(Read::All(next)) => Some(Ok(next)),
-                Err(refusal) => Some(Err(refusal)),
-            });
+            let others =
+                server.door.turns_in_lane(Permit::of(hold.by()), |core, _| match part(core, &span, timestamp) {
+                    Ok(Read::Part(lo)) => {
+                        span.lo = Cow::Owned(lo);
+                        None
+                    }
+                    Ok(Read::All(next)) => Some(Ok(next)),
+                    Err(refusal) => Some(Err(refusal)),
+                });
             others.await?
         }
     };
@@ -283,7 +284,7 @@ mod tests {
             let short: String = (0..3000).map(|at| format!("put . l{at:05} v\n")).collect();
             say(core, &mut one, &format!("begin\n{short}commit .\n"));
         });
-        let (at, unread) = (server.door.run(|core| core.ledger.closed), server.unread.begin(&crate::shares::LOOPBACK));
+        let (at, unread) = (server.door.run(|core| core.ledger.closed), server.unread.begin(&crate::testing::LOOPBACK));
         let mut ends = [0; 3];
         for _ in 0..100 {
             let lo = format!("{}{:05}", dice.of(&["k", "l"]), dice.below(9000)).into_bytes();
@@ -306,7 +307,7 @@ mod tests {
         let server = server(&["--history", "0"]);
         let puts: String = (0..3000).map(|at| format!("put . k{at:05} v\n")).collect();
         let (dels, unread) =
-            (puts.replace("put", "del").replace(" v\n", "\n"), server.unread.begin(&crate::shares::LOOPBACK));
+            (puts.replace("put", "del").replace(" v\n", "\n"), server.unread.begin(&crate::testing::LOOPBACK));
         let change = |lines: &str| {
             server.door.run(|core| {
                 let mut one = session(core);
@@ -403,7 +404,7 @@ mod tests {
         assert!(told.length() > 100_000 && !server.unread.is_empty());
         drop(told);
         assert!(server.unread.is_empty());
-        let mut unread = server.unread.begin(&crate::shares::LOOPBACK);
+        let mut unread = server.unread.begin(&crate::testing::LOOPBACK);
         unread.set(2 * crate::session::UNREAD);
         assert_eq!(status(page().await), (503, "answers"));
         drop(unread);

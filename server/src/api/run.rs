@@ -114,17 +114,6 @@ pub struct Row<'p> {
     pub version: Option<u64>,
 }
 
-/// Runs a plan, and lets nobody in between two turns.
-#[cfg(test)]
-pub fn run<'p>(core: &mut Core, plan: &'p Plan<'_>, pace: Pace, keep: Option<&Keep<'_>>) -> Result<End<'p>, Stop> {
-    let mut running = Running::begin(core, plan, pace)?;
-    loop {
-        if let Some(end) = running.turn(core, keep)? {
-            return Ok(end);
-        }
-    }
-}
-
 /// What can be refused before anything is begun.
 fn check(core: &Core, plan: &Plan<'_>) -> Result<(), Stop> {
     if core.limits.is_draining {

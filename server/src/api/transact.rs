@@ -20,14 +20,14 @@ use super::remembered::{Asked, Begun, Keep};
 use super::run::{Branch, Committed, End, Failed, Pace, Row, Running, Stop, Told};
 use super::{body_of, spelling_in, wait_in, Answer};
 use crate::core::Core;
-use crate::door::Length;
+use crate::door::{Length, Permit};
 use crate::http::{Request, Response};
 use crate::journal::Form;
 use crate::query::arguments;
 use crate::refusal::Refusal;
 use crate::routes::Server;
 use crate::session::place_of_answer;
-use crate::shares::{Client, Held};
+use crate::shares::Held;
 use serde_json::{json, Value};
 use sha2::{Digest, Sha256};
 use std::io::Write;
@@ -39,14 +39,15 @@ pub async fn transact(server: &Arc<Server>, mut request: Request) -> Result<Resp
     let start = Instant::now();
     let given = arguments(&request.path, &request.query, &["wait", "bytes"])?;
     let (wait, spelling) = (wait_in(&given)?, spelling_in(&given)?);
-    let asked = server.remembered.asked(&request, &body)?;
+    let permit = server.door.permit(&request.client, body.len()).await;
+    let mut asked = server.remembered.asked(&request, &body, permit)?;
     let plan = Plan::of(&body)?;
     plan.check(&request.who)?;
     let place = plan.answers_at_length().then(|| place_of_answer(server, &request.client)).transpose()?;
     let form_of = |committed: &Committed<'_>| Form::Text(text_of(committed, spelling).into());
     let refused = |failed: Failed<'_>| refusal_of(&failed, spelling);
     let unread = place.as_ref().map(|place| &place.unread);
-    let answered = answer_once(server, &asked, &plan, start + wait, &form_of, refused, unread).await;
+    let answered = answer_once(server, &mut asked, &plan, start + wait, &form_of, refused, unread).await;
     server.metrics.transactions.note(start.elapsed());
     Ok(answered?.into_response(place))
 }
@@ -54,7 +55,7 @@ pub async fn transact(server: &Arc<Server>, mut request: Request) -> Result<Resp
 /// Runs a plan, or gives the answer that its key had before.
 pub async fn answer_once(
     server: &Server,
-    asked: &Asked,
+    asked: &mut Asked,
     plan: &Plan<'_>,
     until: Instant,
     form_of: &(dyn Fn(&Committed<'_>) -> Form + Sync),
@@ -65,7 +66,7 @@ pub async fn answer_once(
         Begun::Told(answer) => return Ok(answer),
         Begun::Runs(running) => running,
     };
-    match run_until(server, &asked.client, plan, until, Some(&Keep { running: &running, form_of }), unread).await? {
+    match run_until(server, &mut asked.permit, plan, until, Some(&Keep { running: &running, form_of }), unread).await? {
         End::Committed(mut committed) => {
             let form = committed.form.take().unwrap_or_else(|| form_of(&committed));
             Ok(Answer::new(committed.timestamp, form, committed.rests))
@@ -80,7 +81,7 @@ pub async fn answer_once(
 /// Runs a plan, anew as long as it is blocked, until then. Where its answer may be long it says what counts it.
 pub async fn run_until<'p>(
     server: &Server,
-    client: &Client,
+    permit: &mut Permit,
     plan: &'p Plan<'_>,
     until: Instant,
     keep: Option<&Keep<'_>>,
@@ -91,7 +92,7 @@ pub async fn run_until<'p>(
         Length::Long => Pace::Turns,
     };
     loop {
-        match run_once(server, client, plan, pace, keep, unread).await {
+        match run_once(server, permit, plan, pace, keep, unread).await {
             Ok(end) => return Ok(end),
             Err(Stop::Long) => pace = Pace::Turns,
             Err(Stop::Overtaken) => pace = Pace::Whole,
@@ -109,7 +110,7 @@ pub async fn run_until<'p>(
 /// Runs a plan once, in the lane where it isn't short.
 async fn run_once<'p>(
     server: &Server,
-    client: &Client,
+    permit: &mut Permit,
     plan: &'p Plan<'_>,
     pace: Pace,
     keep: Option<&Keep<'_>>,
@@ -118,8 +119,11 @@ async fn run_once<'p>(
     let mut turns = Turns { server, running: None };
     let turn = |core: &mut Core, _| turns.turn(core, plan, pace, keep, unread).transpose();
     match pace {
-        Pace::Short => server.door.turn(turn).unwrap_or(Err(Stop::Long)),
-        Pace::Turns | Pace::Whole => server.door.turns_in_lane(client, turn).await,
+        Pace::Short => server.door.turn_by(permit, turn).await.0.unwrap_or(Err(Stop::Long)),
+        Pace::Turns | Pace::Whole => {
+            let later = Permit::of(&permit.client);
+            server.door.turns_in_lane(std::mem::replace(permit, later), turn).await
+        }
     }
 }
 
@@ -274,18 +278,21 @@ mod tests {
     #[tokio::test]
     async fn who_goes_away_between_two_turns_leaves_nothing() {
         let (server, plan) = (with_rows(), Plan::of(LONG.as_bytes()).expect("a plan"));
-        let mut run = Box::pin(run_until(&server, &crate::shares::LOOPBACK, &plan, Instant::now(), None, None));
+        let mut permit = Permit::of(&crate::testing::LOOPBACK);
+        let mut run = Box::pin(run_until(&server, &mut permit, &plan, Instant::now(), None, None));
         assert!(waits(run.as_mut()).await && undecided(&server) == 1);
         drop(run);
         assert_eq!((undecided(&server), server.door.run(|core| core.shouts)), (0, 0));
         // The lane is free.
-        assert!(run_until(&server, &crate::shares::LOOPBACK, &plan, Instant::now(), None, None).await.is_ok());
+        let mut permit = Permit::of(&crate::testing::LOOPBACK);
+        assert!(run_until(&server, &mut permit, &plan, Instant::now(), None, None).await.is_ok());
     }
 
     #[tokio::test]
     async fn a_plan_that_was_overtaken_commits_all_the_same() {
         let (server, plan) = (with_rows(), Plan::of(LONG.as_bytes()).expect("a plan"));
-        let mut run = Box::pin(run_until(&server, &crate::shares::LOOPBACK, &plan, Instant::now(), None, None));
+        let mut permit = Permit::of(&crate::testing::LOOPBACK);
+        let mut run = Box::pin(run_until(&server, &mut permit, &plan, Instant::now(), None, None));
         assert!(waits(run.as_mut()).await);
         let later = server.door.run(|core| {
             let mut one = session(core);
@@ -304,13 +311,13 @@ mod tests {
             r#"{"then":[{"put":"b","value":"1"}]}"#,
         ];
         let ask = |body: &'static str| {
-            let (server, asked) = (&server, Asked::new(&crate::shares::LOOPBACK, "", body, &[body.as_bytes()]));
+            let (server, mut asked) = (&server, Asked::new(&crate::testing::LOOPBACK, "", body, &[body.as_bytes()]));
             async move {
                 let plan = Plan::of(body.as_bytes()).expect("a plan");
                 let form_of = |_: &Committed<'_>| Form::Put;
                 let refused = |failed: Failed<'_>| refusal_of(&failed, Spelling::Text);
                 // It is no longer waited for others' transactions.
-                answer_once(server, &asked, &plan, Instant::now(), &form_of, refused, None).await
+                answer_once(server, &mut asked, &plan, Instant::now(), &form_of, refused, None).await
             }
         };
         let within = |body| tokio::time::timeout(Duration::from_secs(60), ask(body));
@@ -334,10 +341,10 @@ mod tests {
     /// What a keyed request is told, and whether that was told before.
     async fn told(server: &Server, key: &str, body: &str) -> (String, bool) {
         let plan = Plan::of(body.as_bytes()).expect("a plan");
-        let asked = Asked::new(&crate::shares::LOOPBACK, "", key, &[body.as_bytes()]);
+        let mut asked = Asked::new(&crate::testing::LOOPBACK, "", key, &[body.as_bytes()]);
         let form_of = |committed: &Committed<'_>| Form::Text(text_of(committed, Spelling::Text).into());
         let refused = |failed: Failed<'_>| refusal_of(&failed, Spelling::Text);
-        let answer = answer_once(server, &asked, &plan, Instant::now(), &form_of, refused, None).await;
+        let answer = answer_once(server, &mut asked, &plan, Instant::now(), &form_of, refused, None).await;
         match answer.expect("it commits") {
             Answer { form: Form::Text(text), is_again, .. } => {
                 (String::from_utf8(text.to_vec()).expect("text"), is_again)

@@ -2,6 +2,7 @@
 //! answer what the ledger has foretold.
 
 use super::*;
+use crate::gate::{Right, Who};
 use crate::seats::Session;
 use crate::testing::{answers, core, core_and_log, end, say, server, session, tidy, Dice};
 use ripsawbean::{Database, Span};
@@ -72,7 +73,7 @@ fn random_lines_of_several_sessions() {
             let at = dice.below(4) as usize;
             answers(&mut core, &mut sessions[at], &text);
             if dice.one_in(10) {
-                core.close(); // demands what the ledger foretells
+                core.close(Instant::now()); // demands what the ledger foretells
             }
             if dice.one_in(20) {
                 tidy(&mut core);
@@ -94,7 +95,7 @@ fn an_answer_that_is_not_foretold_is_shouted() {
     let mut one = session(&mut core);
     answers(&mut core, &mut one, "begin\n");
     core.ledger.undecided.clear();
-    core.close();
+    core.close(Instant::now());
     assert_eq!(core.shouts, 1);
     core.log.flush();
     assert!(said.text().contains("close 1 => closed 0 0, and not closed 1 0"), "{}", said.text());
@@ -333,7 +334,7 @@ fn much_is_collected_in_steps() {
     for _ in 0..5 {
         let puts: String = (0..2000).map(|row| format!("put . k{row} v\n")).collect();
         answers(&mut core, &mut one, &format!("begin\n{puts}commit .\n"));
-        core.close();
+        core.close(Instant::now());
     }
     answers(&mut core, &mut one, "release 1\n");
     let past = Instant::now();
@@ -448,4 +449,29 @@ async fn the_work_of_a_second_does_not_wait_for_the_lane() {
     let tidied = tokio::time::timeout(Duration::from_secs(60), super::tidy(&server.door, None));
     tidied.await.expect("it waits for no one");
     assert_eq!(server.door.run(|core| (core.ledger.undecided.len(), core.shouts)), (0, 0));
+}
+
+#[test]
+fn who_may_only_read_holds_up_commits_for_half_a_second() {
+    let mut core = core(&[]);
+    let mut take =
+        |rights: &[Right]| core.seats.take(([192, 0, 2, 1], 1).into(), Who::of("one", rights)).expect("a seat");
+    let ([mut reader, mut other], mut writer) =
+        ([0; 2].map(|_| take(&[Right::Read])), take(&[Right::Read, Right::Write]));
+    say(&mut core, &mut reader, "begin\n");
+    let later = |core: &mut Core, age| {
+        (0..2).for_each(|_| drop(core.settle(Instant::now() + age)));
+        (core.ledger.undecided.keys().copied().collect::<Vec<u64>>(), core.ledger.closed)
+    };
+    // Nobody waits for it.
+    assert_eq!(later(&mut core, 10 * READERS_AGE), (vec![1], 0));
+    say(&mut core, &mut other, "begin\n");
+    say(&mut core, &mut writer, "begin\nput . a 1\ncommit .\nbegin\n");
+    assert_eq!(later(&mut core, READERS_AGE / 2), (vec![1, 2, 4], 0));
+    assert!(core.next_close().is_some_and(|at| at <= Instant::now() + READERS_AGE));
+    // The next one of its own doesn't hold them up anew, and a writer's may be older.
+    assert_eq!(later(&mut core, READERS_AGE), (vec![4], 3));
+    say(&mut core, &mut other, "begin\nput . b 1\n");
+    assert_eq!((later(&mut core, 10 * READERS_AGE), core.next_close()), ((vec![4, 5], 3), None));
+    assert_eq!(core.shouts, 0);
 }

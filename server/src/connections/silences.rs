@@ -1,7 +1,8 @@
 //! Silent connections, and which of them has to go where another one needs its place.
 //!
 //! It is of the network that has most connections, of those with silent ones, and there the one that is silent for
-//! longest. Whoever has as many himself makes room by his own. So who opens many pushes out nobody else's.
+//! longest, first of those that have asked nothing yet. Whoever has as many himself makes room by his own. So who opens
+//! many pushes out nobody else's.
 //!
 //! ```text
 //! A has 5, of them 2 silent; B has 3 silent ones     one of A's comes: A's oldest goes
@@ -11,9 +12,13 @@
 //!
 //! 1. `crowds` has each network that has silent connections once, with how many it has in all.
 //! 2. Each call costs O(log n).
+//! 3. Of several programs at one address, one that opens connections and asks nothing pushes out its own.
 
 use std::collections::{BTreeMap, BTreeSet, HashMap};
 use std::net::IpAddr;
+
+/// A silence: whether its connection has asked before, and its number. Those that are less have to go first.
+pub type Silence = (bool, u64);
 
 #[derive(Default)]
 pub struct Silences {
@@ -27,8 +32,8 @@ pub struct Silences {
 struct Network {
     /// How many connections it has.
     open: usize,
-    /// Its silences by their number, so the oldest first: whose each is.
-    silent: BTreeMap<u64, u64>,
+    /// Whose each of its silences is.
+    silent: BTreeMap<Silence, u64>,
 }
 
 impl Silences {
@@ -40,17 +45,17 @@ impl Silences {
         self.change(network, |it| it.open -= 1);
     }
 
-    /// A connection of a network falls silent: the number of this silence.
-    pub fn add(&mut self, network: IpAddr, connection: u64) -> u64 {
+    /// A connection of a network falls silent.
+    pub fn add(&mut self, network: IpAddr, connection: u64, has_asked: bool) -> Silence {
         self.last += 1;
-        let silence = self.last;
+        let silence = (has_asked, self.last);
         self.change(network, |it| {
             it.silent.insert(silence, connection);
         });
         silence
     }
 
-    pub fn remove(&mut self, network: IpAddr, silence: u64) {
+    pub fn remove(&mut self, network: IpAddr, silence: Silence) {
         self.change(network, |it| {
             it.silent.remove(&silence);
         });
@@ -74,11 +79,6 @@ impl Silences {
             self.of.remove(&network);
         }
     }
-
-    #[cfg(test)]
-    pub fn is_empty(&self) -> bool {
-        self.of.is_empty() && self.crowds.is_empty()
-    }
 }
 
 #[cfg(test)]
@@ -92,11 +92,24 @@ mod tests {
         let mut silences = Silences::default();
         (0..5).for_each(|_| silences.come(a));
         (0..3).for_each(|_| silences.come(b));
-        (0..3).for_each(|connection| assert!(silences.add(b, connection) > 0));
-        let own = [3, 4].map(|connection| silences.add(a, connection));
+        (0..3).for_each(|connection| assert!(silences.add(b, connection, true) > (true, 0)));
+        let own = [3, 4].map(|connection| silences.add(a, connection, true));
         assert_eq!([a, b, c].map(|it| silences.first(it)), [Some(3); 3]);
         own.into_iter().for_each(|silence| silences.remove(a, silence));
         assert_eq!([a, b, c].map(|it| silences.first(it)), [None, Some(0), Some(0)]);
+    }
+
+    #[test]
+    fn who_has_asked_nothing_yet_goes_before_who_has() {
+        let a = IpAddr::from([192, 0, 2, 1]);
+        let mut silences = Silences::default();
+        (0..4).for_each(|_| silences.come(a));
+        let asked = [false, true, false].map(|has_asked| silences.add(a, silences.last, has_asked));
+        for (silence, first) in asked.into_iter().zip([Some(0), Some(2), Some(2)]) {
+            assert_eq!(silences.first(a), first);
+            silences.remove(a, silence);
+        }
+        assert_eq!(silences.first(a), None);
     }
 
     #[test]
@@ -104,12 +117,12 @@ mod tests {
         let mut dice = Dice::new(31);
         let networks = [1, 2, 3].map(|last| IpAddr::from([192, 0, 2, last]));
         // Each with its network, and its silence where it is silent.
-        let (mut silences, mut there) = (Silences::default(), Vec::<(IpAddr, Option<u64>, u64)>::new());
+        let (mut silences, mut there) = (Silences::default(), Vec::<(IpAddr, Option<Silence>, u64)>::new());
         for connection in 0..5000 {
             let at = dice.below(there.len().max(1) as u64) as usize;
             match (dice.below(5), there.get_mut(at)) {
                 (0, Some((network, silence @ None, connection))) => {
-                    *silence = Some(silences.add(*network, *connection))
+                    *silence = Some(silences.add(*network, *connection, dice.one_in(2)))
                 }
                 (1, Some((network, silence, _))) => {
                     silence.take().into_iter().for_each(|it| silences.remove(*network, it))
@@ -132,6 +145,12 @@ mod tests {
                 let from = most.map(|most| if open(most) > open(comes) { most } else { comes });
                 assert_eq!(silences.first(comes), from.and_then(oldest).map(|(_, connection)| connection));
             }
+        }
+    }
+
+    impl Silences {
+        pub fn is_empty(&self) -> bool {
+            self.of.is_empty() && self.crowds.is_empty()
         }
     }
 }

@@ -12,7 +12,7 @@ fn peer() -> SocketAddr {
 
 /// A request that passes the gate.
 fn asks(connection: &Arc<Connection>) -> Busy {
-    connection.asks(&crate::shares::LOOPBACK).expect("its client has room")
+    connection.asks(&crate::testing::LOOPBACK).expect("its client has room")
 }
 
 fn come(all: &Arc<Connections>) -> Arc<Connection> {
@@ -261,10 +261,12 @@ async fn a_read_is_bounded_and_loses_nothing() {
     assert_eq!(found, sent);
 }
 
-/// What a connection is to the model: who is cut is the one that has been silent for longest.
+/// What a connection is to the model: who is cut is the one that has been silent for longest, of those that have asked
+/// nothing yet, where there are any.
 struct Modelled {
     connection: Arc<Connection>,
     busy: Vec<Busy>,
+    has_asked: bool,
     /// When it fell silent, as a count of what was done.
     silent: usize,
 }
@@ -292,9 +294,10 @@ fn any_order_of_coming_asking_and_going_is_as_a_plain_list_has_it() {
 /// One client may have four of five.
 fn model_asks(model: &mut [Modelled], at: usize) {
     let others = model.iter().filter(|one| !one.busy.is_empty()).count();
-    let asked = model[at].connection.asks(&crate::shares::LOOPBACK);
+    let asked = model[at].connection.asks(&crate::testing::LOOPBACK);
     let has_room = others < 4 || !model[at].busy.is_empty();
     assert_eq!(asked.as_ref().err().map(|refusal| refusal.error), (!has_room).then_some("connections"));
+    model[at].has_asked |= has_room;
     model[at].busy.extend(asked);
 }
 
@@ -302,11 +305,12 @@ fn model_comes(all: &Arc<Connections>, model: &mut Vec<Modelled>, count: usize) 
     let came = all.come(peer());
     if model.len() == 5 {
         let silent = (0..5).filter(|at| model[*at].busy.is_empty());
-        let Some(oldest) = silent.min_by_key(|at| model[*at].silent) else {
+        let Some(oldest) = silent.min_by_key(|at| (model[*at].has_asked, model[*at].silent)) else {
             assert!(came.is_none());
             return;
         };
         assert!(model.swap_remove(oldest).connection.is_cut());
     }
-    model.push(Modelled { connection: came.expect("there is room"), busy: Vec::new(), silent: count });
+    let connection = came.expect("there is room");
+    model.push(Modelled { connection, busy: Vec::new(), has_asked: false, silent: count });
 }

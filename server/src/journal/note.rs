@@ -5,7 +5,7 @@
 //! 0 readat 18446744073709551615 database/1914d5866a08f6aa
 //! 0 readat 18446744073709551615 place/alder//srv/data
 //! 0 readat 18446744073709551615 generation/7
-//! 0 readat 18446744073709551615 name/prices/19/7/1
+//! 0 readat 18446744073709551615 name/prices/19/7/1/token/orders
 //! 0 readat 18446744073709551615 noname/prices
 //! 0 readat 18446744073709551615 key/8042/5d2f0c..1a/8be3a1..f0/9/put
 //! 0 readat 18446744073709551615 told/..
@@ -21,6 +21,8 @@ use std::fmt;
 /// Bytes of a host's name and of a folder's path that are told, at most: a key has 256.
 const LONGEST_HOST: usize = 64;
 const LONGEST_FOLDER: usize = 170;
+/// Bytes of an owner beside a name: with a longer one a name is nobody's behind a restart.
+const LONGEST_OWNER: usize = 140;
 /// Before bytes that need not be text.
 const TOLD: &[u8] = b"told/";
 
@@ -41,11 +43,13 @@ pub enum Note {
 }
 
 /// A name's place.
-#[derive(Clone, Copy, Debug, PartialEq, Eq)]
+#[derive(Clone, Debug, PartialEq, Eq)]
 pub struct Kept {
     pub stored: Option<u64>,
     pub generation: u64,
     pub is_held: bool,
+    /// The client's word whose it is, where that is known.
+    pub owner: Option<String>,
 }
 
 impl Place {
@@ -91,9 +95,11 @@ impl Note {
             Note::Database(identity) => format!("database/{identity}"),
             Note::Place(Place { host, folder }) => format!("place/{host}/{folder}"),
             Note::Generation(generation) => format!("generation/{generation}"),
-            Note::Name { name, kept: Kept { stored, generation, is_held } } => {
+            Note::Name { name, kept: Kept { stored, generation, is_held, owner } } => {
                 let stored = stored.map_or("none".to_string(), |stored| stored.to_string());
-                format!("name/{name}/{stored}/{generation}/{}", u8::from(*is_held))
+                let owner = owner.iter().filter(|owner| owner.len() <= LONGEST_OWNER);
+                let owner: String = owner.map(|owner| format!("/{owner}")).collect();
+                format!("name/{name}/{stored}/{generation}/{}{owner}", u8::from(*is_held))
             }
             Note::NoName(name) => format!("noname/{name}"),
             Note::Key(key) => key.words(),
@@ -104,7 +110,7 @@ impl Note {
 }
 
 fn name_in(rest: &str) -> Option<Note> {
-    let mut words = rest.split('/');
+    let mut words = rest.splitn(5, '/');
     let name = words.next().filter(|name| !name.is_empty())?.to_string();
     let stored = match words.next()? {
         "none" => None,
@@ -116,7 +122,9 @@ fn name_in(rest: &str) -> Option<Note> {
         "1" => true,
         _ => return None,
     };
-    words.next().is_none().then_some(Note::Name { name, kept: Kept { stored, generation, is_held } })
+    // Before there were owners it ended here.
+    let owner = words.next().map(str::to_string);
+    Some(Note::Name { name, kept: Kept { stored, generation, is_held, owner } })
 }
 
 /// The line, with its newline.
@@ -133,15 +141,19 @@ mod tests {
 
     #[test]
     fn notes_come_back() {
-        let kept = Kept { stored: Some(19), generation: 7, is_held: true };
+        let kept = Kept { stored: Some(19), generation: 7, is_held: true, owner: None };
+        let owned = |owner: &str| Kept { owner: Some(owner.into()), ..kept.clone() };
+        let longest_name = Kept { stored: Some(u64::MAX), generation: u64::MAX, ..owned(&"o".repeat(LONGEST_OWNER)) };
         let longest = Place::shortened(&"h".repeat(100), "/\u{e4} b/".repeat(100).as_bytes());
         for note in [
             Note::Database("1914d5866a08f6aa".into()),
             Note::Place(Place { host: "alder".into(), folder: "/srv/my data".into() }),
             Note::Place(longest),
             Note::Generation(7),
-            Note::Name { name: "a.b-c_9".into(), kept },
-            Note::Name { name: "a".into(), kept: Kept { stored: None, generation: 0, is_held: false } },
+            Note::Name { name: "a.b-c_9".into(), kept: kept.clone() },
+            Note::Name { name: "a".into(), kept: owned("token/a/b \u{e4}") },
+            Note::Name { name: "n".repeat(64), kept: longest_name },
+            Note::Name { name: "a".into(), kept: Kept { stored: None, generation: 0, is_held: false, owner: None } },
             Note::NoName("a".into()),
             Note::Key(Key::in_words(&format!("17/{:032x}/{:032x}/9/put", 1, u128::MAX)).expect("a key")),
             Note::Told(b"{\"a\": \xff}\n".to_vec()),
@@ -161,7 +173,6 @@ mod tests {
             "generation/x",
             "name/a/1/2",
             "name/a/1/2/3",
-            "name/a/1/2/1/1",
             "name//1/2/1",
             "noname/",
             "database/",

@@ -35,7 +35,7 @@ fn keep(running: &Running<'_>, body: &str) -> Result<(), Refusal> {
 
 /// What a request is answered, and whether it has run.
 async fn ask(remembered: &Remembered, who: &str, key: &str, body: &str) -> (Result<String, &'static str>, bool) {
-    match remembered.begin(&asked(who, key, body), Instant::now()).await {
+    match remembered.begin(&mut asked(who, key, body), Instant::now()).await {
         Ok(Begun::Told(answer)) => (Ok(text_of(&answer)), false),
         Ok(Begun::Runs(running)) => {
             (keep(&running, body).map(|()| body.to_string()).map_err(|refusal| refusal.error), true)
@@ -61,7 +61,12 @@ async fn a_key_is_of_a_token_and_stands_for_all_of_a_request() {
     let server = server(&[]);
     let asked = |name: &str, line: &str, headers: &[(&str, &str)], body: &str| {
         let request = Request::of(&server, &Who::of(name, &[Right::Write]), line, headers, body);
-        let asked = server.remembered.asked(&request, body.as_bytes()).expect("a key").key.expect("it is given");
+        let asked = server
+            .remembered
+            .asked(&request, body.as_bytes(), Permit::of(&request.client))
+            .expect("a key")
+            .key
+            .expect("it is given");
         (asked.named, asked.asked)
     };
     let (key, line) = (("idempotency-key", "k"), "PUT /key/a?wait=1");
@@ -89,7 +94,7 @@ async fn a_key_is_of_a_token_and_stands_for_all_of_a_request() {
 #[tokio::test]
 async fn what_failed_is_run_again() {
     let remembered = remembered(60);
-    assert!(matches!(remembered.begin(&asked("", "k", "1"), Instant::now()).await, Ok(Begun::Runs(_))));
+    assert!(matches!(remembered.begin(&mut asked("", "k", "1"), Instant::now()).await, Ok(Begun::Runs(_))));
     assert_eq!(ask(&remembered, "", "k", "1").await, (Ok("1".into()), true));
 }
 
@@ -107,12 +112,12 @@ async fn it_is_forgotten_after_its_time() {
 #[tokio::test]
 async fn of_two_at_once_the_second_waits() {
     let remembered = Arc::new(remembered(60));
-    let one = asked("", "k", "1");
-    let Ok(Begun::Runs(first)) = remembered.begin(&one, Instant::now()).await else { panic!("it runs") };
+    let mut one = asked("", "k", "1");
+    let Ok(Begun::Runs(first)) = remembered.begin(&mut one, Instant::now()).await else { panic!("it runs") };
     assert_eq!(ask(&remembered, "", "k", "1").await, (Err("running"), false));
     let second = {
         let (remembered, far) = (remembered.clone(), Instant::now() + Duration::from_secs(60));
-        tokio::spawn(async move { remembered.begin(&asked("", "k", "1"), far).await.map(|begun| is_told(&begun)) })
+        tokio::spawn(async move { remembered.begin(&mut asked("", "k", "1"), far).await.map(|begun| is_told(&begun)) })
     };
     tokio::task::yield_now().await;
     keep(&first, "1").expect("there is room");
@@ -128,8 +133,8 @@ fn is_told(begun: &Begun<'_>) -> bool {
 async fn a_request_that_is_dropped_frees_its_key() {
     let remembered = remembered(60);
     let mut dropped = Box::pin(async {
-        let one = asked("", "k", "1");
-        let _running = remembered.begin(&one, Instant::now()).await;
+        let mut one = asked("", "k", "1");
+        let _running = remembered.begin(&mut one, Instant::now()).await;
         std::future::pending::<()>().await;
     });
     let waits = tokio::select! {

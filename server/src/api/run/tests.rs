@@ -6,7 +6,7 @@ use crate::core::Core;
 use crate::cuts::Cuts;
 use crate::door::Length;
 use crate::seats::Session;
-use crate::testing::{answers, core, end, say, session, session_of, tidy, Dice};
+use crate::testing::{answers, core, end, run, say, session, session_of, tidy, Dice};
 use ripsawbean::{Room, Span};
 
 mod turns;

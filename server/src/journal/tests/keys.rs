@@ -3,8 +3,9 @@
 use super::*;
 use crate::api::plan::Plan;
 use crate::api::remembered::{Asked, Begun, Keep};
-use crate::api::run::{run, Committed, End, Pace};
+use crate::api::run::{Committed, End, Pace};
 use crate::shares;
+use crate::testing::run;
 use std::collections::VecDeque;
 
 const HOUR: Duration = Duration::from_secs(3600);
@@ -26,8 +27,8 @@ pub fn form_of(committed: &Committed<'_>) -> Form {
 /// A request with a key: whether it was done, and what it is answered.
 async fn ask(core: &mut Core, remembered: &Remembered, key: &str, body: &str) -> (bool, Form) {
     let plan = Plan::of(body.as_bytes()).expect(body);
-    let asked = Asked::new(&shares::Client::SERVER, "", key, &[body.as_bytes()]);
-    let running = match remembered.begin(&asked, Instant::now()).await.expect("there is room") {
+    let mut asked = Asked::new(&shares::Client::SERVER, "", key, &[body.as_bytes()]);
+    let running = match remembered.begin(&mut asked, Instant::now()).await.expect("there is room") {
         Begun::Told(answer) => return (false, answer.form().clone()),
         Begun::Runs(running) => running,
     };
@@ -67,8 +68,8 @@ async fn a_repeat_behind_a_crash_has_its_answer() {
             assert_eq!(again, (false, told.clone()));
         }
         assert_eq!((count(&mut after), after.shouts), (rows, 0));
-        let other = Asked::new(&shares::Client::SERVER, "", "key1", &[b"other"]);
-        assert!(remembered.begin(&other, Instant::now()).await.is_err());
+        let mut other = Asked::new(&shares::Client::SERVER, "", "key1", &[b"other"]);
+        assert!(remembered.begin(&mut other, Instant::now()).await.is_err());
         assert!(ask(&mut after, &remembered, "new", &raise(9)).await.0);
     }
 }

@@ -3,12 +3,12 @@
 use super::disk::Disk;
 use super::*;
 use crate::api::plan::Plan;
-use crate::api::run::{run, End, Pace, Stop};
+use crate::api::run::{End, Pace, Stop};
 use crate::door::Turn;
 use crate::gate::Who;
 use crate::journal::writer::by_hand;
 use crate::lines::Lines;
-use crate::testing::{ask, server_of};
+use crate::testing::{ask, run, server_of};
 
 /// A life over a disk, whose marks are far above all that is said.
 fn life(disk: &Disk) -> Core {

@@ -4,9 +4,9 @@ use super::super::keys::form_of;
 use super::*;
 use crate::api::plan::Plan;
 use crate::api::remembered::{Asked, Begun, Keep};
-use crate::api::run::{run, Committed, End, Failed, Pace};
+use crate::api::run::{Committed, End, Failed, Pace};
 use crate::shares;
-use crate::testing::tidy;
+use crate::testing::{run, tidy};
 
 const NAMES: [&str; 2] = ["x", "y"];
 
@@ -170,8 +170,8 @@ fn step_of(
 
 fn begun<'a>(remembered: &'a Remembered, key: &str, body: &str) -> Begun<'a> {
     let runtime = tokio::runtime::Builder::new_current_thread().enable_time().build().expect("a runtime");
-    let asked = Asked::new(&shares::Client::SERVER, "", key, &[body.as_bytes()]);
-    runtime.block_on(remembered.begin(&asked, Instant::now())).expect("there is room")
+    let mut asked = Asked::new(&shares::Client::SERVER, "", key, &[body.as_bytes()]);
+    runtime.block_on(remembered.begin(&mut asked, Instant::now())).expect("there is room")
 }
 
 fn number_of(line: &str, member: &str) -> Option<u64> {
