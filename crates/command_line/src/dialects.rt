@@ -127,21 +127,42 @@ fn is_command(word: &[u8]) -> bool {
 /// The command of this name.
 fn verb_of(name: &[u8]) -> Option<Verb> {
     let mut words = words_in(name);
-    take_form(&mut words).ok().map(|form| form.verb)
+    match take_form(&mut words) {
+        Ok(form) => Some(form.verb),
+        Err(_) => None,
+    }
 }
 
-fn is_number(word: &[u8]) -> bool {
-    !word.is_empty() && word.iter().all(|byte| byte.is_ascii_digit())
+/// Whether a word has digits alone.
+pub(crate) fn is_number(word: &[u8]) -> bool {
+    for byte in word {
+        if !byte.is_ascii_digit() {
+            return false;
+        }
+    }
+    !word.is_empty()
 }
 
 /// Whether a word is digits, more than one, of which the first is a zero.
 fn has_zero_in_front(line: &[u8]) -> bool {
-    line.split(|byte| *byte == b' ').any(|word| word.len() > 1
-        && word.first() == Some(&b'0')
-        && is_number(word))
+    for word in line.split(is_space) {
+        if word.len() > 1 && word.first() == Some(&b'0') && is_number(word) {
+            return true;
+        }
+    }
+    false
 }
 
 /// Whether a line has this word.
 fn has_word(line: &[u8], wanted: &[u8]) -> bool {
-    line.split(|byte| *byte == b' ').any(|word| word == wanted)
+    for word in line.split(is_space) {
+        if word == wanted {
+            return true;
+        }
+    }
+    false
+}
+
+fn is_space(byte: &u8) -> bool {
+    *byte == b' '
 }

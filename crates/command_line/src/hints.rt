@@ -1,7 +1,7 @@
 //! Hints for standard error: behind the sentence on a faulty line, its right form, its limits, or how its words are
 //! spelled; and behind a refusal of words, how the input is given.
 
-use crate::dialects::{Dialect, form_of, stranger};
+use crate::dialects::{Dialect, form_of, is_number, stranger};
 use crate::input::Input;
 use clap::Error;
 use clap::error::ErrorKind;
@@ -46,8 +46,16 @@ fn hint_for(
             limits_of(dialect, format)
         }
         LineFault::Reply | LineFault::Follow | LineFault::NoNewline => return None,
-        _ => return stranger(line, dialect).or_else(|| form_of(line, fault, dialect)),
+        _ => return form_at(line, fault, dialect),
     })
+}
+
+/// The hint for a line that comes from elsewhere, or else the form that it should have.
+fn form_at(line: &[u8], fault: LineFault, dialect: Dialect) -> Option<&'static str> {
+    match stranger(line, dialect) {
+        None => form_of(line, fault, dialect),
+        told => told,
+    }
 }
 
 /// How the bytes of a line are written, one of which isn't, or a word of which spells none.
@@ -129,5 +137,5 @@ fn told_of(kind: ErrorKind, text: &str) -> Option<&str> {
 /// Whether a word is neither an option nor a number: `-` is a file, to those who want standard input.
 fn is_file(word: &str) -> bool {
     let is_option = word.starts_with('-') && word.len() > 1;
-    !is_option && !word.as_bytes().iter().all(|byte| byte.is_ascii_digit())
+    !is_option && !word.is_empty() && !is_number(word.as_bytes())
 }

@@ -42,15 +42,17 @@ mod doing;
 mod examples;
 mod faults;
 mod following;
+mod forms;
 mod hints;
 mod input;
 pub mod sentences;
 pub mod status;
 mod version;
 
-pub use arguments::{Job, command, job_in};
+pub use arguments::{Job, job_in};
 pub use dialects::Dialect;
 pub use doing::done;
 pub use following::Seeded;
+pub use forms::command;
 pub use hints::{hint_at, hint_of};
 pub use input::Input;

@@ -13,14 +13,12 @@ mod prepared;
 mod racing;
 mod scripts;
 
-use chains::{block_that_is_full, list_that_is_full, reads_over_blocks};
+use chains::{BLOCK_THAT_IS_FULL, LIST_THAT_IS_FULL, READS_OVER_BLOCKS};
 use dumping::{dump_history, dump_twice};
 use following::follow_twice;
-use marks::{lone_keys_in_a_scan, marks_that_are_swept};
+use marks::{LONE_KEYS_IN_A_SCAN, MARKS_THAT_ARE_SWEPT};
 use playing::play_twice;
-use prepared::Story;
 use racing::race_twice;
-use std::alloc::Global;
 
 // It runs out of memory once at most.
 #[test]
@@ -61,35 +59,30 @@ fn refused_growths_end_a_dump_of_a_history_at_most(rt: HostRuntime) {
 
 #[test]
 fn refused_growths_in_the_put_that_turns_a_list_into_blocks(rt: HostRuntime) {
-    let wanting = played(rt.alloc(), list_that_is_full(rt.alloc()));
+    let wanting = LIST_THAT_IS_FULL.play(rt.alloc());
     assert!(rt; matches!(wanting, Some(0 | 1)));
 }
 
 #[test]
 fn refused_growths_in_the_put_that_halves_a_block(rt: HostRuntime) {
-    let wanting = played(rt.alloc(), block_that_is_full(rt.alloc()));
+    let wanting = BLOCK_THAT_IS_FULL.play(rt.alloc());
     assert!(rt; matches!(wanting, Some(0 | 1)));
 }
 
 #[test]
 fn refused_growths_in_reads_over_blocks(rt: HostRuntime) {
-    let wanting = played(rt.alloc(), reads_over_blocks(rt.alloc()));
+    let wanting = READS_OVER_BLOCKS.play(rt.alloc());
     assert!(rt; matches!(wanting, Some(0 | 1)));
 }
 
 #[test]
 fn refused_growths_in_a_scan_over_lone_keys(rt: HostRuntime) {
-    let wanting = played(rt.alloc(), lone_keys_in_a_scan(rt.alloc()));
+    let wanting = LONE_KEYS_IN_A_SCAN.play(rt.alloc());
     assert!(rt; matches!(wanting, Some(0 | 1)));
 }
 
 #[test]
 fn refused_growths_in_gets_that_sweep_the_marks(rt: HostRuntime) {
-    let wanting = played(rt.alloc(), marks_that_are_swept(rt.alloc()));
+    let wanting = MARKS_THAT_ARE_SWEPT.play(rt.alloc());
     assert!(rt; matches!(wanting, Some(0 | 1)));
-}
-
-/// Plays a story. How often memory was wanting, unless a reply is another.
-fn played(alloc: Global, story: Option<Story>) -> Option<u64> {
-    story?.play(alloc)
 }

@@ -1,12 +1,14 @@
 //! What the program's command lines ask for, and what it leaves its caller.
 
+use clap::Error;
 use command_line::sentences::{Sentence, sentence_of, sentence_of_follower};
 use command_line::status::{status_of, status_of_follower};
-use command_line::{Job, command, job_in};
+use command_line::{Job, Seeded, command, job_in};
 use follow::{FollowEnd, FollowFault, FollowOptions, span_of};
 use jobs::End;
 use sessions::OpenError;
 use std::alloc::{AllocError, Global};
+use timestamps::Ts;
 use word_lines::fault::LineFault;
 
 /// Command lines, whose words commas part, with what each asks for: `run` with its seats, its ring, its first position and
@@ -106,38 +108,53 @@ fn command_lines(rt: HostRuntime) {
 /// Whether a command line asks for what is said of it.
 fn is_asked(alloc: Global, line: &str) -> Option<bool> {
     let (words, wanted) = line.split_once(" => ")?;
-    match job_of_words(alloc, words) {
+    is_job(alloc, &job_of_words(alloc, words), wanted)
+}
+
+fn is_job(alloc: Global, job: &Option<Job>, wanted: &str) -> Option<bool> {
+    match job {
         None => Some(wanted == "refused"),
-        Some(Job::Run(options, format)) => {
-            let (seats, ring, first) = (options.seats, options.ring, options.first);
-            is_text(
-                wanted,
-                format!(in alloc; "run {seats} {ring} {first} {format:?}"),
-            )
-        }
-        Some(Job::Race(options)) => {
-            let (sessions, ring, format) = (options.sessions, options.ring, options.format);
-            is_text(
-                wanted,
-                format!(in alloc; "race {sessions} {ring} {format:?}"),
-            )
-        }
-        Some(Job::Check(events)) => is_text(wanted, format!(in alloc; "check {events:?}")),
-        Some(Job::State(detail)) => is_text(wanted, format!(in alloc; "state {detail:?}")),
-        Some(Job::Dump(at)) => {
-            let at = at.map(|at| at.get());
-            is_text(wanted, format!(in alloc; "dump {at:?}"))
-        }
-        Some(Job::Follow(options)) => is_followed(alloc, &options, wanted),
-        Some(Job::FollowSeed(seeded)) => {
-            let (file, feed, shown) = (&seeded.file, seeded.feed, seeded.shown);
-            let (complete, format) = (seeded.complete, seeded.format);
-            is_text(
-                wanted,
-                format!(in alloc; "seed {file} {feed:?} {shown:?} {complete} {format:?}"),
-            )
-        }
+        Some(Job::Follow(options)) => is_followed(alloc, options, wanted),
+        Some(job) => is_text(wanted, text_of(alloc, job)),
     }
+}
+
+/// The text of a job, without its bounds.
+fn text_of(alloc: Global, job: &Job) -> Result<String, AllocError> {
+    match job {
+        Job::Run(asked, format) => {
+            let (seats, ring, first) = (asked.seats, asked.ring, asked.first);
+            format!(in alloc; "run {seats} {ring} {first} {format:?}")
+        }
+        Job::Race(asked) => {
+            let (sessions, ring, format) = (asked.sessions, asked.ring, asked.format);
+            format!(in alloc; "race {sessions} {ring} {format:?}")
+        }
+        Job::Check(events) => format!(in alloc; "check {events:?}"),
+        Job::State(detail) => format!(in alloc; "state {detail:?}"),
+        Job::Dump(at) => text_of_dump(alloc, at),
+        Job::Follow(asked) => text_of_follower(alloc, asked),
+        Job::FollowSeed(asked) => text_of_seeded(alloc, asked),
+    }
+}
+
+fn text_of_dump(alloc: Global, at: &Option<Ts>) -> Result<String, AllocError> {
+    match at {
+        None => format!(in alloc; "dump None"),
+        Some(at) => format!(in alloc; "dump Some({})", at.get()),
+    }
+}
+
+fn text_of_follower(alloc: Global, asked: &FollowOptions) -> Result<String, AllocError> {
+    let (start, feed, shown) = (&asked.start, asked.feed, asked.shown);
+    let (complete, format) = (asked.complete, asked.format);
+    format!(in alloc; "{start:?} {feed:?} {shown:?} {complete} {format:?}")
+}
+
+fn text_of_seeded(alloc: Global, asked: &Seeded) -> Result<String, AllocError> {
+    let (file, feed, shown) = (&asked.file, asked.feed, asked.shown);
+    let (complete, format) = (asked.complete, asked.format);
+    format!(in alloc; "seed {file} {feed:?} {shown:?} {complete} {format:?}")
 }
 
 fn is_text(wanted: &str, told: Result<String, AllocError>) -> Option<bool> {
@@ -145,8 +162,15 @@ fn is_text(wanted: &str, told: Result<String, AllocError>) -> Option<bool> {
 }
 
 pub(super) fn job_of_words(alloc: Global, words: &str) -> Option<Job> {
-    let words = words_in(alloc, words)?;
-    job_in(alloc, command(alloc).ok()?, words.as_slice()).ok()
+    asked_in(alloc, &words_in(alloc, words)?)?.ok()
+}
+
+/// The answer to words, unless memory is wanted.
+pub(super) fn asked_in(alloc: Global, words: &[&str]) -> Option<Result<Job, Error>> {
+    match command(alloc) {
+        Ok(command) => Some(job_in(alloc, command, words)),
+        Err(_) => None,
+    }
 }
 
 pub(super) fn words_in<'a>(alloc: Global, words: &'a str) -> Option<Vec<&'a str>> {
@@ -161,11 +185,16 @@ fn is_followed(alloc: Global, options: &FollowOptions, wanted: &str) -> Option<b
     let (_, bounds) = wanted.split_once(' ')?;
     let (lo, rest) = bounds.split_once(' ')?;
     let (hi, rest) = rest.split_once(' ')?;
-    let span = span_of(alloc, lo.as_bytes(), hi.as_bytes(), options.format).ok()?;
-    let (start, feed, shown) = (&options.start, options.feed, options.shown);
-    let (complete, format) = (options.complete, options.format);
-    let told = format!(in alloc; "{start:?} {feed:?} {shown:?} {complete} {format:?}").ok()?;
-    Some(options.span == span && told.as_str() == rest)
+    let is_same = is_text(rest, text_of_follower(alloc, options))?;
+    Some(is_same && is_between(alloc, options, lo, hi))
+}
+
+/// Whether a follower's span has these bounds.
+fn is_between(alloc: Global, options: &FollowOptions, lo: &str, hi: &str) -> bool {
+    match span_of(alloc, lo.as_bytes(), hi.as_bytes(), options.format) {
+        Ok(span) => options.span == span,
+        Err(_) => false,
+    }
 }
 
 /// Each end of a job but those of faulty lines, with its status and its sentence.
@@ -392,7 +421,16 @@ fn help_and_version(rt: HostRuntime) {
 /// Whether words ask for a text that begins so, and ends so.
 fn is_printed(alloc: Global, words: &str, begin: &str, end: &str) -> Option<bool> {
     let words = words_in(alloc, words)?;
-    let Err(error) = job_in(alloc, command(alloc).ok()?, words.as_slice()) else {
+    is_text_of(alloc, &asked_in(alloc, &words), begin, end)
+}
+
+fn is_text_of(
+    alloc: Global,
+    asked: &Option<Result<Job, Error>>,
+    begin: &str,
+    end: &str,
+) -> Option<bool> {
+    let Some(Err(error)) = asked else {
         return Some(false);
     };
     let text = format!(in alloc; "{error}").ok()?;

@@ -1,7 +1,8 @@
 //! What the jobs of command lines write, and which exit status each leaves.
 
-use super::command_lines::{job_of_words, words_in};
-use command_line::{Input, command, done, hint_of, job_in};
+use super::command_lines::{asked_in, job_of_words, words_in};
+use clap::Error;
+use command_line::{Input, Job, done, hint_of};
 use sessions::{Reading, Writing};
 use std::alloc::Global;
 use std::process::ExitCode;
@@ -164,9 +165,18 @@ fn files_given_as_words(rt: HostRuntime) {
 /// Whether words are refused with this hint.
 fn is_hinted(alloc: Global, words: &str, hint: &str) -> Option<bool> {
     let words = words_in(alloc, words)?;
-    match job_in(alloc, command(alloc).ok()?, words.as_slice()) {
-        Ok(_) => Some(false),
-        Err(refused) => Some(hint_of(alloc, &refused, words.as_slice()).unwrap_or("") == hint),
+    is_hint(alloc, &asked_in(alloc, &words), &words, hint)
+}
+
+fn is_hint(
+    alloc: Global,
+    asked: &Option<Result<Job, Error>>,
+    words: &[&str],
+    hint: &str,
+) -> Option<bool> {
+    match asked {
+        Some(Err(refused)) => Some(hint_of(alloc, refused, words).unwrap_or("") == hint),
+        _ => Some(false),
     }
 }
 
@@ -193,7 +203,11 @@ fn helps_say_where_input_comes_from(rt: HostRuntime) {
 /// Whether the help of a command has this usage line, and names both devices.
 fn is_used(alloc: Global, name: &str, usage: &str) -> Option<bool> {
     let words = ["mvfeed", name, "--help"];
-    let Err(help) = job_in(alloc, command(alloc).ok()?, words.as_slice()) else {
+    has_usage(alloc, &asked_in(alloc, words.as_slice()), usage)
+}
+
+fn has_usage(alloc: Global, asked: &Option<Result<Job, Error>>, usage: &str) -> Option<bool> {
+    let Some(Err(help)) = asked else {
         return Some(false);
     };
     let text = format!(in alloc; "{help}").ok()?;

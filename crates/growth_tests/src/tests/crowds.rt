@@ -16,27 +16,34 @@ pub(super) struct Crowd {
     pub(super) count: u64,
 }
 
-impl Crowd {
-    /// No read.
-    pub(super) fn new() -> Crowd {
-        Crowd {
-            ts: 0,
-            first: 0,
-            count: 0,
-        }
-    }
+/// No read.
+pub(super) const NONE: Crowd = Crowd {
+    ts: 0,
+    first: 0,
+    count: 0,
+};
 
+impl Crowd {
     /// Makes the reads. Each has to find none.
     pub(super) fn read(self, alloc: Global, engine: &mut Engine) -> Option<()> {
-        let Crowd { ts, first, count } = self;
-        for key in first..first.saturating_add(count) {
-            let line = format!(in alloc; "0 get {ts} k{key}\n").ok()?;
-            let (seat, cmd) = read_command(alloc, line.as_bytes(), 1, Format::One).ok()?;
-            let reply = made(engine, seat, &cmd)?;
-            if !matches!(&reply, Reply::Found(None)) {
-                return None;
-            }
+        for place in 0..self.count {
+            read_key(alloc, engine, self.ts, self.first.saturating_add(place))?;
         }
         Some(())
+    }
+}
+
+fn read_key(alloc: Global, engine: &mut Engine, ts: u64, key: u64) -> Option<()> {
+    let line = format!(in alloc; "0 get {ts} k{key}\n").ok()?;
+    match read_command(alloc, line.as_bytes(), 1, Format::One) {
+        Ok((seat, cmd)) => found_none(&made(engine, seat, &cmd)),
+        Err(_) => None,
+    }
+}
+
+fn found_none(reply: &Option<Reply>) -> Option<()> {
+    match reply {
+        Some(Reply::Found(None)) => Some(()),
+        _ => None,
     }
 }

@@ -1,6 +1,7 @@
 //! Transcripts that are dumped while a growth may be refused: one of a line, of the checker, or of what is written.
 use super::growths::{are_granted, may_be_refused};
-use super::made::{Lines, put_form};
+use super::made::text_of_form;
+use super::playing::sum;
 use jobs::{End, dump_io};
 use sessions::{Reading, Writing};
 use std::alloc::Global;
@@ -33,70 +34,77 @@ const DUMP: &[u8] = b"0 begin 10
 0 collect 20
 ";
 
+/// Transactions that write one key of all, which every fourth deletes, and one of their own: its name and its value are
+/// long.
+const HISTORY: &str = "@11 5 4 1
+0 begin A => started
+0 put A k A => written
+0 put A kAL L => written
+0 commit A => committed 2
+0 begin B => started
+0 del B k => written
+0 put B kBL L => written
+0 commit B => committed 2
+0 begin C => started
+0 put C k C => written
+0 put C kCL L => written
+0 commit C => committed 2
+0 begin D => started
+0 put D k D => written
+0 put D kDL L => written
+0 commit D => committed 2
+@
+0 close 30 => closed 30 0
+0 collect 11 => collected 11 0
+";
+
+/// The script that rebuilds their database.
+const SCRIPT: &str = "@11 5 4 1
+0 begin A
+0 put A k A
+0 put A kAL L
+0 commit A
+0 begin B
+0 del B k
+0 put B kBL L
+0 commit B
+0 begin C
+0 put C k C
+0 put C kCL L
+0 commit C
+0 begin D
+0 put D k D
+0 put D kDL L
+0 commit D
+@
+0 close 30
+0 collect 11
+";
+
 /// Dumps the transcript twice. How often memory was wanting, unless one of the two writes anything else, or ends otherwise.
 pub(super) fn dump_twice(alloc: Global) -> Option<u64> {
-    let first = dump(alloc, TRANSCRIPT, DUMP)?;
-    let second = dump(alloc, TRANSCRIPT, DUMP)?;
-    Some(first.saturating_add(second))
+    sum(dump(alloc, TRANSCRIPT, DUMP), dump(alloc, TRANSCRIPT, DUMP))
 }
 
 /// Dumps a history that is made, and once more where memory was wanting. How often it was, unless one of the two writes
 /// anything else, or ends otherwise.
 pub(super) fn dump_history(alloc: Global) -> Option<u64> {
     are_granted(alloc);
-    let history = history(alloc)?;
-    let script = script_of_history(alloc)?;
+    let history = text_of_form(alloc, HISTORY, Some(0)).ok()?;
+    match text_of_form(alloc, SCRIPT, None) {
+        Ok(script) => dump_refused(alloc, &history, &script),
+        Err(_) => None,
+    }
+}
+
+fn dump_refused(alloc: Global, transcript: &[u8], script: &[u8]) -> Option<u64> {
     may_be_refused(alloc);
-    let first = dump(alloc, history.text(), script.as_slice());
+    let first = dump(alloc, transcript, script);
     are_granted(alloc);
-    let first = first?;
-    let second = dump(alloc, history.text(), script.as_slice())?;
-    if second > 0 {
-        return None;
+    match dump(alloc, transcript, script) {
+        Some(0) => first,
+        _ => None,
     }
-    Some(first)
-}
-
-/// Transactions that write one key of all, and one of their own: its name and its value are long.
-fn history(alloc: Global) -> Option<Lines> {
-    let mut lines = Lines::new(alloc);
-    for at in 11u64..=30 {
-        lines.add("0 begin A => started", &[at])?;
-        let form = if is_delete(at) {
-            "0 del A k => written"
-        } else {
-            "0 put A k A => written"
-        };
-        lines.add(form, &[at])?;
-        lines.add("0 put A kAL L => written", &[at])?;
-        lines.add("0 commit A => committed 2", &[at])?;
-    }
-    lines.add("0 close 30 => closed 30 0", &[])?;
-    lines.add("0 collect 11 => collected 11 0", &[])?;
-    Some(lines)
-}
-
-/// The script that rebuilds its database.
-fn script_of_history(alloc: Global) -> Option<Vec<u8>> {
-    let mut script = Vec::new(alloc);
-    for at in 11u64..=30 {
-        put_form(alloc, &mut script, "0 begin A\n", &[at]).ok()?;
-        let form = if is_delete(at) {
-            "0 del A k\n"
-        } else {
-            "0 put A k A\n"
-        };
-        put_form(alloc, &mut script, form, &[at]).ok()?;
-        put_form(alloc, &mut script, "0 put A kAL L\n", &[at]).ok()?;
-        put_form(alloc, &mut script, "0 commit A\n", &[at]).ok()?;
-    }
-    put_form(alloc, &mut script, "0 close 30\n0 collect 11\n", &[]).ok()?;
-    Some(script)
-}
-
-/// Whether the transaction deletes the key of all.
-fn is_delete(at: u64) -> bool {
-    at & 3 == 0
 }
 
 /// Dumps a transcript. How often memory was wanting: then nothing was written, and else the whole script.
@@ -106,7 +114,10 @@ fn dump(alloc: Global, transcript: &[u8], script: &[u8]) -> Option<u64> {
     let mut output = Writing::new(Cursor::new([0u8; 4096]));
     let end = dump_io(alloc, None, &mut input, &mut output);
     let count = output.writer.position() as usize;
-    let written = output.writer.get_ref().get(..count)?;
+    told_in(end, output.writer.get_ref().get(..count)?, script)
+}
+
+fn told_in(end: End, written: &[u8], script: &[u8]) -> Option<u64> {
     match end {
         End::Done if written == script => Some(0),
         End::Memory if written.is_empty() => Some(1),

@@ -1,4 +1,5 @@
 //! A feed that is followed while a growth may be refused: one of its lines, of the replica, or of what is told.
+use super::playing::sum;
 use follow::{FollowEnd, FollowOptions, Shown, Start, follow_io};
 use sessions::{Reading, Writing};
 use spans::Span;
@@ -28,9 +29,7 @@ row aaaaaaaaaaaaaaaaaaaaaaaaaaaaaaaa bbbbbbbbbbbbbbbbbbbbbbbbbbbbbbbb
 
 /// Follows the feed twice. How often memory was wanting, unless one of the two is another report, or ends otherwise.
 pub(super) fn follow_twice(alloc: Global) -> Option<u64> {
-    let first = follow(alloc)?;
-    let second = follow(alloc)?;
-    Some(first.saturating_add(second))
+    sum(follow(alloc), follow(alloc))
 }
 
 /// Follows the feed. How often memory was wanting: then a beginning of the report was told, and else all of it.
@@ -48,7 +47,10 @@ fn follow(alloc: Global) -> Option<u64> {
     let mut output = Writing::new(Cursor::new([0u8; 512]));
     let end = follow_io(alloc, options, &mut input, &mut output);
     let count = output.writer.position() as usize;
-    let told = output.writer.get_ref().get(..count)?;
+    told_in(end, output.writer.get_ref().get(..count)?)
+}
+
+fn told_in(end: FollowEnd, told: &[u8]) -> Option<u64> {
     match end {
         FollowEnd::Done if told == REPORT => Some(0),
         FollowEnd::Memory if REPORT.starts_with(told) => Some(1),

@@ -10,10 +10,18 @@ use word_lines::replies::write_reply;
 /// wanting, unless another reply came.
 pub(super) fn play_twice(alloc: Global, case: &str) -> Option<u64> {
     let (_, transcript) = case.split_once('\n')?;
-    let events = events_of(alloc, transcript.as_bytes())?;
-    let first = play(alloc, &mut Engine::new(alloc), &events)?;
-    let second = play(alloc, &mut Engine::new(alloc), &events)?;
-    Some(first.saturating_add(second))
+    match events_of(alloc, transcript.as_bytes()) {
+        Some(events) => {
+            let first = play(alloc, &mut Engine::new(alloc), &events);
+            sum(first, play(alloc, &mut Engine::new(alloc), &events))
+        }
+        None => None,
+    }
+}
+
+/// The sum of two counts, if there are both.
+pub(super) fn sum(one: Option<u64>, other: Option<u64>) -> Option<u64> {
+    Some(one?.saturating_add(other?))
 }
 
 /// The events of a transcript. Where the growth that is refused is one of reading it, it is read again.
@@ -35,20 +43,31 @@ fn play(alloc: Global, engine: &mut Engine, events: &[Event]) -> Option<u64> {
 
 /// Makes a call, and makes it again where it is out of memory. How often it was.
 pub(super) fn make(alloc: Global, engine: &mut Engine, event: &Event) -> Option<u64> {
-    let wanted = text_of(alloc, &event.reply);
-    let reply = step(engine, event)?;
-    if text_of(alloc, &reply).as_slice() == wanted.as_slice() {
-        return Some(0);
+    match asked(alloc, engine, event) {
+        Some(true) => match asked(alloc, engine, event) {
+            Some(false) => Some(1),
+            _ => None,
+        },
+        Some(false) => Some(0),
+        None => None,
     }
-    if !is_wanting(event, &reply) {
-        return None;
+}
+
+fn asked(alloc: Global, engine: &mut Engine, event: &Event) -> Option<bool> {
+    refusal_in(alloc, event, &step(engine, event))
+}
+
+/// Whether a reply says that memory was wanting, unless it is any other than the event's.
+pub(super) fn refusal_in(alloc: Global, event: &Event, reply: &Option<Reply>) -> Option<bool> {
+    match reply {
+        Some(reply) if is_same(alloc, reply, &event.reply) => Some(false),
+        Some(reply) if is_wanting(event, reply) => Some(true),
+        _ => None,
     }
-    let again = step(engine, event)?;
-    if text_of(alloc, &again).as_slice() == wanted.as_slice() {
-        Some(1)
-    } else {
-        None
-    }
+}
+
+fn is_same(alloc: Global, reply: &Reply, other: &Reply) -> bool {
+    text_of(alloc, reply).as_slice() == text_of(alloc, other).as_slice()
 }
 
 /// Makes the call of an event.
@@ -65,7 +84,7 @@ pub(super) fn made(engine: &mut Engine, seat: u8, cmd: &Cmd) -> Option<Reply> {
 }
 
 /// A reply as it is written. Where the growth that is refused is one of writing it, it is written again.
-pub(super) fn text_of(alloc: Global, reply: &Reply) -> Vec<u8> {
+fn text_of(alloc: Global, reply: &Reply) -> Vec<u8> {
     let mut out = Vec::new(alloc);
     if write_reply(&mut out, reply).is_err() {
         let _ = write_reply(&mut out, reply);
@@ -74,7 +93,7 @@ pub(super) fn text_of(alloc: Global, reply: &Reply) -> Vec<u8> {
 }
 
 /// Whether the reply says that it is out of memory, where that may be.
-pub(super) fn is_wanting(event: &Event, reply: &Reply) -> bool {
+fn is_wanting(event: &Event, reply: &Reply) -> bool {
     matches!(reply, Reply::Refused(Refusal::NoMemory)) && may_lack_memory(event)
 }
 

@@ -1,4 +1,5 @@
 //! Sessions that race while a growth may be refused: one of the database's, of its oracle, of a thread, or of an event.
+use super::playing::sum;
 use races::{Open, race_calls};
 use script::scripts::read_script;
 use spans::{Cmd, Event, Refusal, Reply};
@@ -24,19 +25,20 @@ const SCRIPT: &[u8] = b"0 begin 10
 /// Has the sessions race, and again where memory was wanting for the race. How often it was, unless a history isn't right,
 /// or an undisturbed race has no history.
 pub(super) fn race_twice<R: Threads + Wait + Sync>(rt: &R, alloc: Global) -> Option<u64> {
-    let mut wanting = 0u64;
-    for _turn in 0..2 {
-        match raced(rt, alloc) {
-            Some(events) => {
-                wanting = wanting.saturating_add(refused_in(&events));
-                if events.len() != 10 || !is_right(alloc, &events) {
-                    return None;
-                }
-            }
-            None => wanting = wanting.saturating_add(1),
-        }
+    sum(wanting(rt, alloc), wanting(rt, alloc))
+}
+
+fn wanting<R: Threads + Wait + Sync>(rt: &R, alloc: Global) -> Option<u64> {
+    wanting_in(alloc, &raced(rt, alloc))
+}
+
+/// How often memory was wanting in a race with this history, unless it isn't right.
+fn wanting_in(alloc: Global, history: &Option<Vec<Event>>) -> Option<u64> {
+    match history {
+        Some(events) if events.len() == 10 && is_right(alloc, events) => Some(refused_in(events)),
+        Some(_) => None,
+        None => Some(1),
     }
-    Some(wanting)
 }
 
 /// The history of a race, if it has one.

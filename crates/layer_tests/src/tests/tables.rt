@@ -64,32 +64,61 @@ from d=d";
 impl Asked for KeyTable {
     fn ask(&mut self, alloc: Global, mut words: Words<'_>, out: &mut Vec<u8>) -> Option<()> {
         match words.word() {
-            b"number" => put_place(alloc, out, self.number_of(&words.key(alloc)?)),
-            b"again" => {
-                let key = words.key(alloc)?;
-                let before = words.number_or_none();
-                let before = before.map(|number| number as usize);
-                put_place(alloc, out, self.number_again(&key, before))
-            }
-            b"add" => {
-                let key = words.key(alloc)?;
-                put_place(alloc, out, added(self, &key, words.number() as usize))
-            }
-            b"free" => put_place(alloc, out, freed(self, &words.key(alloc)?)),
-            b"key" => match self.key_of(words.number() as usize) {
-                None => put_place(alloc, out, None),
-                Some(key) => out.extend_from_slice(key.bytes()).ok(),
-            },
-            b"from" => {
-                let start = words.key(alloc)?;
-                for (key, _) in self.range_from(Bound::Included(&start)) {
-                    out.extend_from_slice(key.bytes()).ok()?;
-                }
-                Some(())
-            }
+            b"key" => put_bytes(alloc, out, self.key_of(words.number() as usize)),
             b"many" => put_number(alloc, out, many(alloc, self, words.number())?),
-            _ => None,
+            name => {
+                let key = words.key(alloc)?;
+                ask_of_key(alloc, self, name, &key, words.number_or_none(), out)
+            }
         }
+    }
+}
+
+/// Makes a call about a key, and a number if there is one.
+fn ask_of_key(
+    alloc: Global,
+    table: &mut KeyTable,
+    name: &[u8],
+    key: &Key,
+    number: Option<u64>,
+    out: &mut Vec<u8>,
+) -> Option<()> {
+    match name {
+        b"from" => put_from(out, table, key),
+        _ => put_place(alloc, out, place_of(table, name, key, number)?),
+    }
+}
+
+fn place_of(
+    table: &mut KeyTable,
+    name: &[u8],
+    key: &Key,
+    number: Option<u64>,
+) -> Option<Option<usize>> {
+    match name {
+        b"number" => Some(table.number_of(key)),
+        b"again" => Some(table.number_again(key, as_place(number))),
+        b"add" => Some(added(table, key, number.unwrap_or(0) as usize)),
+        b"free" => Some(freed(table, key)),
+        _ => None,
+    }
+}
+
+fn as_place(number: Option<u64>) -> Option<usize> {
+    Some(number? as usize)
+}
+
+fn put_from(out: &mut Vec<u8>, table: &KeyTable, start: &Key) -> Option<()> {
+    for (key, _) in table.range_from(Bound::Included(start)) {
+        out.extend_from_slice(key.bytes()).ok()?;
+    }
+    Some(())
+}
+
+fn put_bytes(alloc: Global, out: &mut Vec<u8>, key: Option<&Key>) -> Option<()> {
+    match key {
+        None => put_place(alloc, out, None),
+        Some(key) => out.extend_from_slice(key.bytes()).ok(),
     }
 }
 
@@ -144,13 +173,12 @@ fn is_found(table: &KeyTable, key: &Key) -> bool {
     }
 }
 
-/// A key of three bytes, or of thirty for every third number.
+/// A short key, or one that is too long to be held in place for every third number.
 fn key_at(alloc: Global, i: u64) -> Option<Key> {
-    let bytes = [b'k', (i / 200 % 200) as u8, (i % 200) as u8];
-    let times = if i % 3 == 0 { 10 } else { 1 };
-    let mut key = Vec::new(alloc);
-    for _ in 0..times {
-        key.extend_from_slice(&bytes).ok()?;
-    }
-    Key::new(alloc, &key).ok()
+    let text = if i % 3 == 0 {
+        format!(in alloc; "key of thirty letters, or more {i}")
+    } else {
+        format!(in alloc; "k{i}")
+    };
+    Key::new(alloc, text.ok()?.as_bytes()).ok()
 }

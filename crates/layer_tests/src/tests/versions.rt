@@ -2,7 +2,7 @@
 use super::script::{Asked, Words, put_number};
 use std::alloc::Global;
 use timestamps::{Key, Ts, Value};
-use version_chain::{Store, Wrote};
+use version_chain::{Store, VersionsAfter, Wrote};
 
 /// Scripts, each of a store. A `write` is of a delete. `commit` and `abort` are of all versions at a
 /// timestamp. `commit` says how many these are, and so does `holds`. `many` makes so many changes, from a timestamp on and so far apart. `newest` has the newest version of a key up to a timestamp,
@@ -360,7 +360,15 @@ fn follows(alloc: Global, store: &Store, words: &mut Words<'_>, out: &mut Vec<u8
     } else {
         Some(&first)
     };
-    let mut versions = store.versions_after(ts, key, through);
+    put_following(alloc, store, store.versions_after(ts, key, through), out)
+}
+
+fn put_following(
+    alloc: Global,
+    store: &Store,
+    mut versions: VersionsAfter<'_>,
+    out: &mut Vec<u8>,
+) -> Option<()> {
     for _ in 0..19 {
         let Some((at, found)) = versions.next() else {
             return Some(());
