@@ -134,13 +134,16 @@ told
 
 /// Whether each row of a history is told as it says.
 pub(super) fn tells(alloc: Global, history: &str) -> Option<bool> {
-    let mut engine = Engine::new(alloc);
+    tells_on(alloc, &mut Engine::new(alloc), history)
+}
+
+fn tells_on(alloc: Global, engine: &mut Engine, history: &str) -> Option<bool> {
     for part in history.split('@').skip(1) {
         let (script, rows) = part.split_once("told\n")?;
         let (_, script) = script.split_once('\n')?;
-        play(alloc, &mut engine, script)?;
+        play(alloc, engine, script)?;
         for row in rows.lines() {
-            if !is_told(alloc, &engine, row)? {
+            if !is_told(alloc, engine, row)? {
                 return Some(false);
             }
         }
@@ -153,16 +156,29 @@ fn is_told(alloc: Global, engine: &Engine, row: &str) -> Option<bool> {
     let (key, rest) = rest.split_once(' ')?;
     let (through, wanted) = rest.split_once(' ')?;
     let ts = ts.parse::<u64>().ok()?;
-    let key = if key == "-" {
-        None
-    } else {
-        Some(Key::new(alloc, key.as_bytes()).ok()?)
-    };
     let through = through.parse::<u64>().ok()?;
-    let row = engine.next_left(alloc, ts, key.as_ref(), through).ok()?;
-    match row {
-        None => Some(wanted == "-"),
-        Some(row) => is_row(&row, wanted),
+    if key == "-" {
+        return is_left(alloc, engine, ts, None, through, wanted);
+    }
+    match Key::new(alloc, key.as_bytes()) {
+        Ok(key) => is_left(alloc, engine, ts, Some(&key), through, wanted),
+        Err(_) => None,
+    }
+}
+
+/// Whether the row that is left behind a place through a timestamp is the one that is wanted.
+fn is_left(
+    alloc: Global,
+    engine: &Engine,
+    ts: u64,
+    key: Option<&Key>,
+    through: u64,
+    wanted: &str,
+) -> Option<bool> {
+    match engine.next_left(alloc, ts, key, through) {
+        Ok(None) => Some(wanted == "-"),
+        Ok(Some(row)) => is_row(&row, wanted),
+        Err(_) => None,
     }
 }
 

@@ -156,45 +156,64 @@ pub(super) fn are_as_told(
     asked: Asked,
     told: (&str, &str),
 ) -> Option<bool> {
-    let engine = engine_of(alloc, script)?;
-    let cmds = read_script(alloc, told.0.as_bytes(), 3, Format::One).ok()?;
+    let mut engine = Engine::new(alloc);
+    match play(alloc, &mut engine, script) {
+        Some(()) => are_told_by(alloc, &engine, asked, told),
+        None => None,
+    }
+}
+
+fn are_told_by(alloc: Global, engine: &Engine, asked: Asked, told: (&str, &str)) -> Option<bool> {
+    match read_script(alloc, told.0.as_bytes(), 3, Format::One) {
+        Ok(calls) => are_rows(engine, asked, &calls, told.1),
+        Err(_) => None,
+    }
+}
+
+fn are_rows(engine: &Engine, asked: Asked, calls: &[(u8, Cmd)], rows: &str) -> Option<bool> {
     let mut count = 0usize;
-    for ((seat, cmd), row) in cmds.iter().zip(told.1.lines()) {
+    for ((seat, cmd), row) in calls.iter().zip(rows.lines()) {
         let is_so = match asked {
-            Asked::Room => finds_room(&engine, cmd, row)?,
-            Asked::Long => is_long_as_told(&engine, *seat, cmd, row)?,
+            Asked::Room => finds_room(engine, cmd, row)?,
+            Asked::Long => is_long_as_told(engine, *seat, cmd, row)?,
         };
         if !is_so {
             return Some(false);
         }
         count = count.saturating_add(1);
     }
-    Some(count == cmds.len())
+    Some(count == calls.len())
 }
 
 /// Whether a scan of so many rows is too long, where their bytes are let through.
 pub(super) fn is_long_of_rows(alloc: Global, rows: u64) -> Option<bool> {
-    let mut engine = Engine::new(alloc);
-    play(alloc, &mut engine, "0 begin 10\n")?;
+    is_long_on(alloc, &mut Engine::new(alloc), rows)
+}
+
+fn is_long_on(alloc: Global, engine: &mut Engine, rows: u64) -> Option<bool> {
+    play(alloc, engine, "0 begin 10\n")?;
     for row in 0..rows {
-        let put = format!(in alloc; "0 put 10 k{row} -\n").ok()?;
-        play(alloc, &mut engine, put.as_str())?;
+        put_row(alloc, engine, row)?;
     }
-    let scans = read_script(alloc, b"0 scan 10 - -\n".as_slice(), 1, Format::One).ok()?;
-    let (seat, scan) = scans.first()?;
-    engine.is_long(*seat, scan, u64::MAX - 1).ok()
+    match read_script(alloc, b"0 scan 10 - -\n".as_slice(), 1, Format::One) {
+        Ok(scans) => is_long(engine, scans.first()?),
+        Err(_) => None,
+    }
+}
+
+fn put_row(alloc: Global, engine: &mut Engine, row: u64) -> Option<()> {
+    let put = format!(in alloc; "0 put 10 k{row} -\n").ok()?;
+    play(alloc, engine, put.as_str())
+}
+
+fn is_long(engine: &Engine, call: &(u8, Cmd)) -> Option<bool> {
+    engine.is_long(call.0, &call.1, u64::MAX - 1).ok()
 }
 
 fn is_long_as_told(engine: &Engine, seat: u8, cmd: &Cmd, row: &str) -> Option<bool> {
     let (most, wanted) = row.split_once(' ')?;
     let long = engine.is_long(seat, cmd, most.parse::<u64>().ok()?).ok()?;
     Some(long == (wanted == "yes"))
-}
-
-fn engine_of(alloc: Global, script: &str) -> Option<Engine> {
-    let mut engine = Engine::new(alloc);
-    play(alloc, &mut engine, script)?;
-    Some(engine)
 }
 
 fn finds_room(engine: &Engine, cmd: &Cmd, row: &str) -> Option<bool> {

@@ -30,8 +30,14 @@ pub(super) const FIRST: &str = "0 0 begin 10 => started
 
 /// Lets an engine answer each line of a script.
 pub(super) fn play(alloc: Global, engine: &mut Engine, script: &str) -> Option<()> {
-    let calls = read_script(alloc, script.as_bytes(), 3, Format::One).ok()?;
-    for (seat, cmd) in &calls {
+    match read_script(alloc, script.as_bytes(), 3, Format::One) {
+        Ok(calls) => play_each(engine, &calls),
+        Err(_) => None,
+    }
+}
+
+fn play_each(engine: &mut Engine, calls: &[(u8, Cmd)]) -> Option<()> {
+    for (seat, cmd) in calls {
         if engine.steps() == u64::MAX {
             return None;
         }
@@ -43,12 +49,25 @@ pub(super) fn play(alloc: Global, engine: &mut Engine, script: &str) -> Option<(
 /// How many steps the engine has made that ran a transcript's calls, if exactly the transcript came of them.
 pub(super) fn steps(alloc: Global, transcript: &str) -> Option<u64> {
     let wanted = read_transcript(alloc, transcript.as_bytes(), Format::One).ok()?;
-    let calls = calls(alloc, wanted).ok()?;
-    let (engine, events) = Engine::run(alloc, calls).ok()?;
-    if text(alloc, &events).ok()?.as_slice() != transcript.as_bytes() {
-        return None;
+    match Engine::run(alloc, calls(alloc, wanted).ok()?) {
+        Ok((engine, events)) => steps_of(alloc, &engine, &events, transcript),
+        Err(_) => None,
     }
-    Some(engine.steps())
+}
+
+fn steps_of(alloc: Global, engine: &Engine, events: &[Event], transcript: &str) -> Option<u64> {
+    if is_text(alloc, events, transcript) {
+        Some(engine.steps())
+    } else {
+        None
+    }
+}
+
+fn is_text(alloc: Global, events: &[Event], transcript: &str) -> bool {
+    match text(alloc, events) {
+        Ok(text) => text.as_slice() == transcript.as_bytes(),
+        Err(_) => false,
+    }
 }
 
 /// The seats and commands of events.

@@ -31,17 +31,35 @@ pub(super) fn is_answered(
 /// A replica with rows to begin with, or the number of the fault.
 fn begin(alloc: Global, words: &mut Words<'_>) -> Option<(Option<Replica>, u8)> {
     let span = words.span(alloc)?;
-    let cursor = words.number()?;
+    match (words.number(), rows(alloc, words)) {
+        (Some(cursor), Some(rows)) => Some(begun(Replica::new(alloc, span, cursor, rows))),
+        _ => None,
+    }
+}
+
+fn begun(made: Result<Replica, Fault>) -> (Option<Replica>, u8) {
+    match made {
+        Ok(replica) => (Some(replica), 0),
+        Err(fault) => (None, fault.code()),
+    }
+}
+
+/// Two rows at most.
+fn rows(alloc: Global, words: &mut Words<'_>) -> Option<Vec<(Key, Value)>> {
     let mut rows = Vec::new(alloc);
     for _ in 0..2 {
-        if let Ok(key) = Key::new(alloc, words.word().as_bytes()) {
-            let value = Value::new(alloc, words.word().as_bytes()).ok()?;
-            rows.push((key, value)).ok()?;
-        }
+        put_row(alloc, &mut rows, words)?;
     }
-    match Replica::new(alloc, span, cursor, rows) {
-        Ok(replica) => Some((Some(replica), 0)),
-        Err(fault) => Some((None, fault.code())),
+    Some(rows)
+}
+
+fn put_row(alloc: Global, rows: &mut Vec<(Key, Value)>, words: &mut Words<'_>) -> Option<()> {
+    match Key::new(alloc, words.word().as_bytes()) {
+        Ok(key) => {
+            let value = Value::new(alloc, words.word().as_bytes()).ok()?;
+            rows.push((key, value)).ok()
+        }
+        Err(_) => Some(()),
     }
 }
 

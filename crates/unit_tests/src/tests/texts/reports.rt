@@ -21,58 +21,97 @@ pub(super) const REPORTS: &str =
 pub(super) fn reports(alloc: Global) -> Result<Vec<u8>, Fail> {
     let mut out = Vec::new(alloc);
     write_report(&undecided(alloc)?, &mut out)?;
-    write_report(&tied(alloc)?, &mut out)?;
-    write_report(&in_snapshot(alloc)?, &mut out)?;
+    write_report(&tied(alloc, feed_three(alloc)?)?, &mut out)?;
+    write_report(&in_snapshot(alloc, initial_feed(alloc)?)?, &mut out)?;
     Ok(out)
 }
 
 /// A live report of two transactions.
 fn undecided(alloc: Global) -> Result<Report, AllocError> {
-    let mut report = empty(alloc, 11, 0, 3, None);
-    for (timestamp, seat, keys) in [(12, 5, 0), (20, 3, 2)] {
-        report.transactions.push(TransactionReport {
-            timestamp,
-            seat,
-            keys,
-        })?;
-    }
-    Ok(report)
+    let begun = TransactionReport {
+        timestamp: 12,
+        seat: 5,
+        keys: 0,
+    };
+    let writing = TransactionReport {
+        timestamp: 20,
+        seat: 3,
+        keys: 2,
+    };
+    let transactions = Vec::from_array(alloc, [begun, writing])?;
+    Ok(Report {
+        closed: 11,
+        horizon: 0,
+        versions: 3,
+        removable: None,
+        transactions,
+        protections: Vec::new(alloc),
+        feeds: Vec::new(alloc),
+    })
 }
 
 /// A whole report of two protections and a feed.
-fn tied(alloc: Global) -> Result<Report, Fail> {
-    let mut report = empty(alloc, 10, 0, 5, Some(3));
-    for number in [2, 3] {
-        report.protections.push(ProtectionReport {
-            number,
-            timestamp: 6,
-        })?;
-    }
-    report.feeds.push(FeedReport {
+fn tied(alloc: Global, feed: FeedReport) -> Result<Report, AllocError> {
+    let one = ProtectionReport {
+        number: 2,
+        timestamp: 6,
+    };
+    let other = ProtectionReport {
+        number: 3,
+        timestamp: 6,
+    };
+    let protections = Vec::from_array(alloc, [one, other])?;
+    whole(alloc, 10, 0, 3, protections, feed)
+}
+
+/// A whole report of an initial feed that was told two rows of three.
+fn in_snapshot(alloc: Global, feed: FeedReport) -> Result<Report, AllocError> {
+    whole(alloc, 9, 7, 0, Vec::new(alloc), feed)
+}
+
+/// A whole report of five versions and a feed, where it is closed, its horizon, and how many versions can go.
+fn whole(
+    alloc: Global,
+    closed: u64,
+    horizon: u64,
+    removable: u64,
+    protections: Vec<ProtectionReport>,
+    feed: FeedReport,
+) -> Result<Report, AllocError> {
+    let feeds = Vec::from_array(alloc, [feed])?;
+    Ok(Report {
+        closed,
+        horizon,
+        versions: 5,
+        removable: Some(removable),
+        transactions: Vec::new(alloc),
+        protections,
+        feeds,
+    })
+}
+
+fn feed_three(alloc: Global) -> Result<FeedReport, Fail> {
+    let hi = Some(Bound::new(alloc, b"c")?);
+    Ok(FeedReport {
         number: 3,
         seat: 1,
         kind: Kind {
             initial: false,
             gap: Some(4),
         },
-        span: Span {
-            lo: None,
-            hi: Some(Bound::new(alloc, b"c")?),
-        },
+        span: Span { lo: None, hi },
         cursor: 6,
         row: None,
         resolved: None,
         complete: Some(6),
         floor: 6,
         untold: Some(1),
-    })?;
-    Ok(report)
+    })
 }
 
-/// A whole report of an initial feed that was told two rows of three.
-fn in_snapshot(alloc: Global) -> Result<Report, Fail> {
-    let mut report = empty(alloc, 9, 7, 5, Some(0));
-    report.feeds.push(FeedReport {
+fn initial_feed(alloc: Global) -> Result<FeedReport, Fail> {
+    let key = Key::new(alloc, b"b")?;
+    Ok(FeedReport {
         number: 1,
         seat: 1,
         kind: Kind {
@@ -81,32 +120,10 @@ fn in_snapshot(alloc: Global) -> Result<Report, Fail> {
         },
         span: Span { lo: None, hi: None },
         cursor: 7,
-        row: Some(ToldRow {
-            ts: 7,
-            key: Key::new(alloc, b"b")?,
-        }),
+        row: Some(ToldRow { ts: 7, key }),
         resolved: None,
         complete: None,
         floor: 7,
         untold: Some(3),
-    })?;
-    Ok(report)
-}
-
-fn empty(
-    alloc: Global,
-    closed: u64,
-    horizon: u64,
-    versions: u64,
-    removable: Option<u64>,
-) -> Report {
-    Report {
-        closed,
-        horizon,
-        versions,
-        removable,
-        transactions: Vec::new(alloc),
-        protections: Vec::new(alloc),
-        feeds: Vec::new(alloc),
-    }
+    })
 }

@@ -97,20 +97,23 @@ fn of_script(alloc: Global, text: &[u8], seats: u8, format: Format) -> Told {
 fn of_transcript(alloc: Global, text: &[u8], format: Format) -> Told {
     match read_transcript(alloc, text, format) {
         Err(error) => told_of_lines(error),
-        Ok(events) => {
-            let mut out = Vec::new(alloc);
-            let mut echoed = Vec::new(alloc);
-            let _ = out.extend_from_slice(format.header());
-            let _ = echoed.extend_from_slice(format.header());
-            for event in &events {
-                let _ = write_event(&mut out, event);
-                let _ = echo(alloc, &mut echoed, event);
-            }
-            if echoed.as_slice() != text {
-                return (0, 102);
-            }
-            told_back(&out, text)
-        }
+        Ok(events) => told_of_events(alloc, &events, text, format),
+    }
+}
+
+fn told_of_events(alloc: Global, events: &[Event], text: &[u8], format: Format) -> Told {
+    let mut out = Vec::new(alloc);
+    let mut echoed = Vec::new(alloc);
+    let _ = out.extend_from_slice(format.header());
+    let _ = echoed.extend_from_slice(format.header());
+    for event in events {
+        let _ = write_event(&mut out, event);
+        let _ = echo(alloc, &mut echoed, event);
+    }
+    if echoed.as_slice() == text {
+        told_back(&out, text)
+    } else {
+        (0, 102)
     }
 }
 
@@ -157,12 +160,16 @@ pub(super) fn spelled(alloc: Global) -> Result<Vec<u8>, AllocError> {
 pub(super) fn vectors(alloc: Global) -> Result<Vec<u8>, AllocError> {
     let mut out = Vec::from_slice(alloc, b"before ")?;
     for bytes in rows::KEYS {
-        let Some(message) = delete_of(alloc, bytes) else {
-            return Ok(out);
-        };
-        write_message_line(&mut out, &message)?;
+        put_delete(alloc, &mut out, bytes)?;
     }
     Ok(out)
+}
+
+fn put_delete(alloc: Global, out: &mut Vec<u8>, key: &[u8]) -> Result<(), AllocError> {
+    match delete_of(alloc, key) {
+        Some(message) => write_message_line(out, &message),
+        None => Ok(()),
+    }
 }
 
 /// A delete of a key at 7.
