@@ -89,15 +89,14 @@ def follows(port: int, until: float) -> Waited:
     found, wire = [], Wire(port, timeout=SILENCE)
     wire.ask("GET", "/feed?lo=told&hi=tole", bearer(FOLLOW))
     assert wire.head()[0] == 200
-    while True:
-        try:
+    last = until
+    while time.monotonic() < max(last, until) + SILENCE:
+        with contextlib.suppress(TimeoutError):
             line = wire.until(b"\n")
-        except TimeoutError:
-            if time.monotonic() > until:
-                return Waited(sorted(found))
-            continue
-        if line.startswith(b'{"after"'):
-            found.append(time.monotonic() - float(base64.b64decode(json.loads(line)["after"])))
+            if line.startswith(b'{"after"'):
+                last = time.monotonic()
+                found.append(last - float(base64.b64decode(json.loads(line)["after"])))
+    return Waited(sorted(found))
 
 
 @contextlib.contextmanager

@@ -468,8 +468,9 @@ mod tests {
     #[ignore = "it ends its process"]
     fn panics_while_nobody_reads_standard_error() {
         end_at_a_panic();
+        // So that the pipe's pages are full to their last bytes.
         thread::spawn(|| loop {
-            eprintln!("{}", "x".repeat(4096));
+            eprint!("{}", "x".repeat(64));
         });
         thread::sleep(Duration::from_millis(500));
         panic!("nobody reads this");

@@ -427,8 +427,8 @@ mod tests {
             socket.set_read_timeout(Some(Duration::from_millis(time))).expect("a time");
             socket.recv(&mut room).ok().map(|length| room[..length].to_vec())
         };
-        let ((held, is_held), (free, is_free)) = (mpsc::channel(), mpsc::channel::<()>());
         thread::scope(|scope| {
+            let ((held, is_held), (free, is_free)) = (mpsc::channel(), mpsc::channel::<()>());
             let door = &server.door;
             scope.spawn(move || {
                 door.run(|_| {

@@ -460,7 +460,9 @@ fn who_may_only_read_holds_up_commits_for_half_a_second() {
         ([0; 2].map(|_| take(&[Right::Read])), take(&[Right::Read, Right::Write]));
     say(&mut core, &mut reader, "begin\n");
     let later = |core: &mut Core, age| {
-        (0..2).for_each(|_| drop(core.settle(Instant::now() + age)));
+        for _ in 0..2 {
+            core.settle(Instant::now() + age);
+        }
         (core.ledger.undecided.keys().copied().collect::<Vec<u64>>(), core.ledger.closed)
     };
     // Nobody waits for it.
