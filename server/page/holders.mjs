@@ -136,7 +136,7 @@ function sentencesOf({ server, transaction }, items) {
   return [
     { key: "closed", html: markup`<li><em class="closed">Closed</em> is ${closed}${waits}</li>` },
     { key: "horizon", html: markup`<li><em class="horizon">The horizon</em> is ${horizon}.
-      ${keeps ?? "Nothing keeps it below closed."}</li>` },
+      ${keeps ?? "No reader keeps it below closed: only --history does."}</li>` },
   ];
 }
 

@@ -5,6 +5,7 @@ import static java.nio.charset.StandardCharsets.UTF_8;
 import java.io.BufferedReader;
 import java.io.InputStreamReader;
 import java.io.PrintStream;
+import java.nio.file.Path;
 import java.time.Duration;
 import java.util.ArrayList;
 import java.util.List;
@@ -33,12 +34,17 @@ public final class Driver {
         }
     }
 
-    private static Client connected(Map<String, Object> call) {
+    private static Client connected(Map<String, Object> call) throws Exception {
         Options options = new Options().token((String) call.get("token")).identity((String) call.get("identity"));
         if (call.get("timeout") instanceof Number seconds) {
             options.timeout(Duration.ofMillis((long) (1000 * seconds.doubleValue())));
         }
-        return Client.connect(Json.string(call.get("connect")), options);
+        String urls = Json.string(call.get("connect"));
+        String trusted = System.getenv("SSL_CERT_FILE");
+        if (trusted != null && urls.startsWith("https")) {
+            options.trusted(Path.of(trusted));
+        }
+        return Client.connect(urls, options);
     }
 
     private static Map<String, Object> reply(Client db, Map<String, Object> call) {

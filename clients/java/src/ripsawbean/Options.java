@@ -1,9 +1,18 @@
 package ripsawbean;
 
+import java.io.IOException;
+import java.io.InputStream;
+import java.nio.file.Files;
+import java.nio.file.Path;
+import java.security.GeneralSecurityException;
+import java.security.KeyStore;
+import java.security.cert.Certificate;
+import java.security.cert.CertificateFactory;
 import java.time.Duration;
 import javax.net.ssl.SSLContext;
+import javax.net.ssl.TrustManagerFactory;
 
-/** How a client connects: {@code new Options().token(".." ).timeout(..)}. */
+/** How a client connects: {@code new Options().token("..").timeout(..)}. */
 public final class Options {
     String token;
     String identity;
@@ -32,5 +41,21 @@ public final class Options {
     public Options context(SSLContext context) {
         this.context = context;
         return this;
+    }
+
+    /** The certificates of a file as openssl writes it are trusted, and no others. */
+    public Options trusted(Path file) throws IOException, GeneralSecurityException {
+        KeyStore trusted = KeyStore.getInstance(KeyStore.getDefaultType());
+        trusted.load(null, null);
+        try (InputStream certificates = Files.newInputStream(file)) {
+            for (Certificate one : CertificateFactory.getInstance("X.509").generateCertificates(certificates)) {
+                trusted.setCertificateEntry(Integer.toString(trusted.size()), one);
+            }
+        }
+        TrustManagerFactory managers = TrustManagerFactory.getInstance(TrustManagerFactory.getDefaultAlgorithm());
+        managers.init(trusted);
+        SSLContext made = SSLContext.getInstance("TLS");
+        made.init(null, managers.getTrustManagers(), null);
+        return context(made);
     }
 }
