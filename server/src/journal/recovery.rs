@@ -283,16 +283,16 @@ impl Reading {
             count += 1;
         }
         let taken = self.take_batches(&mut batches, &name, &mut count, gap);
+        let (found, wanted) = (batches.identity().to_string(), &self.told.identity);
+        if !wanted.is_empty() && !found.is_empty() && found != *wanted {
+            return Err(Failure::OtherDatabase { name, found, wanted: wanted.clone() });
+        }
         if taken.is_err() && count == 0 {
             return taken;
         }
         (self.last, self.whole, self.torn) = (series, batches.whole(), batches.torn());
         self.mark = (count > 0).then_some(Mark { count, reached: batches.reached(), mark: self.told.mark });
-        let Some((number, chain)) = batches.last() else { return Ok(false) };
-        let (found, wanted) = (batches.identity().to_string(), &self.told.identity);
-        if !wanted.is_empty() && found != *wanted {
-            return Err(Failure::OtherDatabase { name, found, wanted: wanted.clone() });
-        }
+        let Some((number, chain)) = batches.last() else { return taken };
         self.told.identity = found;
         self.position = (series.kind == Kind::Journal).then_some(Position { series, number, chain, mark: 0, bytes: 0 });
         taken

@@ -142,7 +142,7 @@ mod tests {
             (&["sslrootcert=/ca"], "is prefer or require"),
             (&["sslmode=require", "sslcert=/a"], "belong together"),
             (&["sslmode=verify-ca", "sslrootcert=/not%20there"], "/not there can't be read"),
-            (&["sslmode=require", "sslcrl=/a"], "sslcrl isn't known"),
+            (&["sslmode=require", "sslcrl=/a"], "sslcrl=/a isn't known"),
             (&["sslmode=%zz"], "isn't known"),
         ] {
             let said = Tls::of(words).err().expect("it is refused").to_string();
