@@ -284,7 +284,7 @@ impl Reading {
         }
         let taken = self.take_batches(&mut batches, &name, &mut count, gap);
         let (found, wanted) = (batches.identity().to_string(), &self.told.identity);
-        if !wanted.is_empty() && !found.is_empty() && found != *wanted {
+        if batches.last().is_some() && !wanted.is_empty() && found != *wanted {
             return Err(Failure::OtherDatabase { name, found, wanted: wanted.clone() });
         }
         if taken.is_err() && count == 0 {
