@@ -1,0 +1,92 @@
+"""What was asked of two servers, told by the clock: part of `server/test failover`.
+
+One history has one order, and whoever was answered comes before whoever asks later. So what is read is no less than
+what was acknowledged before it was asked, and than what was read before. And no server answers between two answers of
+another one that wasn't started anew.
+"""
+
+import bisect
+import collections
+import json
+from typing import Any
+
+Line = dict[str, Any]
+
+
+def lines_of(file: str) -> list[Line]:
+    with open(file) as log:
+        return [json.loads(line) for line in log if line.endswith("\n")]
+
+
+class Least:
+    """The most that is known of a count from a time on."""
+
+    def __init__(self, known: list[tuple[float, int]]):
+        self.times, self.most = [0.0], [0]
+        for told, number in sorted(known):
+            self.times.append(told)
+            self.most.append(max(self.most[-1], number))
+
+    def before(self, asked: float) -> int:
+        return self.most[bisect.bisect_left(self.times, asked) - 1]
+
+
+def stale(lines: list[Line]) -> list[str]:
+    """Reads that lack what was known before they were asked."""
+    known: dict[str, list[tuple[float, int]]] = collections.defaultdict(list)
+    for one in lines:
+        for count, number in [(one["at"], one["number"])] if one["is"] == "wrote" else one["numbers"].items():
+            known[count].append((one["told"], number))
+    least = {count: Least(those) for count, those in known.items()}
+    faults = []
+    for one in (one for one in lines if one["is"] == "read"):
+        for count, those in least.items():
+            found, wanted = one["numbers"].get(count, 0), those.before(one["asked"])
+            if found < wanted:
+                faults.append("%s was asked at %.3f and told %d of %s, and %d was known" % (one["at"], one["asked"], found, count, wanted))
+    return faults
+
+
+def side_by_side(lines: list[Line], starts: dict[str, list[float]]) -> list[str]:
+    """Answers of one life of a server that lie between two answers of another one's."""
+    lives: dict[tuple[str, int], list[tuple[float, float]]] = collections.defaultdict(list)
+    for one in lines:
+        first, last = (bisect.bisect_right(starts[one["at"]], one[it]) for it in ("asked", "told"))
+        if first == last:
+            lives[one["at"], first].append((one["asked"], one["told"]))
+    spans = {life: (min(told for _, told in those), max(asked for asked, _ in those)) for life, those in lives.items()}
+    faults = []
+    for life, (first, last) in spans.items():
+        for other, those in lives.items():
+            within = [it for it in those if first <= it[0] and it[1] <= last] if other[0] != life[0] else []
+            if within:
+                faults.append("%s has answered %d times, as at %.3f, while %s did, from %.3f to %.3f" % (
+                    other[0], len(within), within[0][0], life[0], first, last))
+    return faults
+
+
+class Followed:
+    """The acknowledgements in a log that still grows."""
+
+    def __init__(self, file: str):
+        self.file, self.read = file, 0
+        self.told: list[tuple[float, float]] = []  # when asked, and when told, in the order of the latter
+
+    def first(self, since: float) -> float | None:
+        """When the first request was acknowledged that was sent after a time."""
+        with open(self.file, "rb") as log:
+            log.seek(self.read)
+            text = log.read()
+        text = text[: text.rfind(b"\n") + 1]
+        self.read += len(text)
+        for line in text.splitlines():
+            if b'"wrote"' in line:
+                one = json.loads(line)
+                self.told.append((one["asked"], one["told"]))
+        found = None
+        for asked, told in reversed(self.told):
+            if told <= since:
+                break
+            if asked > since:
+                found = told
+        return found
