@@ -56,6 +56,7 @@ class FailoverLoad(DurableLoad):
         self.room.start(self.room.script("probe", "failover_probe.py", self.asked, TOKEN, *pair.hosts))
         self.room.start(self.room.script("committer", "failover_committer.py", self.committed, *pair.cluster.addresses()))
         self.answers, self.commits = Followed(self.asked), Followed(self.committed)
+        wait_for(lambda: self.answers.first(0) and self.commits.first(0), "the first commits")
         self.kills = collections.Counter()
         deck, end = dealt(self.dice, pair.network.is_real), time.monotonic() + seconds
         for number in range(wanted):

@@ -33,12 +33,14 @@ frontend door
 class Served(Part):
     """A server, which is started again a second after its end, as its unit does."""
 
-    def __init__(self, room: Room, machine: Machine, data: str, options: tuple[str, ...]):
+    def __init__(self, room: Room, machine: Machine, *options: str):
         self.machine, self.is_over = machine, False
         self.starts: list[float] = []  # by the clock of all processes of this machine
         self.host = "%s:%d" % (machine.address, PORT)
-        words = [SERVER, "--address", machine.address, "--port", str(PORT), "--token", room.file("token"), "--data", data, *options]
-        self.program = Program(room.path, "server-" + machine.name, [*machine.inside, *words], env={**os.environ, "MALLOC_ARENA_MAX": "1"})
+        at = "0.0.0.0" if machine.network.is_real else machine.address
+        words = ["--address", at, "--port", str(PORT), "--token", room.file("token"), "--host", self.host, *options]
+        self.program = Program(room.path, "server-" + machine.name, [*machine.inside, SERVER, *words],
+                               env={**os.environ, "MALLOC_ARENA_MAX": "1"})
         self.thread = threading.Thread(target=self.run, daemon=True)
 
     def run(self) -> None:
@@ -91,7 +93,8 @@ class Pair(Server):
             file.write(TOKEN + "\n")
         data = "postgresql://test@%s/postgres?target_session_attrs=read-write" % ",".join(self.cluster.addresses())
         machines = [self.network.machine(name) for name in ("one", "two")]
-        self.servers = {it.name: Served(room, it, data, options) for it in machines}
+        names = ("--host", "127.0.0.1:%d" % self.port, "--host", "%s:%d" % (SHARED, PORT))
+        self.servers = {it.name: Served(room, it, "--data", data, *names, *options) for it in machines}
         self.front = Program(room.path, "haproxy", ["haproxy", "-db", "-f", self.configured("haproxy.cfg"), "-f", room.file("door")])
         with open(room.file("door"), "w") as file:
             file.write(DOOR % (self.port, TOKEN))

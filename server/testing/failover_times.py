@@ -35,15 +35,13 @@ def stale(lines: list[Line]) -> list[str]:
     """Reads that lack what was known before they were asked."""
     known: dict[str, list[tuple[float, int]]] = collections.defaultdict(list)
     for one in lines:
-        for count, number in [(one["at"], one["number"])] if one["is"] == "wrote" else one["numbers"].items():
-            known[count].append((one["told"], number))
+        known[one["count"]].append((one["told"], one["number"]))
     least = {count: Least(those) for count, those in known.items()}
     faults = []
     for one in (one for one in lines if one["is"] == "read"):
-        for count, those in least.items():
-            found, wanted = one["numbers"].get(count, 0), those.before(one["asked"])
-            if found < wanted:
-                faults.append("%s was asked at %.3f and told %d of %s, and %d was known" % (one["at"], one["asked"], found, count, wanted))
+        wanted = least[one["count"]].before(one["asked"])
+        if one["number"] < wanted:
+            faults.append("%s was asked at %.3f and told %d, and %d was known" % (one["at"], one["asked"], one["number"], wanted))
     return faults
 
 
@@ -70,6 +68,7 @@ class Followed:
 
     def __init__(self, file: str):
         self.file, self.read = file, 0
+        open(file, "a").close()
         self.told: list[tuple[float, float]] = []  # when asked, and when told, in the order of the latter
 
     def first(self, since: float) -> float | None:
