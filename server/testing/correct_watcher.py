@@ -2,7 +2,7 @@
 """Who watches in the correctness load: correct_watcher.py PORT LOG feed|snapshot SEED LO HI [GAP] until it is killed.
 
 `feed` follows a span and writes each line as it came, behind a line `{"opened": {..}}` for each stream. After a cut it
-begins anew, or goes on from the last resolved timestamp. `snapshot` protects a closed timestamp, scans the rows of the span
+begins anew, or goes on from the last resolved timestamp. `snapshot` protects a closed timestamp, scans the span's rows
 there, and writes their digest.
 """
 

@@ -10,14 +10,16 @@ Then comes a control, of servers whose owner believes in a lease that the other 
 
 import argparse
 import collections
+import signal
 import time
-from typing import Any
+from collections.abc import Sequence
 
 from correct import SPANS, Size, judge
 from durable import OPTIONS, DurableLoad
 from durable_servers import DurableServer
 from failover_clients import Clients
-from failover_faults import APART, FROZEN, SILENT, Fault, Kind, dealt, kinds
+from failover_faults import APART, FROZEN, HANDED, OWNER, SILENT, Fault, Kind, dealt, kinds
+from failover_machines import is_real, signal_all
 from failover_outages import Outage, summed
 from failover_pair import TOKEN, Pair
 from failover_times import Followed, lines_of, side_by_side, stale
@@ -25,8 +27,7 @@ from handmade import Session, fill
 from machine import Server, wait_for
 from tally import Tally
 
-LONGEST_FAULT, LONGEST_OUTAGE = 40, 90  # seconds
-WAKES_EARLY = 0.25  # the share of what is frozen or silent that comes back by the clock, whether or not another took over
+LONGEST_FAULT, LONGEST_OUTAGE, LONGEST_CHANGE = 40, 90, 10  # seconds
 KEYS = ("key/", "key0")
 BULK = "bulk/"
 SMALL = Size(4, 5, 1, 2)
@@ -35,14 +36,15 @@ SMALL = Size(4, 5, 1, 2)
 class FailoverLoad(DurableLoad):
     spans = tuple((KEYS[0] if lo == "-" else lo, KEYS[1] if hi == "-" else hi) for lo, hi in SPANS)
     rows = 0
-    options: tuple[str, ...] = ()
+    of_first: tuple[str, ...] = ()  # options of the first server alone
     given: tuple[Kind, ...] = ()
+    wakes_early = 0.25  # the share of what is frozen or silent that comes back by the clock, whoever serves
     say = staticmethod(print)
 
     def make_server(self) -> Server:
         self.identities: set[str] = set()
         self.outages: list[Outage] = []
-        return Pair(self.room, *OPTIONS, "--checkpoint-bytes", str(max(600_000, 100 * self.rows)), *self.options)
+        return Pair(self.room, self.of_first, *OPTIONS, "--checkpoint-bytes", str(max(600_000, 100 * self.rows)))
 
     def choose_disk(self, server: DurableServer) -> None:
         pass
@@ -53,10 +55,10 @@ class FailoverLoad(DurableLoad):
             fill(Session(pair.port), BULK, self.rows)
         self.clients = Clients(pair, self.room.path)
         self.asked, self.committed = self.room.file("asked"), self.room.file("committed")
-        self.room.start(self.room.script("probe", "failover_probe.py", self.asked, TOKEN, *pair.hosts))
+        self.room.start(self.room.script("probe", "failover_probe.py", self.asked, TOKEN, *pair.hosts, *pair.fronts.values()))
         self.room.start(self.room.script("committer", "failover_committer.py", self.committed, *pair.cluster.addresses()))
         self.answers, self.commits = Followed(self.asked), Followed(self.committed)
-        wait_for(lambda: self.answers.first(0) and self.commits.first(0), "the first commits")
+        wait_for(lambda: self.answers.first(0, pair.hosts) and self.commits.first(0, pair.cluster.addresses()), "the first commits")
         self.kills = collections.Counter()
         deck, end = dealt(self.dice, pair.network.is_real), time.monotonic() + seconds
         for number in range(wanted):
@@ -82,30 +84,43 @@ class FailoverLoad(DurableLoad):
         return wait_for(pair.owner, "a server that answers")
 
     def suffer(self, kind: Kind) -> Outage:
-        owner = self.ready()
+        pair, owner = self.server, self.ready()
         time.sleep(self.dice.uniform(0.2, 1.5))
-        fault = Fault(self.server, kind, owner, self.dice)
-        wakes = kind.how in (FROZEN, SILENT, APART) and self.dice.random() < WAKES_EARLY
+        fault = Fault(pair, kind, owner, self.dice)
+        if kind.how == HANDED:
+            return self.hand_over(fault)
+        wakes = kind.how in (FROZEN, SILENT, APART) and self.dice.random() < self.wakes_early
         fault.begin()
-        began = time.monotonic()
+        since = time.monotonic()
         lasts = self.dice.uniform(0.5, 14) if wakes else LONGEST_FAULT
-        back = self.back_within(began, began + lasts)
+        back, is_mended = self.back_within(since, since + lasts, pair.hosts), False
         if back is not None and not wakes:
             time.sleep(self.dice.uniform(0.5, 3))
         fault.mend()
-        mended = time.monotonic()
-        since = began if back is not None else mended
         if back is None:
-            back = self.back_within(mended, mended + LONGEST_OUTAGE)
+            since, is_mended = time.monotonic(), True
+            back = self.back_within(since, since + LONGEST_OUTAGE, pair.hosts)
         if back is None:
-            raise TimeoutError("no commit in %d seconds: %s" % (LONGEST_OUTAGE, self.server.tail()))
-        commits = self.commits.first(since)
-        return Outage(kind, back - since, commits and commits - since, since == mended)
+            raise TimeoutError("no commit in %d seconds: %s" % (LONGEST_OUTAGE, pair.tail()))
+        commits = self.commits.first(since, pair.cluster.addresses())
+        fronts = {name: self.back_within(since, back + LONGEST_FAULT, [host]) for name, host in pair.fronts.items()}
+        self.faults += ["%s: nothing by %s" % (kind, name) for name, told in fronts.items() if told is None]
+        after = {name: told - since for name, told in [("a server", back), ("PostgreSQL", commits), *fronts.items()] if told}
+        return Outage(kind, after, is_mended)
 
-    def back_within(self, since: float, until: float) -> float | None:
+    def hand_over(self, fault: Fault) -> Outage:
+        """Of what is planned the longest pause is told."""
+        pair, since = self.server, time.monotonic()
+        fault.begin()
+        time.sleep(LONGEST_CHANGE)
+        asked = {"a server": pair.hosts, **{name: [host] for name, host in pair.fronts.items()}}
+        after = {name: self.answers.pause(since, hosts) for name, hosts in asked.items()}
+        return Outage(fault.kind, {**after, "PostgreSQL": self.commits.pause(since, pair.cluster.addresses())}, False)
+
+    def back_within(self, since: float, until: float, hosts: Sequence[str]) -> float | None:
         """When the first request was acknowledged that was sent after a time."""
         while True:
-            found = self.answers.first(since)
+            found = self.answers.first(since, hosts)
             if found is not None or time.monotonic() > until:
                 return found
             time.sleep(0.02)
@@ -123,37 +138,43 @@ class FailoverLoad(DurableLoad):
         return rows
 
 
-def tried(given: argparse.Namespace, tally: Tally, name: str, make: type[FailoverLoad], is_control: bool) -> None:
-    """One load, and what is told of it. Of a control, faults are what it is for."""
-    loads: list[FailoverLoad] = []
+class Leaseless(FailoverLoad):
+    """The server that answers first believes in its lease for an hour, and who follows it waits for two seconds."""
 
-    class Told(make):  # type: ignore[valid-type, misc]
-        def __init__(self, *words: Any):
-            super().__init__(*words)
-            loads.append(self)
+    of_first = ("--lease", "3600")
+    given = (Kind(FROZEN, (OWNER,)),)
+    wakes_early = 0.0
+    rows = 0
 
-    verdict = judge(SMALL, given.faults, given.seed, 120 + 60 * given.faults, make=Told)
-    load = loads[0]
-    if is_control:
-        tally.told(name, [] if verdict.faults else ["nothing was noticed"], "%d faults, as %.300s" % (len(verdict.faults), verdict.faults[:2]))
-        return
-    for line in summed(load.outages):
-        tally.say(line)
-    tally.told("%d faults, compared with the serial model" % len(load.outages), verdict.faults + ["nothing was compared"] * verdict.is_empty(), verdict.told())
+    def ready(self) -> str:
+        """The second one hands over, so that the first one, whose lease is long, waits for nothing."""
+        while (owner := super().ready()) != "one":
+            signal_all(self.server.servers[owner].pids(), signal.SIGTERM)
+            wait_for(lambda: self.server.owner() == "one", "the first server")
+        return owner
 
 
 def main(words: list[str]) -> Tally:
     parser = argparse.ArgumentParser(prog="server/test failover", description="Whether a machine may go.")
     parser.add_argument("--faults", type=int, default=30, metavar="N", help="how many faults there are (30)")
     parser.add_argument("--seed", type=int, default=int(time.time()), metavar="N", help="draws what goes when")
-    parser.add_argument("--rows", type=int, default=1_000_000, metavar="N", help="how many versions the database has (1000000)")
-    parser.add_argument("--option", action="append", default=[], metavar="WORD", help="a further word of the servers' command lines")
-    parser.add_argument("--kind", action="append", default=[], metavar="WORDS", help="only faults with these words in their name")
-    parser.add_argument("--control", type=int, default=1, metavar="N", help="0 leaves the control out")
+    parser.add_argument("--rows", type=int, default=1_000_000, metavar="N", help="versions that the database has (1000000)")
+    parser.add_argument("--kind", action="append", default=[], metavar="WORDS", help="faults with these words in their name")
+    parser.add_argument("--control", type=int, default=3, metavar="N", help="faults of the control; 0 leaves it out (3)")
     parser.add_argument("program", metavar="MVFEED", help="not needed here")
     given, tally = parser.parse_args(words), Tally("failover")
-    FailoverLoad.rows, FailoverLoad.options = given.rows, tuple(given.option)
+    tally.say("failover: seed %d%s" % (given.seed, "" if is_real() else ", and no network drops: namespaces are forbidden here"))
+    FailoverLoad.rows = given.rows
     FailoverLoad.given = tuple(one for one in kinds() if any(it in str(one) for it in given.kind))
-    tally.say("failover: seed %d" % given.seed)
-    tried(given, tally, "faults", FailoverLoad, False)
+    if given.faults:
+        verdict = judge(SMALL, given.faults, given.seed, 300 + 60 * given.faults, make=FailoverLoad)
+        for line in summed(verdict.load.outages):
+            tally.say(line)
+        faults = verdict.faults + ["nothing was compared"] * verdict.is_empty()
+        tally.told("%d faults, compared with the serial model" % len(verdict.load.outages), faults, verdict.told())
+    if given.control:
+        verdict = judge(SMALL, given.control, given.seed + 1, 300, make=Leaseless)
+        noticed = [it for it in verdict.faults if "was known" in it or "has answered" in it]
+        tally.told("the control: a lease that isn't waited for", [] if noticed else ["nothing was noticed", *verdict.faults[:3]],
+                   "%d faults, as %.200s" % (len(noticed), noticed[:1]))
     return tally

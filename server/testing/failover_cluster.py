@@ -21,7 +21,7 @@ SETTINGS = os.path.join(TOP, "server", "standby", "patroni.yml")
 HERE = """
 scope: trial
 name: {name}
-etcd3:
+etcd:
   hosts: {etcds}
 restapi:
   listen: {at}:8008
@@ -108,7 +108,9 @@ class Cluster:
         peers = ",".join("%s=http://%s:2380" % (one, it.address) for one, it in self.etcds.items())
         words = ["--name", name, "--data-dir", self.room.file(name), "--initial-cluster", peers, "--listen-client-urls",
                  at + ":2379", "--advertise-client-urls", at + ":2379", "--listen-peer-urls", at + ":2380",
-                 "--initial-advertise-peer-urls", at + ":2380"]
+                 "--initial-advertise-peer-urls", at + ":2380", "--enable-v2",
+                 # A machine that is busy with other things is no fault.
+                 "--heartbeat-interval", "300", "--election-timeout", "3000"]
         return Program(self.room.path, name, [*self.etcds[name].inside, "etcd", *words])
 
     def make_patroni(self, name: str) -> Program:
@@ -147,6 +149,12 @@ class Cluster:
 
     def primary(self) -> str:
         return next(name for name, role in self.roles().items() if role == "leader")
+
+    def switch_over(self, primary: str, replica: str) -> None:
+        """As `patronictl switchover` asks for it. It is answered once that is done."""
+        asked = urllib.request.Request("http://%s:8008/switchover" % self.machines[primary].address, method="POST",
+                                       data=json.dumps({"leader": primary, "candidate": replica}).encode())
+        urllib.request.urlopen(asked, timeout=60).close()
 
     def ask(self, name: str, words: str) -> list[tuple[Any, ...]]:
         """What an operator is told by one PostgreSQL."""

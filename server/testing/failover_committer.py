@@ -15,6 +15,7 @@ import psycopg2
 from failover_cluster import DATABASE
 
 PAUSE = 0.05
+COMMIT = "INSERT INTO trial VALUES (%s, 1) ON CONFLICT (at) DO UPDATE SET number = trial.number + 1"
 
 
 def commit(log: int, address: str) -> None:
@@ -25,7 +26,7 @@ def commit(log: int, address: str) -> None:
         cursor.execute("CREATE TABLE IF NOT EXISTS trial (at text PRIMARY KEY, number int)")
         while True:
             asked = time.monotonic()
-            cursor.execute("INSERT INTO trial VALUES (%s, 1) ON CONFLICT (at) DO UPDATE SET number = trial.number + 1", [address])
+            cursor.execute(COMMIT, [address])
             if any("WARNING" in it for it in link.notices):
                 link.notices.clear()
                 continue

@@ -18,7 +18,8 @@ from machine import wait_for
 OWNER, STANDBY, PRIMARY, REPLICA = "the server that answers", "the standby", "PostgreSQL", "its replica"
 PATRONI, OTHER_PATRONI, ETCD = "Patroni", "the replica's Patroni", "an etcd"
 PARTS = (OWNER, STANDBY, PRIMARY, REPLICA, PATRONI, OTHER_PATRONI, ETCD)
-KILLED, FROZEN, SILENT, APART, DARK, CANCELLED = "kill -9", "SIGSTOP", "silence", "apart", "power loss", "a cancelled wait"
+KILLED, FROZEN, SILENT, APART, DARK = "kill -9", "SIGSTOP", "silence", "apart", "power loss"
+CANCELLED, HANDED = "a cancelled wait", "a hand over"
 
 
 @dataclasses.dataclass(frozen=True)
@@ -42,6 +43,7 @@ def kinds() -> list[Kind]:
         *(Kind(APART, it) for it in ((OWNER, PRIMARY), (OWNER, PRIMARY, REPLICA), (PRIMARY, REPLICA), (PRIMARY, ETCD),
                                      (STANDBY, PRIMARY, REPLICA))),
         *(Kind(DARK, it) for it in ((OWNER,), (PRIMARY,), (OWNER, PRIMARY))),
+        *(Kind(HANDED, (it,)) for it in (OWNER, PRIMARY)),
         Kind(CANCELLED, ("pg_cancel_backend",)), Kind(CANCELLED, ("pg_terminate_backend",)),
     ]
 
@@ -88,6 +90,8 @@ class Fault:
         how = self.kind.how
         if how == CANCELLED:
             return self.cancel()
+        if how == HANDED:
+            return self.hand_over()
         if how == APART:
             first, *others = self.machines()
             if self.kind.of[1] == ETCD:
@@ -117,6 +121,12 @@ class Fault:
             for part in self.these():
                 part.kill()
             signal_all(held, signal.SIGCONT)
+
+    def hand_over(self) -> None:
+        """A change of machines that somebody has planned."""
+        if self.kind.of == (OWNER,):
+            return signal_all(self.parts[OWNER].pids(), signal.SIGTERM)
+        return self.pair.cluster.switch_over(self.primary, self.replica)
 
     def mend(self) -> None:
         for machine in self.machines():

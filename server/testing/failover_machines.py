@@ -14,13 +14,18 @@ PREFIX = "10.77.0."
 BLOCKED, FORWARDING = "0", "3"
 
 
+def is_real() -> bool:
+    """Whether there are namespaces."""
+    return bool(os.environ.get("FAILOVER_NETWORK"))
+
+
 def told(*words: str) -> None:
     subprocess.run(words, check=True, stdout=subprocess.DEVNULL)
 
 
 class Network:
     def __init__(self) -> None:
-        self.is_real = bool(os.environ.get("FAILOVER_NETWORK"))
+        self.is_real = is_real()
         self.machines: dict[str, Machine] = {}
         if self.is_real:
             os.makedirs("/run/netns", exist_ok=True)

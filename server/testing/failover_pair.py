@@ -20,6 +20,7 @@ TOKEN = "a-token-of-the-failover-trial"
 PORT = 7077
 FILES = os.path.join(TOP, "server", "standby")
 SHARED = "10.77.0.10"
+FRONTS = ("haproxy", "keepalived")
 DOOR = """
 frontend door
     mode http
@@ -84,7 +85,7 @@ def text_of(name: str, machines: list[Machine]) -> str:
 class Pair(Server):
     """As one server behind one address, to those who use it."""
 
-    def __init__(self, room: Room, *options: str):
+    def __init__(self, room: Room, of_first: tuple[str, ...], *options: str):
         self.port, self.shown, self.identity = free_port(), {}, ""
         self.url, self.room = "http://127.0.0.1:%d" % self.port, room
         self.network = Network()
@@ -94,12 +95,15 @@ class Pair(Server):
         data = "postgresql://test@%s/postgres?target_session_attrs=read-write" % ",".join(self.cluster.addresses())
         machines = [self.network.machine(name) for name in ("one", "two")]
         names = ("--host", "127.0.0.1:%d" % self.port, "--host", "%s:%d" % (SHARED, PORT))
-        self.servers = {it.name: Served(room, it, "--data", data, *names, *options) for it in machines}
+        words = ("--data", data, *names, *options)
+        self.servers = {it.name: Served(room, it, *words, *more) for it, more in zip(machines, (of_first, ()))}
         self.front = Program(room.path, "haproxy", ["haproxy", "-db", "-f", self.configured("haproxy.cfg"), "-f", room.file("door")])
         with open(room.file("door"), "w") as file:
             file.write(DOOR % (self.port, TOKEN))
         self.movers = [self.mover(it) for it in machines] if self.network.is_real else []
         self.hosts = [one.host for one in self.servers.values()]
+        hosts = ["127.0.0.1:%d" % self.port, "%s:%d" % (SHARED, PORT)]
+        self.fronts = dict(zip(FRONTS, hosts if self.movers else hosts[:1]))
 
     def configured(self, name: str, *swapped: str) -> str:
         machines = [one.machine for one in self.servers.values()]
@@ -116,11 +120,11 @@ class Pair(Server):
 
     def start(self) -> None:
         self.cluster.start()
-        for one in self.servers.values():
-            one.thread.start()
         for program in (self.front, *self.movers):
             program.start()
-        self.identity = wait_for(self.told_identity, "the servers")
+        for one in self.servers.values():
+            one.thread.start()
+            self.identity = wait_for(self.told_identity, "a server")
 
     def told_identity(self) -> str | None:
         with contextlib.suppress(OSError, ValueError, KeyError, http.client.HTTPException):

@@ -8,6 +8,8 @@ another one that wasn't started anew.
 import bisect
 import collections
 import json
+import time
+from collections.abc import Sequence
 from typing import Any
 
 Line = dict[str, Any]
@@ -48,7 +50,7 @@ def stale(lines: list[Line]) -> list[str]:
 def side_by_side(lines: list[Line], starts: dict[str, list[float]]) -> list[str]:
     """Answers of one life of a server that lie between two answers of another one's."""
     lives: dict[tuple[str, int], list[tuple[float, float]]] = collections.defaultdict(list)
-    for one in lines:
+    for one in (one for one in lines if one["at"] in starts):
         first, last = (bisect.bisect_right(starts[one["at"]], one[it]) for it in ("asked", "told"))
         if first == last:
             lives[one["at"], first].append((one["asked"], one["told"]))
@@ -69,10 +71,9 @@ class Followed:
     def __init__(self, file: str):
         self.file, self.read = file, 0
         open(file, "a").close()
-        self.told: list[tuple[float, float]] = []  # when asked, and when told, in the order of the latter
+        self.told: list[tuple[float, float, str]] = []  # when asked, when told, and by whom, in the order of the second
 
-    def first(self, since: float) -> float | None:
-        """When the first request was acknowledged that was sent after a time."""
+    def grow(self) -> None:
         with open(self.file, "rb") as log:
             log.seek(self.read)
             text = log.read()
@@ -81,11 +82,21 @@ class Followed:
         for line in text.splitlines():
             if b'"wrote"' in line:
                 one = json.loads(line)
-                self.told.append((one["asked"], one["told"]))
+                self.told.append((one["asked"], one["told"], one["at"]))
+
+    def first(self, since: float, hosts: Sequence[str]) -> float | None:
+        """When the first request was acknowledged, by one of these, that was sent after a time."""
+        self.grow()
         found = None
-        for asked, told in reversed(self.told):
+        for asked, told, host in reversed(self.told):
             if told <= since:
                 break
-            if asked > since:
+            if asked > since and host in hosts:
                 found = told
         return found
+
+    def pause(self, since: float, hosts: Sequence[str]) -> float:
+        """The longest time without an acknowledgement by any of these since then."""
+        self.grow()
+        times = [since, *(told for _, told, host in self.told if told > since and host in hosts), time.monotonic()]
+        return max(later - earlier for earlier, later in zip(times, times[1:]))
