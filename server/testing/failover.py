@@ -22,12 +22,13 @@ from failover_faults import APART, FROZEN, HANDED, OWNER, SILENT, Fault, Kind, d
 from failover_machines import is_real, signal_all
 from failover_outages import Outage, summed
 from failover_pair import TOKEN, Pair
-from failover_times import Followed, lines_of, side_by_side, stale
+from failover_times import Followed, lines_of, side_by_side, stale, unnoticed
 from handmade import Session, fill
 from machine import Server, wait_for
 from tally import Tally
 
-LONGEST_FAULT, LONGEST_OUTAGE, LONGEST_CHANGE = 40, 90, 10  # seconds
+# In seconds. A PostgreSQL that was killed recovers first, and is rewound then.
+LONGEST_FAULT, LONGEST_OUTAGE, LONGEST_CHANGE, LONGEST_REPAIR = 40, 90, 10, 400
 KEYS = ("key/", "key0")
 BULK = "bulk/"
 SMALL = Size(4, 5, 1, 2)
@@ -78,7 +79,7 @@ class FailoverLoad(DurableLoad):
     def ready(self) -> str:
         """The server that answers, once all is as it was before any fault."""
         pair: Pair = self.server
-        wait_for(pair.cluster.is_whole, "PostgreSQL to be whole: %s" % pair.cluster.roles())
+        wait_for(pair.cluster.is_whole, "PostgreSQL to be whole", LONGEST_REPAIR)
         wait_for(pair.owner, "a server that answers")
         wait_for(lambda: all(one.starts[-1] < time.monotonic() - 2 for one in pair.servers.values()), "both servers to stay")
         return wait_for(pair.owner, "a server that answers")
@@ -166,6 +167,7 @@ def main(words: list[str]) -> Tally:
     tally.say("failover: seed %d%s" % (given.seed, "" if is_real() else ", and no network drops: namespaces are forbidden here"))
     FailoverLoad.rows = given.rows
     FailoverLoad.given = tuple(one for one in kinds() if any(it in str(one) for it in given.kind))
+    tally.told("what two servers may not tell is noticed", unnoticed())
     if given.faults:
         verdict = judge(SMALL, given.faults, given.seed, 300 + 60 * given.faults, make=FailoverLoad)
         for line in summed(verdict.load.outages):

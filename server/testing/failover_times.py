@@ -100,3 +100,21 @@ class Followed:
         self.grow()
         times = [since, *(told for _, told, host in self.told if told > since and host in hosts), time.monotonic()]
         return max(later - earlier for earlier, later in zip(times, times[1:]))
+
+
+def unnoticed() -> list[str]:
+    """Histories that no two servers may have told, each with a word of what has to be said of it. Gives those of which it isn't."""
+    def line(what: str, host: str, asked: float, told: float, number: int) -> Line:
+        return {"is": what, "at": host, "asked": asked, "told": told, "count": "a", "number": number}
+
+    wrote = [line("wrote", "a", 1, 2, 1), line("wrote", "a", 3, 4, 2)]
+    starts = {"a": [0.0], "b": [0.0]}
+    right = [*wrote, line("read", "a", 2.5, 3.5, 1), line("read", "b", 4.1, 4.2, 2)]
+    lost = [*wrote, line("read", "b", 4.1, 4.2, 1)]
+    taken_back = [line("read", "a", 1, 2, 5), line("read", "b", 3, 4, 4)]
+    together = [*wrote, line("read", "b", 2.1, 2.9, 1)]
+    faults = [] if not stale(right) + side_by_side(right, starts) else ["a right history is refused"]
+    for lines, word in ((lost, "was known"), (taken_back, "was known"), (together, "has answered")):
+        if not any(word in it for it in stale(lines) + side_by_side(lines, starts)):
+            faults.append("nobody notices %s" % lines)
+    return faults

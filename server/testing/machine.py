@@ -30,15 +30,15 @@ def free_port():
         return one.getsockname()[1]
 
 
-def wait_for(what, why):
+def wait_for(what, why, longest=LONGEST):
     """Waits until what() is true, and returns it. The machine may be busy with other things, so the limit is high."""
-    end = time.monotonic() + LONGEST
+    end = time.monotonic() + longest
     while True:
         found = what()
         if found:
             return found
         if time.monotonic() > end:
-            raise TimeoutError("%s: not within %d seconds" % (why, LONGEST))
+            raise TimeoutError("%s: not within %d seconds" % (why, longest))
         time.sleep(0.02)
 
 
