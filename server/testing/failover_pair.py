@@ -12,9 +12,10 @@ import signal
 import threading
 import time
 
+from correct_keyed import ASKED_AGAIN
 from failover_cluster import Cluster
 from failover_machines import Machine, Network, Part, tree_of
-from machine import SERVER, TOP, Program, Room, Server, free_port, wait_for
+from machine import LONGEST, SERVER, TOP, Program, Room, Server, free_port, wait_for
 
 TOKEN = "a-token-of-the-failover-trial"
 PORT = 7077
@@ -125,6 +126,18 @@ class Pair(Server):
         for one in self.servers.values():
             one.thread.start()
             self.identity = wait_for(self.told_identity, "a server")
+
+    def ask(self, method: str, path: str, body: bytes | None = None, headers: dict[str, str] = {}) -> tuple[int, str]:
+        """A proxy may find no server for a moment."""
+        end = time.monotonic() + LONGEST
+        while True:
+            with contextlib.suppress(OSError, http.client.HTTPException):
+                status, text = super().ask(method, path, body, headers)
+                if status not in ASKED_AGAIN or time.monotonic() > end:
+                    return status, text
+            if time.monotonic() > end:
+                raise TimeoutError("%s %s: no answer in %d seconds" % (method, path, LONGEST))
+            time.sleep(0.1)
 
     def told_identity(self) -> str | None:
         with contextlib.suppress(OSError, ValueError, KeyError, http.client.HTTPException):
