@@ -41,7 +41,7 @@ use std::time::{Duration, Instant};
 use tokio::runtime::{Handle, RuntimeFlavor};
 use tokio::sync::{watch, Notify, OwnedSemaphorePermit, Semaphore, SemaphorePermit};
 use tokio::task::block_in_place;
-use tokio::time::sleep;
+use tokio::time::{sleep, timeout};
 
 /// After so long others get a turn.
 pub const TURN: Duration = Duration::from_millis(5);
@@ -117,7 +117,7 @@ pub struct Door {
     lane: Lane,
     /// Until when the lane rests.
     rests: Mutex<Instant>,
-    durable: Durable,
+    pub durable: Durable,
     moved: watch::Sender<u64>,
     due: Notify,
 }
@@ -255,9 +255,20 @@ impl Door {
         }
     }
 
-    /// Waits until what something rests on is durable. Whoever tells it to anyone outside waits for this first.
+    /// Waits until what something rests on is durable, and this process may answer. Whoever tells it to anyone outside waits
+    /// for this first.
     pub async fn until(&self, ticket: Ticket) {
         self.durable.until(ticket).await;
+    }
+
+    /// The same as long as the lease comes back within this time: whether it may be told.
+    pub async fn until_within(&self, ticket: Ticket, patience: Duration) -> bool {
+        while !self.durable.has(ticket) {
+            if timeout(patience, self.until(ticket)).await.is_err() && !self.durable.has_lease() {
+                return false;
+            }
+        }
+        true
     }
 
     /// What rests on all that was done until now.

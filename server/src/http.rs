@@ -440,10 +440,13 @@ async fn answer(
         true => routes::handle(&server, request).await,
         false => Err(other_database(&server, request).await),
     };
-    let response = answered.unwrap_or_else(|refusal| Response::refused(&refusal));
-    let response = response.with(IDENTITY, server.identity.as_str());
+    let mut response = answered.unwrap_or_else(|refusal| Response::refused(&refusal));
     // Whatever an answer says rests on what was done before.
-    server.door.until(response.rests.unwrap_or_else(|| server.door.all())).await;
+    let rests = response.rests.unwrap_or_else(|| server.door.all());
+    if !server.door.until_within(rests, server.options.patience).await {
+        response = Response::refused(&Refusal::no_lease());
+    }
+    let response = response.with(IDENTITY, server.identity.as_str());
     if response.status != SWITCHING {
         busy.answers();
     }

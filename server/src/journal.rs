@@ -35,6 +35,7 @@ pub mod checkpoint;
 pub mod copy;
 mod folder;
 mod frame;
+mod lease;
 mod note;
 mod postgres;
 mod recorder;
@@ -53,10 +54,11 @@ pub use writer::{Counts, Durable, Ticket};
 use folder::Folder;
 use frame::Damage;
 use postgres::Postgres;
-use recovery::{Error, Recovered};
+use recovery::{Error, Reading, Recovered};
 use std::fmt;
 use std::io;
 use std::path::{Path, PathBuf};
+use std::time::Duration;
 use store::{Place, Store};
 
 /// What the address of a PostgreSQL begins with.
@@ -68,19 +70,24 @@ pub struct Asked {
     pub place: PathBuf,
     pub restore: Option<PathBuf>,
     pub is_moved: bool,
+    /// How long a server over PostgreSQL answers behind each of its writes.
+    pub lease: Duration,
+    /// How long answers to keys count.
+    pub remember: Duration,
 }
 
 /// Opens a journal, and makes the database from it. A new one gets this identity.
 pub fn open(asked: &Asked, identity: &str) -> Result<Recovered, Error> {
     let address = asked.place.to_str().filter(|word| SCHEMES.iter().any(|scheme| word.starts_with(scheme)));
+    let mut reading = Reading::begin(asked.remember)?;
     let mut store: Box<dyn Store> = match address {
-        Some(address) => Box::new(Postgres::take(address)?),
+        Some(address) => Box::new(Postgres::take(address, asked.lease, &mut reading)?),
         None => Box::new(Folder::take(&asked.place)?),
     };
     if let Some(file) = &asked.restore {
         restore::restore(&mut *store, file, identity)?;
     }
-    recovery::recover(store, identity, asked.is_moved)
+    recovery::recover(store, reading, identity, asked.is_moved)
 }
 
 /// Why there is no journal to go on with, or why it can't be written.
@@ -127,6 +134,8 @@ pub enum Failure {
     /// A restore was cut between its checkpoint and its journal.
     HalfRestored(String),
     Postgres(String),
+    /// What PostgreSQL will refuse again.
+    Refused(String),
     /// Another server has taken over.
     Fenced,
 }
@@ -171,7 +180,7 @@ impl fmt::Display for Failure {
                  database. If it was moved, and nobody serves the other one, say --moved. To begin from a backup, use \
                  GET /dump and --restore"
             ),
-            Failure::Postgres(why) => write!(f, "PostgreSQL: {why}"),
+            Failure::Postgres(why) | Failure::Refused(why) => write!(f, "PostgreSQL: {why}"),
             Failure::Fenced => f.write_str("another server has taken over this journal"),
             Failure::NotEmpty(name) => write!(f, "{name} has a database already: --restore needs an empty place"),
             Failure::HalfRestored(name) => write!(

@@ -59,7 +59,7 @@ pub async fn metrics(server: &Arc<Server>, request: Request) -> Result<Response,
     of_process(&mut text, server.metrics.started);
     report.add(text.text)?;
     // Whoever looks why the disk is slow doesn't wait for it.
-    Ok(report.told_as("text/plain; version=0.0.4; charset=utf-8").resting_on(Ticket::NONE))
+    Ok(report.told_as("text/plain; version=0.0.4; charset=utf-8").resting_on(Ticket::FREE))
 }
 
 #[derive(Default)]

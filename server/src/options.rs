@@ -70,7 +70,7 @@ const AUTO: &str = "auto";
 /// Bytes of the longest row: its key and its value, and 17 more.
 pub const LONGEST_ROW: u64 = 17 + 256 + 65_536;
 
-const TABLE: [Row; 38] = [
+const TABLE: [Row; 39] = [
     whole("port", 7077, 0, 65535, "the port; 0 takes a free one, which the first line of the output names"),
     whole("ring", 1024, 1, 65536, "without effect: feeds once kept so many rows at hand"),
     whole("max-lag", 1_000_000, 1, MOST, "rows closed above a reader beyond which nothing is held for it any longer"),
@@ -101,6 +101,12 @@ const TABLE: [Row; 38] = [
     seconds("max-age", 30.0, 0.01, "age at which an undecided transaction is aborted"),
     seconds("history", 5.0, 0.0, "how long a timestamp can be read after it was closed"),
     seconds("heartbeat", 20.0, 0.1, "how often a session's connection is asked whether it is there"),
+    seconds(
+        "lease",
+        2.0,
+        0.2,
+        "how long it answers behind a write that a PostgreSQL has confirmed, and who follows waits",
+    ),
     seconds("patience", 30.0, 0.1, "how long an answer waits for a reader that takes nothing"),
     seconds("seat-age", 0.0, 0.0, "how long a session without a message keeps its seat; 0: for ever"),
     seconds("remember", 60.0, 0.0, "how long the answer to an Idempotency-Key is remembered"),
@@ -156,6 +162,7 @@ pub struct Options {
     pub max_age: Duration,
     pub history: Duration,
     pub heartbeat: Duration,
+    pub lease: Duration,
     pub patience: Duration,
     /// Zero: for ever.
     pub seat_age: Duration,
@@ -308,6 +315,7 @@ fn options(given: &Given) -> Result<Options, Fault> {
         max_age: given.seconds("max-age")?,
         history: given.seconds("history")?,
         heartbeat: given.seconds("heartbeat")?,
+        lease: given.seconds("lease")?,
         patience: given.seconds("patience")?,
         seat_age: given.seconds("seat-age")?,
         remember: given.seconds("remember")?,

@@ -39,13 +39,13 @@ pub async fn file(_: &Arc<Server>, request: Request) -> Result<Response, Refusal
         .with("content-security-policy", POLICY)
         .with("referrer-policy", "no-referrer")
         .with("cache-control", "no-cache")
-        .resting_on(Ticket::NONE))
+        .resting_on(Ticket::FREE))
 }
 
 /// `GET /page/examples`.
 pub async fn examples(_: &Arc<Server>, request: Request) -> Result<Response, Refusal> {
     arguments(&request.path, &request.query, &[])?;
-    Ok(json::lines(EXAMPLES).resting_on(Ticket::NONE))
+    Ok(json::lines(EXAMPLES).resting_on(Ticket::FREE))
 }
 
 fn file_at(path: &str) -> Option<&'static File> {

@@ -87,6 +87,12 @@ impl Refusal {
         Refusal::new(503, error, why).with_header("Retry-After", seconds.max(1).to_string())
     }
 
+    /// Another server may have taken its place.
+    pub fn no_lease() -> Refusal {
+        let why = "PostgreSQL doesn't confirm that this server still has the journal: whether anything was changed isn't known";
+        Refusal::busy("lease", why)
+    }
+
     pub fn unauthorized() -> Refusal {
         Refusal::new(401, "token", "the request has to show the token, as Bearer or as Basic's password")
             .with_header("WWW-Authenticate", CHALLENGE)
@@ -102,20 +108,20 @@ impl Refusal {
     }
 
     pub fn no_path() -> Refusal {
-        Refusal::new(404, "path", "the server has no such path").resting_on(Ticket::NONE)
+        Refusal::new(404, "path", "the server has no such path").resting_on(Ticket::FREE)
     }
 
     /// A request names the database that it means.
     pub fn other_identity(identity: &str) -> Refusal {
         let why = "this is another database than the one that the request names: what was read there doesn't hold here";
-        Refusal::new(412, "identity", why).with("identity", identity).resting_on(Ticket::NONE)
+        Refusal::new(412, "identity", why).with("identity", identity).resting_on(Ticket::FREE)
     }
 
     /// `allowed` are the methods of this path, as `GET, POST`.
     pub fn no_method(allowed: &str) -> Refusal {
         Refusal::new(405, "method", "this path takes other methods")
             .with_header("Allow", allowed)
-            .resting_on(Ticket::NONE)
+            .resting_on(Ticket::FREE)
     }
 
     pub fn slow() -> Refusal {

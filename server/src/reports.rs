@@ -153,6 +153,7 @@ async fn tell(server: Arc<Server>, from: u64, until: u64, sender: Sender) {
         // Events may be dropped while their reader takes those before them.
         let taken = server.door.run(|core| core.transcript.piece(at, until, PIECE));
         let Some((data, next)) = taken else { return sender.cut() };
+        server.door.until(Ticket::NONE).await;
         (piece, at) = (data.into(), next);
     }
 }
@@ -160,13 +161,16 @@ async fn tell(server: Arc<Server>, from: u64, until: u64, sender: Sender) {
 /// Whether the server is well. It says nothing that a stranger may not know.
 pub async fn healthz(server: &Arc<Server>, request: Request) -> Result<Response, Refusal> {
     arguments(&request.path, &request.query, &[])?;
+    if !server.door.durable.has_lease() {
+        return Err(Refusal::no_lease().resting_on(Ticket::FREE));
+    }
     if let Some(why) = server.door.run(|core| fault_of(core)) {
-        return Err(Refusal::new(503, "unwell", why).resting_on(Ticket::NONE));
+        return Err(Refusal::new(503, "unwell", why).resting_on(Ticket::FREE));
     }
     // Everyone is served all the same.
     let told = if server.log.is_stuck() { "ok\nstandard error takes no line: nobody reads the log\n" } else { "ok\n" };
     let response = Response::whole("text/plain; charset=utf-8", told);
-    Ok(response.with("cache-control", "no-store").resting_on(Ticket::NONE))
+    Ok(response.with("cache-control", "no-store").resting_on(Ticket::FREE))
 }
 
 /// What is wrong. A closing that failed is tried again each second, so it may get well by itself.

@@ -155,7 +155,13 @@ async fn open(options: &Options, log: Arc<Log>) -> Result<Opened, Failure> {
         let kept = "nothing is kept: this database ends with the server, and --data FOLDER keeps one".into();
         return Ok(Opened { core, answers: VecDeque::new(), kept });
     };
-    let asked = journal::Asked { place, restore: options.restore.clone(), is_moved: options.moved };
+    let asked = journal::Asked {
+        place,
+        restore: options.restore.clone(),
+        is_moved: options.moved,
+        lease: options.lease,
+        remember: options.remember,
+    };
     let began = Instant::now();
     // It may take long, and waits for disks.
     let opened = tokio::task::spawn_blocking(move || journal::open(&asked, &identity)).await;
@@ -372,7 +378,7 @@ async fn end(server: &Arc<Server>) {
     server.is_ending.send_replace(true);
     let _ = timeout(END, server.tasks.all_ended()).await;
     let last = server.door.run(|core| core.journal.end(core.ledger.greatest.max(core.ledger.closed)));
-    let _ = timeout(LAST_BATCH, server.door.until(last)).await;
+    let _ = timeout(LAST_BATCH, server.door.durable.written(last)).await;
 }
 
 /// No transaction begins any more, and those that are undecided may go on for a while.

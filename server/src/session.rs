@@ -201,7 +201,7 @@ pub async fn session(server: &Arc<Server>, mut request: Request) -> Result<Respo
         drop(busy);
     };
     server.spawn(task);
-    Ok(Response::switching(accept).resting_on(Ticket::NONE))
+    Ok(Response::switching(accept).resting_on(Ticket::FREE))
 }
 
 /// How long the session may be silent before its undecided transactions are aborted, where it says so.

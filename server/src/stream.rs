@@ -250,11 +250,13 @@ impl Stream {
 
     async fn send(&mut self, piece: Bytes) -> Result<(), Stop> {
         (self.written, self.is_quiet) = (Instant::now(), false);
+        self.place.server().door.until(Ticket::NONE).await;
         self.sender.send(piece).await.map_err(|Gone| Stop::Gone)
     }
 
     /// Tells why it ends, behind what was told before.
     async fn tell(&self, ended: Ended) -> Result<(), Gone> {
+        self.place.server().door.until(Ticket::NONE).await;
         let values = Object::new().text("end", ended.reason.name()).digits("floor", ended.floor).end();
         self.sender.send(self.form.ending(&values)).await?;
         self.sender.room().await

@@ -113,7 +113,8 @@ const ALGORITHMS: [(SignatureScheme, &webpki::SignatureAlgorithm); 4] = [
     (SignatureScheme::ED25519, &webpki::ED25519),
 ];
 
-fn chain(path: &Path) -> Result<Vec<Certificate>, Fault> {
+/// The certificates of a file.
+pub fn chain(path: &Path) -> Result<Vec<Certificate>, Fault> {
     let read = rustls_pemfile::certs(&mut reader(path)?).map_err(|error| Fault::Unreadable(path.into(), error))?;
     if read.is_empty() {
         return Err(Fault::NoCertificate(path.into()));
@@ -121,7 +122,8 @@ fn chain(path: &Path) -> Result<Vec<Certificate>, Fault> {
     Ok(read.into_iter().map(Certificate).collect())
 }
 
-fn key(path: &Path) -> Result<PrivateKey, Fault> {
+/// The first private key of a file.
+pub fn key(path: &Path) -> Result<PrivateKey, Fault> {
     use rustls_pemfile::Item::{ECKey, PKCS8Key, RSAKey};
     let read = rustls_pemfile::read_all(&mut reader(path)?).map_err(|error| Fault::Unreadable(path.into(), error))?;
     let keys = read.into_iter().find_map(|item| match item {

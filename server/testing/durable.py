@@ -22,6 +22,7 @@ import time
 import correct
 import durable_damage
 import durable_keys
+import durable_lease
 import durable_names
 import durable_postgres
 import durable_still
@@ -252,7 +253,7 @@ CONTROLS = {
 
 
 TESTS = (*durable_damage.TESTS, durable_names.test_names_that_were_not_synced, *durable_still.TESTS, *durable_postgres.TESTS,
-         *durable_keys.TESTS)
+         *durable_lease.TESTS, *durable_keys.TESTS)
 
 
 def main(words: list[str]) -> Tally:

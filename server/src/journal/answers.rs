@@ -22,6 +22,7 @@ use bytes::Bytes;
 use std::cmp::Ordering;
 use std::collections::VecDeque;
 use std::io::Write;
+use std::time::Duration;
 
 /// Bytes of text in a line: a key has 256, of which five say what it is.
 const PIECE: usize = 251;
@@ -157,6 +158,14 @@ impl Answers {
     fn add(&mut self, key: &Key, form: Form) {
         let &Key { time, named, asked, timestamp, .. } = key;
         self.all.push_back(Answered { time, named, asked, timestamp, form });
+    }
+
+    /// Drops those that were told so long before the last one.
+    pub fn forget(&mut self, time: Duration) {
+        let last = self.all.back().map_or(0, |last| last.time);
+        while self.all.front().is_some_and(|first| Duration::from_millis(last.saturating_sub(first.time)) > time) {
+            self.all.pop_front();
+        }
     }
 
     pub fn into_all(self) -> VecDeque<Answered> {

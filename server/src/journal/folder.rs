@@ -142,7 +142,8 @@ impl Store for Folder {
         self.files.all()
     }
 
-    fn read(&mut self, series: Series) -> Result<Box<dyn Read + '_>, Failure> {
+    /// No one else writes to it, so it is read once.
+    fn read(&mut self, series: Series, _behind: u64) -> Result<Box<dyn Read + '_>, Failure> {
         let path = self.files.path(series);
         File::open(&path).map(|file| Box::new(file) as Box<dyn Read>).map_err(|error| Failure::file(&path, error))
     }
@@ -242,7 +243,7 @@ mod tests {
 
     fn text(folder: &mut Folder, series: Series) -> String {
         let mut text = String::new();
-        folder.read(series).expect("it is there").read_to_string(&mut text).expect("it is read");
+        folder.read(series, 0).expect("it is there").read_to_string(&mut text).expect("it is read");
         text
     }
 

@@ -128,33 +128,39 @@ pub enum Fault {
     Damaged(Damage),
 }
 
+/// How far the batches of a series were read.
+#[derive(Clone, Copy, Debug, Default, PartialEq, Eq)]
+pub struct Reached {
+    /// Where the whole batches end.
+    pub bytes: u64,
+    /// The number of the last one, and how the series goes on.
+    pub last: Option<(u64, Chain)>,
+}
+
 /// The batches of a series, one after another.
 pub struct Batches<R> {
     source: R,
     series: Series,
     buffer: Vec<u8>,
-    /// Where the next batch begins in the buffer, and in the series.
+    /// Where the next batch begins in the buffer.
     start: usize,
-    at: u64,
     is_read: bool,
-    before: Option<(u64, Chain)>,
+    reached: Reached,
+    /// The same without the last batch.
+    before: Reached,
     identity: String,
     torn: u64,
 }
 
 impl<R: Read> Batches<R> {
     pub fn new(source: R, series: Series) -> Batches<R> {
-        Batches {
-            source,
-            series,
-            buffer: Vec::new(),
-            start: 0,
-            at: 0,
-            is_read: false,
-            before: None,
-            identity: String::new(),
-            torn: 0,
-        }
+        Batches::behind(source, series, Reached::default(), "")
+    }
+
+    /// Those behind what was read before, which stand in the source alone.
+    pub fn behind(source: R, series: Series, reached: Reached, identity: &str) -> Batches<R> {
+        let (buffer, identity) = (Vec::new(), identity.to_string());
+        Batches { source, series, buffer, start: 0, is_read: false, reached, before: reached, identity, torn: 0 }
     }
 
     /// The next whole batch, or `None` at the end, before which a torn one may stand.
@@ -172,7 +178,7 @@ impl<R: Read> Batches<R> {
             }
             return self.end(format!("the bytes end in batch {}", head.number));
         };
-        let chain = match self.before {
+        let chain = match self.reached.last {
             Some((_, chain)) => chain,
             None => match Note::of(lines.split_inclusive(|&byte| byte == b'\n').next().unwrap_or(b"")) {
                 Some(Note::Database(identity)) => {
@@ -189,18 +195,24 @@ impl<R: Read> Batches<R> {
             let why = format!("the checksum of batch {} is {found:08x}, and not {:08x}", head.number, head.checksum);
             return self.end(why);
         }
-        if let Some((number, _)) = self.before.filter(|(number, _)| head.number != number + 1) {
+        if let Some((number, _)) = self.reached.last.filter(|(number, _)| head.number != number + 1) {
             return self.end(format!("batch {} stands behind batch {number}", head.number));
         }
-        self.before = Some((head.number, Chain(found)));
+        self.before = self.reached;
+        self.reached.last = Some((head.number, Chain(found)));
+        self.reached.bytes += (head.length + head.lines) as u64;
         self.start = range.end;
-        self.at += (head.length + head.lines) as u64;
         Ok(Some(Batch { number: head.number, mark: head.mark, lines: &self.buffer[range] }))
     }
 
     /// Where the whole batches end.
     pub fn whole(&self) -> u64 {
-        self.at
+        self.reached.bytes
+    }
+
+    /// How far they were read, without the last one and with it.
+    pub fn reached(&self) -> [Reached; 2] {
+        [self.before, self.reached]
     }
 
     /// Bytes of the torn batch behind them.
@@ -210,7 +222,7 @@ impl<R: Read> Batches<R> {
 
     /// The number of the last batch, and how the series goes on.
     pub fn last(&self) -> Option<(u64, Chain)> {
-        self.before
+        self.reached.last
     }
 
     /// The identity that the first batch names.
@@ -224,7 +236,7 @@ impl<R: Read> Batches<R> {
         let begin = self.start + head.length;
         let lines = &self.buffer[begin..];
         let end = begin + lines.iter().rposition(|&byte| byte == b'\n').map_or(0, |at| at + 1);
-        self.at += (self.buffer.len() - self.start) as u64;
+        self.reached.bytes += (self.buffer.len() - self.start) as u64;
         self.start = self.buffer.len();
         Batch { number: head.number, mark: head.mark, lines: &self.buffer[begin..end] }
     }
@@ -250,12 +262,13 @@ impl<R: Read> Batches<R> {
     fn end(&mut self, why: String) -> Result<Option<Batch<'_>>, Fault> {
         self.fill(usize::MAX).map_err(Fault::Read)?;
         let rest = self.rest();
-        if is_torn(rest, self.at) {
+        let at = self.reached.bytes;
+        if is_torn(rest, at) {
             self.torn = rest.len() as u64;
             self.start = self.buffer.len();
             return Ok(None);
         }
-        let damage = Damage { at: self.at, length: self.at + rest.len() as u64, why, behind: heads_behind(rest) };
+        let damage = Damage { at, length: at + rest.len() as u64, why, behind: heads_behind(rest) };
         Err(Fault::Damaged(damage))
     }
 }

@@ -4,44 +4,70 @@
 //! ```text
 //! ripsawbean_journal (kind, series, piece, bytes)     the pieces of each series; a checkpoint counts once it has a row
 //!                                                     of kind `finished`, whose piece is the number of its pieces
-//! ripsawbean_owner (epoch)                            who may write: raised by each server that starts
+//! ripsawbean_owner (epoch, beat, lease, ended)        who may write: each server that starts raises the epoch, and while it
+//!                                                     has nothing to write, the beat
 //! ```
 //!
-//! 1. A server holds an advisory lock as long as its connection lives. Another one waits for it: it is a standby.
+//! 1. A server holds an advisory lock as long as its connection lives. Another one asks for it again and again: it is a
+//!    standby. Where the owner writes nothing for `SILENCE`, not even that it is there, the standby ends its connection.
 //! 2. Each statement changes rows only under the server's own epoch. So one that was cut off from the lock, and doesn't
 //!    know it yet, changes nothing, also by what it has sent before and PostgreSQL sees late: else it would delete the
 //!    pieces of its successor's checkpoint, behind which the journal before it goes.
 //! 3. A checkpoint is finished where all its pieces are there, and read where they still are.
-//! 4. A server that has nothing to write asks each second whether its connection is there, and ends where it isn't, or
-//!    where no answer comes for a minute. Until then it may answer reads that a later server's commits are missing in.
+//! 4. The owner answers while its `lease` is fresh. Who raises the epoch answers once the lease of the one before is over
+//!    for sure, or where that one has written that it has ended. So no two servers answer at a time, whichever of several
+//!    PostgreSQLs each of them is tied to.
 
+mod session;
+mod tls;
+
+use super::recovery::{found, Error, Found, Reading};
 use super::store::{Draft, Kind, Place, Series, Store};
 use super::Failure;
-use std::future::Future;
+use session::{failure, Address, Session, HOST};
 use std::io::{self, Read};
-use std::time::Duration;
-use tokio::runtime::Runtime;
+use std::sync::Arc;
+use std::thread::sleep;
+use std::time::{Duration, Instant};
 use tokio_postgres::types::ToSql;
-use tokio_postgres::{Client, Config, NoTls, Row};
+use tokio_postgres::Row;
 
-/// How long PostgreSQL may take for anything but the lock.
-const PATIENCE: Duration = Duration::from_secs(60);
+/// How often a server that waits asks.
+const AGAIN: Duration = Duration::from_millis(250);
+/// An owner that has written nothing for so long is taken for lost, and a PostgreSQL that gives no piece.
+const SILENCE: Duration = Duration::from_secs(10);
 /// The advisory lock.
 const LOCK: i64 = 0x7269_7073_6177;
-/// Pieces of one query: some megabytes.
-const PIECES: i64 = 16;
+/// Pieces of one query, with the one before them: some megabytes.
+const PIECES: i64 = 17;
 const TABLES: &str = "
-    SET synchronous_commit = on;
     CREATE TABLE IF NOT EXISTS ripsawbean_owner (one int PRIMARY KEY CHECK (one = 1), epoch bigint NOT NULL);
+    ALTER TABLE ripsawbean_owner ADD COLUMN IF NOT EXISTS beat bigint NOT NULL DEFAULT 0,
+        ADD COLUMN IF NOT EXISTS lease bigint NOT NULL DEFAULT 2000,
+        ADD COLUMN IF NOT EXISTS ended boolean NOT NULL DEFAULT false;
     CREATE TABLE IF NOT EXISTS ripsawbean_journal (
         kind text, series bigint, piece bigint, bytes bytea NOT NULL, PRIMARY KEY (kind, series, piece));";
+/// Gives the epoch, and for how many milliseconds the owner before may still answer.
 const RAISE: &str = "
-    INSERT INTO ripsawbean_owner VALUES (1, 1) ON CONFLICT (one) DO UPDATE SET epoch = ripsawbean_owner.epoch + 1
-    RETURNING epoch";
+    WITH before AS (SELECT CASE WHEN ended THEN 0 ELSE lease END AS lease FROM ripsawbean_owner)
+    INSERT INTO ripsawbean_owner (one, epoch, lease) VALUES (1, 1, $1) ON CONFLICT (one)
+        DO UPDATE SET epoch = ripsawbean_owner.epoch + 1, lease = $1, ended = false
+    RETURNING epoch, coalesce((SELECT lease FROM before), 0)";
+/// What changes with each beat of the owner, and where the last batch stands.
+const LOOK: &str = "
+    SELECT epoch || '/' || beat || '/' || coalesce((SELECT series || '/' || piece FROM ripsawbean_journal
+        WHERE kind = 'journal' ORDER BY series DESC, piece DESC LIMIT 1), '') FROM ripsawbean_owner";
+/// Ends the connection that has the lock, but for one that waits for a replica: that says nothing of its server.
+const END_OWNER: &str = "
+    SELECT pg_terminate_backend(pid) FROM pg_locks JOIN pg_stat_activity USING (pid)
+        WHERE locktype = 'advisory' AND granted AND classid::bigint = $1::bigint >> 32 AND
+        objid::bigint = $1::bigint & 4294967295 AND datname = current_database() AND
+        wait_event IS DISTINCT FROM 'SyncRep'";
 /// Statements under the epoch that is still the owner's. Under another one they change nothing.
 const WRITE: &str = "
     WITH owner AS (SELECT FROM ripsawbean_owner WHERE epoch = $1 FOR SHARE)
     INSERT INTO ripsawbean_journal SELECT $2, $3, $4, $5 FROM owner";
+const BEAT: &str = "UPDATE ripsawbean_owner SET beat = beat + 1, ended = $2 WHERE epoch = $1";
 const FINISH: &str = "
     WITH owner AS (SELECT FROM ripsawbean_owner WHERE epoch = $1 FOR SHARE)
     INSERT INTO ripsawbean_journal SELECT 'finished', $2::bigint, $3::bigint, ''::bytea FROM owner
@@ -58,61 +84,19 @@ const PIECES_THERE: &str = "SELECT count(*) FROM ripsawbean_journal WHERE kind =
 const PIECES_WANTED: &str = "
     SELECT coalesce(max(piece), 0) FROM ripsawbean_journal WHERE kind = 'finished' AND series = $1";
 
-/// A connection, with what makes its calls.
-struct Session {
-    runtime: Runtime,
-    client: Client,
-    epoch: i64,
-}
-
 pub struct Postgres {
     session: Session,
     /// How a draft connects.
-    config: Config,
+    address: Arc<Address>,
+    lease: Duration,
     /// The series that was appended to last, and its last piece.
     last: Option<(Series, i64)>,
 }
 
-fn failure(error: impl std::fmt::Display) -> Failure {
-    Failure::Postgres(error.to_string())
-}
-
-/// PostgreSQL's own words, which the error's display leaves out.
-fn failure_of(error: &tokio_postgres::Error) -> Failure {
-    failure(error.as_db_error().map_or_else(|| error.to_string(), ToString::to_string))
-}
-
 impl Session {
-    fn connect(config: &Config) -> Result<Session, Failure> {
-        let runtime = tokio::runtime::Builder::new_current_thread().enable_all().build().map_err(failure)?;
-        let connected = async {
-            let (client, connection) = config.connect(NoTls).await?;
-            tokio::spawn(connection);
-            Ok(client)
-        };
-        let connected = async { tokio::time::timeout(PATIENCE, connected).await };
-        let client = runtime.block_on(connected).map_err(|_| failure("it doesn't answer"))?;
-        Ok(Session { runtime, client: client.map_err(|error| failure_of(&error))?, epoch: 0 })
-    }
-
-    /// What PostgreSQL answers in time.
-    fn ask<T>(&self, asked: impl Future<Output = Result<T, tokio_postgres::Error>>) -> Result<T, Failure> {
-        let answered = self.runtime.block_on(async { tokio::time::timeout(PATIENCE, asked).await });
-        answered.map_err(|_| failure("it doesn't answer"))?.map_err(|error| failure_of(&error))
-    }
-
-    /// Changes rows by one of the statements under the epoch: how many.
-    fn change(&self, statement: &str, words: &[&(dyn ToSql + Sync)]) -> Result<u64, Failure> {
-        let all = [&[&self.epoch as &(dyn ToSql + Sync)], words].concat();
-        self.ask(self.client.execute(statement, &all))
-    }
-
     /// Writes one row, where this server is still the owner.
     fn write(&self, kind: &str, series: u64, piece: i64, bytes: &[u8]) -> Result<(), Failure> {
-        match self.change(WRITE, &[&kind, &number(series), &piece, &bytes])? {
-            0 => Err(Failure::Fenced),
-            _ => Ok(()),
-        }
+        self.change_one(WRITE, &[&kind, &number(series), &piece, &bytes])
     }
 
     fn number(&self, query: &str, series: Series) -> Result<i64, Failure> {
@@ -122,7 +106,10 @@ impl Session {
     fn check_pieces(&self, checkpoint: Series, wanted: i64) -> Result<(), Failure> {
         match self.number(PIECES_THERE, checkpoint)? {
             found if found == wanted => Ok(()),
-            found => Err(failure(format!("{checkpoint} has {found} of its {wanted} pieces. Nothing was changed"))),
+            found => {
+                let why = format!("{checkpoint} has {found} of its {wanted} pieces. Nothing was changed");
+                Err(Failure::Refused(why))
+            }
         }
     }
 }
@@ -133,27 +120,130 @@ fn number(series: u64) -> i64 {
 }
 
 impl Postgres {
-    /// Connects, waits for the lock, and takes over the journal.
-    pub fn take(address: &str) -> Result<Postgres, Failure> {
-        let mut config: Config = address.parse().map_err(|error| failure_of(&error))?;
-        config.connect_timeout(PATIENCE).keepalives_idle(Duration::from_secs(10));
-        let mut session = Session::connect(&config)?;
-        let client = &session.client;
-        if !session.ask(client.query_one("SELECT pg_try_advisory_lock($1)", &[&LOCK]))?.get::<_, bool>(0) {
-            eprintln!("ripsawbean-server: another server has the journal: waiting until it ends");
-            let locked = client.execute("SELECT pg_advisory_lock($1)", &[&LOCK]);
-            session.runtime.block_on(locked).map_err(|error| failure_of(&error))?;
+    /// Connects, reads what is there, and what is added to it until the lock comes, and takes over the journal.
+    pub fn take(address: &str, lease: Duration, reading: &mut Reading) -> Result<Postgres, Error> {
+        let (address, mut said) = (Arc::new(Address::of(address)?), String::new());
+        let mut say = |words: String| {
+            if words != said {
+                eprintln!("ripsawbean-server: {words}");
+                said = words;
+            }
+        };
+        loop {
+            let connected = Session::connect(&address).map_err(Error::Failure);
+            let taken = connected.and_then(|session| {
+                let mut postgres = Postgres { session, address: address.clone(), lease, last: None };
+                postgres.wait(reading, &mut say)?;
+                postgres.own(reading)?;
+                Ok(postgres)
+            });
+            match taken {
+                Err(Error::Failure(failure @ (Failure::Postgres(_) | Failure::Fenced))) => {
+                    say(format!("{failure}. It is asked again until it serves"));
+                }
+                taken => return taken,
+            }
+            sleep(AGAIN);
         }
-        session.ask(client.batch_execute(TABLES))?;
-        session.epoch = session.ask(client.query_one(RAISE, &[]))?.get(0);
-        Ok(Postgres { session, config, last: None })
     }
 
+    /// Reads what was written since. Where the owner isn't there any more, what was read before is looked at again.
+    fn follow(&mut self, reading: &mut Reading, is_owner: bool) -> Result<(), Error> {
+        let is_begun = reading.is_begun();
+        let all = match is_begun {
+            true => {
+                let newest = self.newest()?;
+                if newest == reading.reached() && !is_owner {
+                    return Ok(());
+                }
+                Found::up_to(newest.map(|(series, _)| series))
+            }
+            false if !self.has_tables()? => return Ok(()),
+            false => found(self)?,
+        };
+        match reading.take_all(self, &all) {
+            Err(failure @ (Failure::Postgres(_) | Failure::NoMemory(_))) => Err(failure.into()),
+            // A checkpoint has made it superfluous meanwhile, or another PostgreSQL has something else there.
+            Err(why) if is_begun || found(self)?.base != all.base => {
+                *reading = reading.anew()?;
+                Err(failure(format!("{why}. It is read anew")).into())
+            }
+            read => Ok(read?),
+        }
+    }
+
+    fn has_tables(&self) -> Result<bool, Failure> {
+        let query = "SELECT to_regclass('ripsawbean_journal') IS NOT NULL";
+        Ok(self.session.ask_within(HOST, self.session.client.query_one(query, &[]))?.get(0))
+    }
+
+    /// The number of the last journal, and of its last piece.
+    fn newest(&self) -> Result<Option<(u64, u64)>, Failure> {
+        let query = "SELECT series, piece FROM ripsawbean_journal WHERE kind = 'journal'
+                     ORDER BY series DESC, piece DESC LIMIT 1";
+        let newest = self.session.ask_within(HOST, self.session.client.query_opt(query, &[]))?;
+        let number = |row: &Row, at| u64::try_from(row.get::<_, i64>(at)).unwrap_or(0);
+        Ok(newest.map(|row| (number(&row, 0), number(&row, 1))))
+    }
+
+    /// Waits for the lock by asking for it, so that a PostgreSQL that is silent is left, and an owner that is silent is
+    /// noticed. What the owner writes is read meanwhile.
+    fn wait(&mut self, reading: &mut Reading, say: &mut impl FnMut(String)) -> Result<(), Error> {
+        let (mut seen, mut since) = (None, Instant::now());
+        loop {
+            self.follow(reading, false)?;
+            let (session, client) = (&self.session, &self.session.client);
+            let lock = client.query_one("SELECT pg_try_advisory_lock($1)", &[&LOCK]);
+            if session.ask_within(HOST, lock)?.get(0) {
+                return Ok(());
+            }
+            say("another server has the journal: waiting until it ends".into());
+            let stands = match session.ask_within(HOST, client.query_opt(LOOK, &[])) {
+                // An owner of an earlier version has no beat, and one that begins has no tables.
+                Err(Failure::Refused(_)) => None,
+                stands => stands?.map(|row| row.get::<_, String>(0)),
+            };
+            if stands.is_none() || stands != seen {
+                (seen, since) = (stands, Instant::now());
+            } else if since.elapsed() > SILENCE {
+                say("the server that has the journal is silent: its connection is ended".into());
+                session.ask_within(HOST, client.execute(END_OWNER, &[&LOCK]))?;
+                since = Instant::now();
+            }
+            sleep(AGAIN);
+        }
+    }
+
+    /// Raises the epoch, reads the rest, and waits until the owner before answers no longer.
+    fn own(&mut self, reading: &mut Reading) -> Result<(), Error> {
+        self.session.ask(self.session.client.batch_execute(TABLES))?;
+        let lease = i64::try_from(self.lease.as_millis()).unwrap_or(i64::MAX);
+        let raised = self.session.confirmed(self.session.client.query_one(RAISE, &[&lease]))?;
+        let now = Instant::now();
+        self.session.epoch = raised.get(0);
+        self.follow(reading, true)?;
+        // The clocks of two machines may run apart by a twentieth.
+        let before = Duration::from_millis(u64::try_from(raised.get::<_, i64>(1)).unwrap_or(0)) * 21 / 20;
+        while let Some(left) = before.checked_sub(now.elapsed()) {
+            self.beat(false)?;
+            sleep(left.min(AGAIN));
+        }
+        Ok(())
+    }
+
+    /// The next pieces behind one. Series go as a whole: so while that one stands there, none is missing behind it.
     fn pieces(&self, series: Series, behind: i64) -> Result<Vec<Row>, Failure> {
-        let query = "SELECT piece, bytes FROM ripsawbean_journal WHERE kind = $1 AND series = $2 AND piece > $3
-                     ORDER BY piece LIMIT $4";
+        let query = "SELECT piece, CASE WHEN piece = $3 THEN '' ELSE bytes END FROM ripsawbean_journal
+                     WHERE kind = $1 AND series = $2 AND piece >= $3 ORDER BY piece LIMIT $4";
         let kind = series.kind.name();
-        self.session.ask(self.session.client.query(query, &[&kind, &number(series.number), &behind, &PIECES]))
+        let words: [&(dyn ToSql + Sync); 4] = [&kind, &number(series.number), &behind, &PIECES];
+        let rows = self.session.ask_within(SILENCE, self.session.client.query(query, &words))?;
+        match rows.first() {
+            first if behind > 0 && first.is_none_or(|row| row.get::<_, i64>(0) != behind) => {
+                Err(Failure::Missing(self.name(series)))
+            }
+            _ => Ok(rows),
+        }
     }
 }
 
@@ -172,14 +262,14 @@ impl Store for Postgres {
         Ok(rows.iter().map(series).collect())
     }
 
-    fn read(&mut self, series: Series) -> Result<Box<dyn Read + '_>, Failure> {
+    fn read(&mut self, series: Series, behind: u64) -> Result<Box<dyn Read + '_>, Failure> {
         if series.kind == Kind::Checkpoint {
             let wanted = self.session.number(PIECES_WANTED, series)?;
             if wanted > 0 {
                 self.session.check_pieces(series, wanted)?;
             }
         }
-        Ok(Box::new(Pieces { postgres: self, series, last: i64::MIN, bytes: Vec::new(), taken: 0 }))
+        Ok(Box::new(Pieces { postgres: self, series, last: number(behind), bytes: Vec::new(), taken: 0 }))
     }
 
     fn name(&self, series: Series) -> String {
@@ -207,8 +297,8 @@ impl Store for Postgres {
     }
 
     fn draft(&mut self, number: u64) -> Result<Box<dyn Draft>, Failure> {
-        let session = Session { epoch: self.session.epoch, ..Session::connect(&self.config)? };
-        Ok(Box::new(RowDraft { session, number, piece: 0 }))
+        let (address, epoch) = (self.address.clone(), self.session.epoch);
+        Ok(Box::new(RowDraft { address, epoch, session: None, number, piece: 0 }))
     }
 
     fn drop_below(&mut self, below: u64) -> Result<(), Failure> {
@@ -220,8 +310,12 @@ impl Store for Postgres {
         None
     }
 
-    fn beat(&mut self) -> Result<(), Failure> {
-        self.session.ask(self.session.client.batch_execute("SELECT")).map(drop)
+    fn beat(&mut self, is_last: bool) -> Result<(), Failure> {
+        self.session.change_one(BEAT, &[&is_last])
+    }
+
+    fn lease(&self) -> Option<Duration> {
+        Some(self.lease)
     }
 }
 
@@ -251,26 +345,40 @@ impl Read for Pieces<'_> {
     }
 }
 
-/// A checkpoint without its row of kind `finished`. It has a connection of its own, so that batches don't wait for it.
+/// A checkpoint without its row of kind `finished`. It makes a connection of its own, so that batches don't wait for it.
 struct RowDraft {
-    session: Session,
+    address: Arc<Address>,
+    epoch: i64,
+    session: Option<Session>,
     number: u64,
     piece: i64,
+}
+
+impl RowDraft {
+    fn session(&mut self) -> Result<&Session, Failure> {
+        let session = match self.session.take() {
+            Some(session) => session,
+            None => Session { epoch: self.epoch, ..Session::connect(&self.address)? },
+        };
+        Ok(self.session.insert(session))
+    }
 }
 
 impl Draft for RowDraft {
     fn write(&mut self, bytes: &[u8]) -> Result<(), Failure> {
         self.piece += 1;
-        self.session.write("checkpoint", self.number, self.piece, bytes)
+        let (number, piece) = (self.number, self.piece);
+        self.session()?.write("checkpoint", number, piece, bytes)
     }
 
-    fn finish(self: Box<Self>) -> Result<(), Failure> {
-        let series = number(self.number);
-        if self.session.change(FINISH, &[&series, &self.piece])? == 0 {
-            self.session.check_pieces(Series::checkpoint(self.number), self.piece)?;
+    fn finish(mut self: Box<Self>) -> Result<(), Failure> {
+        let (checkpoint, series, piece) = (Series::checkpoint(self.number), number(self.number), self.piece);
+        let session = self.session()?;
+        if session.change(FINISH, &[&series, &piece])? == 0 {
+            session.check_pieces(checkpoint, piece)?;
             return Err(Failure::Fenced);
         }
-        self.session.change(DROP_BELOW, &[&series]).map(drop)
+        session.change(DROP_BELOW, &[&series]).map(drop)
     }
 }
 
@@ -278,6 +386,6 @@ impl Drop for RowDraft {
     /// One that failed leaves its room. It is asked behind what was asked to finish it, on the same connection: where that
     /// has come to its end, the draft is none any more.
     fn drop(&mut self) {
-        let _ = self.session.change(DROP_DRAFTS, &[&number(self.number)]);
+        let _ = self.session.as_ref().map(|session| session.change(DROP_DRAFTS, &[&number(self.number)]));
     }
 }

@@ -15,7 +15,7 @@
 
 use super::answers::{Answered, Answers};
 use super::copy::is_end;
-use super::frame::{Batches, Chain, Fault};
+use super::frame::{Batches, Chain, Fault, Reached};
 use super::note::{Kept, Note};
 use super::rules::{holds, Rule};
 use super::store::{Kind, Place, Series, Store};
@@ -27,6 +27,10 @@ use crate::lines::number_in;
 use ripsawbean::{CallError, Database, Event, OpenError};
 use std::collections::{BTreeMap, VecDeque};
 use std::fmt;
+use std::time::Duration;
+
+/// So many commits are kept by themselves while the journal is followed.
+const MOST_COMMITS: usize = 1 << 16;
 
 /// What is there of a journal.
 pub struct Recovered {
@@ -81,8 +85,12 @@ impl fmt::Display for Error {
 
 /// Makes the database from a store, and goes on writing to it. Where there is nothing yet a database of this identity
 /// begins.
-pub fn recover(mut store: Box<dyn Store>, identity: &str, is_moved: bool) -> Result<Recovered, Error> {
-    let mut reading = Reading::new(Database::open(RING).map_err(Error::Open)?);
+pub fn recover(
+    mut store: Box<dyn Store>,
+    mut reading: Reading,
+    identity: &str,
+    is_moved: bool,
+) -> Result<Recovered, Error> {
     let all = found(&mut *store)?;
     reading.take_all(&mut *store, &all)?;
     let is = store.place();
@@ -122,15 +130,22 @@ pub fn recover(mut store: Box<dyn Store>, identity: &str, is_moved: bool) -> Res
 }
 
 /// The series to read.
-struct Found {
+pub struct Found {
     /// The number of the checkpoint, where there is one, and of the first journal.
-    base: u64,
+    pub base: u64,
     has_checkpoint: bool,
     /// The last journal, where there is one.
     last: Option<u64>,
 }
 
-fn found(store: &mut dyn Store) -> Result<Found, Failure> {
+impl Found {
+    /// Those behind what was read before.
+    pub fn up_to(last: Option<u64>) -> Found {
+        Found { base: 0, has_checkpoint: false, last }
+    }
+}
+
+pub fn found(store: &mut dyn Store) -> Result<Found, Failure> {
     let all = store.all()?;
     let numbers = |kind| all.iter().filter(move |series| series.kind == kind).map(|series| series.number);
     let checkpoint = numbers(Kind::Checkpoint).max();
@@ -145,9 +160,11 @@ fn found(store: &mut dyn Store) -> Result<Found, Failure> {
     }
 }
 
-struct Reading {
+/// The database as far as it was read. It can be read on, as a standby does while another server writes.
+pub struct Reading {
     database: Database,
     told: Told,
+    remember: Duration,
     position: Option<Position>,
     /// The number of the first batch of the series that was read last.
     first: Option<u64>,
@@ -155,6 +172,19 @@ struct Reading {
     last: Series,
     whole: u64,
     torn: u64,
+    /// Of the last series, where it has a batch.
+    mark: Option<Mark>,
+    /// Bytes behind the last checkpoint, without those of the last series.
+    bytes: u64,
+}
+
+/// Where a series is read on: at its last batch, which has to be what it was.
+#[derive(Clone, Copy)]
+struct Mark {
+    /// Batches with that one.
+    count: u64,
+    reached: [Reached; 2],
+    mark: u64,
 }
 
 /// What the lines have told so far.
@@ -170,39 +200,66 @@ struct Told {
     base: u64,
     horizon: u64,
     commits: Vec<(u64, Amount)>,
+    /// How many were left of them when those below the horizon went.
+    kept: usize,
     answers: Answers,
     /// What the transaction that is read has written.
     writing: Amount,
 }
 
 impl Reading {
-    fn new(database: Database) -> Reading {
-        let (told, last) = (Told::default(), Series::journal(1));
-        Reading { database, told, position: None, first: None, last, whole: 0, torn: 0 }
+    /// Answers to keys count for so long.
+    pub fn begin(remember: Duration) -> Result<Reading, Error> {
+        let (database, told, last) = (Database::open(RING).map_err(Error::Open)?, Told::default(), Series::journal(1));
+        let (position, first, mark) = (None, None, None);
+        Ok(Reading { database, told, remember, position, first, last, whole: 0, torn: 0, mark, bytes: 0 })
     }
 
-    fn take_all(&mut self, store: &mut dyn Store, all: &Found) -> Result<(), Failure> {
-        if all.has_checkpoint {
+    pub fn anew(&self) -> Result<Reading, Error> {
+        Reading::begin(self.remember)
+    }
+
+    /// Whether there is anything to go on from.
+    pub fn is_begun(&self) -> bool {
+        self.mark.is_some() && self.last.kind == Kind::Journal
+    }
+
+    /// The number of the series that was read last, and of its last batch there.
+    pub fn reached(&self) -> Option<(u64, u64)> {
+        self.mark.map(|mark| (self.last.number, mark.count))
+    }
+
+    /// Reads all that stands there, or what was written since.
+    pub fn take_all(&mut self, store: &mut dyn Store, all: &Found) -> Result<(), Failure> {
+        let is_begun = self.is_begun();
+        let first = if is_begun { self.last.number } else { all.base };
+        if all.has_checkpoint && !is_begun {
             let series = Series::checkpoint(all.base);
             if !self.take(store, series)? || self.torn > 0 {
                 return Err(Failure::NotWhole { name: store.name(series), at: self.whole });
             }
             self.told.base = self.told.closed;
         }
-        let mut bytes = 0;
-        for number in all.base..=all.last.unwrap_or(0) {
+        for number in first..=all.last.unwrap_or(0) {
+            if number > first {
+                // Who writes begins a checkpoint with each series.
+                self.bytes = if is_begun { 0 } else { self.bytes + self.whole };
+            }
             if self.torn > 0 {
                 return Err(Failure::Torn { name: store.name(self.last), at: self.whole });
             }
-            self.follow(store, Series::journal(number), number == all.base)?;
+            self.follow(store, Series::journal(number), number == first)?;
             // A checkpoint is finished once the journal's head is durable, which has the names.
             if all.has_checkpoint && self.position.is_none() {
                 return Err(Failure::NotWhole { name: store.name(self.last), at: self.whole });
             }
-            bytes += self.whole;
         }
         if let Some(position) = &mut self.position {
-            position.bytes = bytes;
+            position.bytes = self.bytes + self.whole;
+        }
+        if is_begun {
+            self.told.forget();
+            self.told.answers.forget(self.remember);
         }
         Ok(())
     }
@@ -221,12 +278,25 @@ impl Reading {
         }
     }
 
-    /// Reads a series: whether its last batch ends as a copy does.
+    /// Reads a series, or what was added to the last one: whether its last batch ends as a copy does.
     fn take(&mut self, store: &mut dyn Store, series: Series) -> Result<bool, Failure> {
         let (name, mut is_whole) = (store.name(series), false);
-        self.first = None;
-        let mut batches = Batches::new(store.read(series)?, series);
+        let again = self.mark.take().filter(|_| series == self.last);
+        let (mut count, before) = again.map_or((0, Reached::default()), |mark| (mark.count - 1, mark.reached[0]));
+        let mut batches = Batches::behind(store.read(series, count)?, series, before, &self.told.identity);
+        match again {
+            None => self.first = None,
+            Some(mark) => {
+                // Another server may have written something else there, in a PostgreSQL that has taken another's place.
+                let batch = batches.next().map_err(|fault| failure_of(&name, fault))?;
+                if batch.is_none_or(|batch| batch.mark != mark.mark) || batches.reached() != mark.reached {
+                    return Err(Failure::Missing(name));
+                }
+                count += 1;
+            }
+        }
         while let Some(batch) = batches.next().map_err(|fault| failure_of(&name, fault))? {
+            count += 1;
             self.first = self.first.or(Some(batch.number));
             if holds(Rule::TheMarkIsWritten) {
                 // At a clean end it falls to where it really stands.
@@ -236,6 +306,7 @@ impl Reading {
             is_whole = is_end(batch.lines);
         }
         (self.last, self.whole, self.torn) = (series, batches.whole(), batches.torn());
+        self.mark = (count > 0).then_some(Mark { count, reached: batches.reached(), mark: self.told.mark });
         let Some((number, chain)) = batches.last() else { return Ok(false) };
         let (found, wanted) = (batches.identity().to_string(), &self.told.identity);
         if !wanted.is_empty() && found != *wanted {
@@ -293,6 +364,22 @@ fn take_lines(database: &mut Database, told: &mut Told, lines: &[u8], name: &str
 }
 
 impl Told {
+    /// No timestamp at or below the horizon needs a place of its own.
+    fn forget(&mut self) {
+        if self.commits.len() > 2 * self.kept.max(MOST_COMMITS) {
+            let mut below = Amount::default();
+            self.commits.retain(|&(ts, amount)| {
+                let is_kept = ts > self.horizon;
+                if !is_kept {
+                    below += amount;
+                }
+                is_kept
+            });
+            self.commits.push((self.horizon, below));
+            self.kept = self.commits.len();
+        }
+    }
+
     /// Notes what a line did, if it was answered as it had to be.
     fn note(&mut self, line: &[u8], event: Event<'_>) -> Option<()> {
         let mut words = line.strip_suffix(b"\n")?.splitn(4, |&byte| byte == b' ').skip(1);
@@ -356,7 +443,7 @@ fn is_past(refused: &str) -> bool {
 
 pub fn failure_of(name: &str, fault: Fault) -> Failure {
     match fault {
-        Fault::Read(error) => Failure::File(name.into(), error),
+        Fault::Read(error) => error.downcast().unwrap_or_else(|error| Failure::File(name.into(), error)),
         Fault::Damaged(damage) => Failure::Damaged { name: name.into(), damage },
     }
 }

@@ -19,6 +19,7 @@ pub enum Rule {
     StatsWait,
     BelowHorizonWaits,
     CollectionsWait,
+    AnswersNeedTheLease,
     // The mark.
     CallsWaitForTheMark,
     TheMarkIsWritten,

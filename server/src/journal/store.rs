@@ -14,6 +14,7 @@
 use super::Failure;
 use std::fmt;
 use std::io::Read;
+use std::time::Duration;
 
 #[derive(Clone, Copy, Debug, PartialEq, Eq, PartialOrd, Ord)]
 pub enum Kind {
@@ -58,8 +59,8 @@ pub trait Store: Send {
     /// All series, in no order.
     fn all(&mut self) -> Result<Vec<Series>, Failure>;
 
-    /// The bytes of a series, from its beginning.
-    fn read(&mut self, series: Series) -> Result<Box<dyn Read + '_>, Failure>;
+    /// The bytes of a series behind so many batches, or from its beginning. What is read while it is written may go.
+    fn read(&mut self, series: Series, behind: u64) -> Result<Box<dyn Read + '_>, Failure>;
 
     /// How messages call a series.
     fn name(&self, series: Series) -> String;
@@ -79,9 +80,14 @@ pub trait Store: Send {
     /// The host and the place where it stands, as far as that can be known: a copy stands elsewhere.
     fn place(&self) -> Option<Place>;
 
-    /// Asks whether it can still be written, where that isn't sure. It is called where there is nothing to write.
-    fn beat(&mut self) -> Result<(), Failure> {
+    /// Writes that this process is there, where there is nothing else to write, or that it has written its last.
+    fn beat(&mut self, _is_last: bool) -> Result<(), Failure> {
         Ok(())
+    }
+
+    /// How long a write that was confirmed lets this process answer, where another one may take its place.
+    fn lease(&self) -> Option<Duration> {
+        None
     }
 }
 

@@ -26,13 +26,17 @@ mod series;
 const NO_HISTORY: [&str; 2] = ["--history", "0"];
 
 fn asked(place: &Path) -> Asked {
-    Asked { place: place.into(), restore: None, is_moved: true }
+    Asked { place: place.into(), restore: None, is_moved: true, lease: Duration::ZERO, remember: Duration::MAX }
 }
 
 fn core_of(asked: &Asked) -> Result<Core, String> {
     let recovered = open(asked, IDENTITY).map_err(|error| error.to_string())?;
     let log = Arc::new(Log::to(Level::Error, false, Box::new(std::io::sink())));
     Ok(Core::recovered(recovered, &options(&NO_HISTORY), log))
+}
+
+fn recovered(disk: &disk::Disk, identity: &str) -> Result<Recovered, Error> {
+    recovery::recover(Box::new(disk.clone()), Reading::begin(Duration::MAX)?, identity, true)
 }
 
 fn core_in(place: &Path) -> Core {

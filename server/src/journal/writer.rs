@@ -9,7 +9,8 @@
 //! 1. One batch is on its way at a time. So what isn't durable is one batch, at the end of the last series. Of two, a
 //!    crash may leave the second without the first.
 //! 2. Where a batch can't be written the process ends at once, before anyone is told of it.
-//! 3. What a large transaction wrote is handed on from `recorder` to the disk, and never copied. So however much waits for
+//! 3. Nothing is told without a fresh `lease`, which each batch renews, and where there is none, a beat.
+//! 4. What a large transaction wrote is handed on from `recorder` to the disk, and never copied. So however much waits for
 //!    a slow disk, it takes the memory that it took before its commit.
 
 #[cfg(test)]
@@ -17,6 +18,7 @@ pub mod by_hand;
 mod pieces;
 
 use super::frame::Chain;
+use super::lease::{Lease, Moment};
 use super::rules::{holds, Rule};
 use super::store::{Draft, Series, Store};
 use super::Failure;
@@ -30,36 +32,57 @@ use tokio::sync::watch;
 
 /// A batch that takes so long is told of.
 const STUCK: Duration = Duration::from_secs(10);
-/// Where nothing is to be written it is asked so often whether that is possible.
+/// Where nothing is to be written a beat comes so often, and four times in a lease.
 const BEAT: Duration = Duration::from_secs(1);
 
 /// What something rests on: it is told once this batch is durable.
-#[derive(Clone, Copy, Debug, Default, PartialEq, Eq, PartialOrd, Ord)]
+#[derive(Clone, Copy, Debug, PartialEq, Eq, PartialOrd, Ord)]
 #[must_use]
 pub struct Ticket(u64);
 
+impl Default for Ticket {
+    fn default() -> Ticket {
+        Ticket::NONE
+    }
+}
+
 impl Ticket {
-    /// It rests on nothing.
-    pub const NONE: Ticket = Ticket(0);
+    /// It tells nothing of the database, so that it needs no lease either.
+    pub const FREE: Ticket = Ticket(0);
+    /// It rests on no batch: the first one is durable before anyone asks.
+    pub const NONE: Ticket = Ticket(1);
     /// It is never told.
     pub const NEVER: Ticket = Ticket(u64::MAX);
 }
 
 /// Who waits for tickets. Without a journal nobody has to.
 #[derive(Clone)]
-pub struct Durable(Option<watch::Receiver<u64>>);
+pub struct Durable(Option<(watch::Receiver<u64>, Arc<Lease>)>);
 
 impl Durable {
     pub const NOTHING: Durable = Durable(None);
 
+    /// Whether this process may answer.
+    pub fn has_lease(&self) -> bool {
+        self.0.as_ref().is_none_or(|(_, lease)| lease.is_fresh())
+    }
+
     /// Whether it need not be waited for.
     pub fn has(&self, ticket: Ticket) -> bool {
-        self.0.as_ref().is_none_or(|durable| *durable.borrow() >= ticket.0)
+        ticket == Ticket::FREE
+            || self.0.as_ref().is_none_or(|(durable, _)| *durable.borrow() >= ticket.0) && self.has_lease()
+    }
+
+    /// Waits until the ticket's batch is durable, and this process may answer.
+    pub async fn until(&self, ticket: Ticket) {
+        let Some((_, lease)) = self.0.as_ref().filter(|_| !self.has(ticket)) else { return };
+        self.written(ticket).await;
+        lease.fresh().await;
     }
 
     /// Waits until the ticket's batch is durable.
-    pub async fn until(&self, ticket: Ticket) {
-        let Some(mut durable) = self.0.clone().filter(|_| !self.has(ticket)) else { return };
+    pub async fn written(&self, ticket: Ticket) {
+        let Some((mut durable, _)) = self.0.clone() else { return };
         while *durable.borrow_and_update() < ticket.0 {
             if durable.changed().await.is_err() {
                 // The thread has ended before it: so does the process, and nobody is told.
@@ -129,6 +152,7 @@ struct Shared {
     gathered: Condvar,
     durable_mark: AtomicU64,
     durable: watch::Sender<u64>,
+    lease: Arc<Lease>,
     counts: Arc<Counts>,
 }
 
@@ -148,13 +172,16 @@ impl Writer {
         let (number, mark) = (position.number + 1, position.mark);
         let counts = Arc::new(Counts::default());
         counts.since_checkpoint.store(position.bytes, Relaxed);
+        let (lease, begun) = (Arc::new(Lease::new(store.lease())), Moment::now());
         write(&mut *store, &mut position, number, mark, &[lines], &counts)?;
+        lease.renew(begun);
         let queue = Queue { lines: Pieces::with_room(), number: number + 1, mark, ..Queue::default() };
         let shared = Arc::new(Shared {
             queue: Mutex::new(queue),
             gathered: Condvar::new(),
             durable_mark: AtomicU64::new(mark),
             durable: watch::channel(number).0,
+            lease,
             counts,
         });
         Thread { shared: shared.clone(), store, identity, position }.start()?;
@@ -162,7 +189,7 @@ impl Writer {
     }
 
     pub fn durable(&self) -> Durable {
-        Durable(Some(self.shared.durable.subscribe()))
+        Durable(Some((self.shared.durable.subscribe(), self.shared.lease.clone())))
     }
 
     pub fn counts(&self) -> Arc<Counts> {
@@ -221,13 +248,14 @@ impl Writer {
         Some(drafts)
     }
 
-    /// The last batch, with the mark where it really stands.
+    /// The last batch, with the mark where it really stands. Its ticket is there once nothing is answered any more, and the
+    /// next process knows that.
     pub fn end(&self, mark: u64) -> Ticket {
         let mut queue = self.shared.queue.lock();
         queue.mark = mark;
         queue.is_over = true;
         self.shared.gathered.notify_one();
-        Ticket(queue.number)
+        Ticket(queue.number + 1)
     }
 }
 
@@ -264,25 +292,45 @@ impl Thread {
             let mut work = loop {
                 match self.take(&mut spare) {
                     Some(work) => break work,
-                    None => self.store.beat().unwrap_or_else(|failure| give_up(&failure)),
+                    None => self.beat(),
                 }
             };
+            let begun = Moment::now();
             if let Err(failure) = self.write(&mut work) {
                 give_up(&failure);
             }
+            self.shared.lease.renew(begun);
             self.is_durable(&work);
             if work.is_last {
-                return;
+                return self.end(work.number);
+            }
+            // A batch that takes as long as the lease leaves none.
+            if !self.shared.lease.is_fresh() {
+                self.beat();
             }
             spare = work.lines.emptied();
         }
     }
 
+    fn beat(&mut self) {
+        let begun = Moment::now();
+        self.store.beat(false).unwrap_or_else(|failure| give_up(&failure));
+        self.shared.lease.renew(begun);
+    }
+
+    fn end(&mut self, number: u64) {
+        self.shared.lease.end();
+        // Where it fails the next process waits the lease out.
+        let _ = self.store.beat(true);
+        self.shared.durable.send_replace(number + 1);
+    }
+
     /// Waits for something to write. `None` where nothing came for a while.
     fn take(&self, spare: &mut Pieces) -> Option<Work> {
         let mut queue = self.shared.queue.lock();
+        let beat = self.shared.lease.length().map_or(BEAT, |length| BEAT.min(length / 4));
         while !queue.has_work() {
-            if self.shared.gathered.wait_for(&mut queue, BEAT).timed_out() {
+            if self.shared.gathered.wait_for(&mut queue, beat).timed_out() {
                 return None;
             }
         }

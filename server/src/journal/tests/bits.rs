@@ -10,7 +10,7 @@ type Bytes = BTreeMap<Series, Vec<u8>>;
 /// What a disk with these bytes has: the rows, or why it is refused.
 fn told(bytes: &Bytes) -> Result<Vec<String>, String> {
     let disk = Disk::of(bytes.clone());
-    let recovered = recovery::recover(Box::new(disk.clone()), IDENTITY, true);
+    let recovered = recovered(&disk, IDENTITY);
     let recovered = match recovered {
         Ok(recovered) => recovered,
         Err(error) => {
@@ -28,7 +28,7 @@ fn told(bytes: &Bytes) -> Result<Vec<String>, String> {
 fn whole() -> Bytes {
     crate::journal::writer::by_hand::hold();
     let disk = Disk::default();
-    let recovered = recovery::recover(Box::new(disk.clone()), IDENTITY, true).map_err(|error| error.to_string());
+    let recovered = recovered(&disk, IDENTITY).map_err(|error| error.to_string());
     let log = Arc::new(Log::to(Level::Error, false, Box::new(std::io::sink())));
     let mut core = Core::recovered(recovered.expect("it is new"), &options(&NO_HISTORY), log);
     let written = |core: &mut Core, lines: &str| {

@@ -83,7 +83,7 @@ impl Store for Disk {
         Ok(self.0.lock().series.keys().copied().collect())
     }
 
-    fn read(&mut self, series: Series) -> Result<Box<dyn Read + '_>, Failure> {
+    fn read(&mut self, series: Series, _behind: u64) -> Result<Box<dyn Read + '_>, Failure> {
         let bytes = self.0.lock().series.get(&series).cloned().unwrap_or_default();
         Ok(Box::new(std::io::Cursor::new(bytes)))
     }

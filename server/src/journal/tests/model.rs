@@ -140,7 +140,7 @@ impl Model {
         self.disk.mend();
         // Each start draws another identity, which counts for a new database alone.
         let identity = if self.lives == 0 { IDENTITY.to_string() } else { format!("{:016x}", self.lives) };
-        let recovered = recovery::recover(Box::new(self.disk.clone()), &identity, true);
+        let recovered = recovered(&self.disk, &identity);
         let mut recovered = recovered.map_err(|error| format!("life {} doesn't begin: {error}", self.lives))?;
         let remembered = Remembered::new(HOUR, std::mem::take(&mut recovered.answers));
         let log = Arc::new(Log::to(Level::Error, false, Box::new(std::io::sink())));

@@ -12,7 +12,7 @@ use crate::testing::{ask, server_of};
 
 /// A life over a disk, whose marks are far above all that is said.
 fn life(disk: &Disk) -> Core {
-    let recovered = recovery::recover(Box::new(disk.clone()), IDENTITY, true).map_err(|error| error.to_string());
+    let recovered = recovered(disk, IDENTITY).map_err(|error| error.to_string());
     let log = Arc::new(Log::to(Level::Error, false, Box::new(std::io::sink())));
     let options = options(&["--history", "0", "--max-age", "3600"]);
     let mut core = Core::recovered(recovered.expect("it begins"), &options, log);

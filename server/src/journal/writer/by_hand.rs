@@ -68,6 +68,9 @@ pub fn finish() -> Result<(), Failure> {
         let written = held.thread.write(&mut work);
         if written.is_ok() || !holds(Rule::FailedWritesEnd) {
             held.thread.is_durable(&work);
+            if work.is_last {
+                held.thread.end(work.number);
+            }
             return Ok(());
         }
         written
