@@ -13,6 +13,7 @@ import collections
 import signal
 import time
 from collections.abc import Sequence
+from concurrent.futures import ThreadPoolExecutor
 
 from correct import SPANS, Size, judge
 from durable import OPTIONS, DurableLoad
@@ -23,14 +24,14 @@ from failover_machines import is_real, signal_all
 from failover_outages import Outage, summed
 from failover_pair import TOKEN, Pair
 from failover_times import Followed, lines_of, side_by_side, stale, unnoticed
-from handmade import Session, fill
+from handmade import is_all_taken
 from machine import Server, wait_for
 from tally import Tally
 
 # In seconds. A PostgreSQL that was killed recovers first, and is rewound then.
 LONGEST_FAULT, LONGEST_OUTAGE, LONGEST_CHANGE, LONGEST_REPAIR = 40, 90, 10, 400
 KEYS = ("key/", "key0")
-BULK = "bulk/"
+BULK, EACH = "bulk/", 500
 SMALL = Size(4, 5, 1, 2)
 
 
@@ -38,7 +39,7 @@ class FailoverLoad(DurableLoad):
     spans = tuple((KEYS[0] if lo == "-" else lo, KEYS[1] if hi == "-" else hi) for lo, hi in SPANS)
     rows = 0
     of_first: tuple[str, ...] = ()  # options of the first server alone
-    given: tuple[Kind, ...] = ()
+    given = kinds()
     wakes_early = 0.25  # the share of what is frozen or silent that comes back by the clock, whoever serves
     say = staticmethod(print)
 
@@ -52,8 +53,8 @@ class FailoverLoad(DurableLoad):
 
     def run(self, wanted: int, seconds: float) -> None:
         pair: Pair = self.server
-        if self.rows:
-            fill(Session(pair.port), BULK, self.rows)
+        with ThreadPoolExecutor(8) as pool:
+            list(pool.map(self.fill, range(0, self.rows, EACH)))
         self.clients = Clients(pair, self.room.path)
         self.asked, self.committed = self.room.file("asked"), self.room.file("committed")
         self.room.start(self.room.script("probe", "failover_probe.py", self.asked, TOKEN, *pair.hosts, *pair.fronts.values()))
@@ -61,12 +62,13 @@ class FailoverLoad(DurableLoad):
         self.answers, self.commits = Followed(self.asked), Followed(self.committed)
         wait_for(lambda: self.answers.first(0, pair.hosts) and self.commits.first(0, pair.cluster.addresses()), "the first commits")
         self.kills = collections.Counter()
-        deck, end = dealt(self.dice, pair.network.is_real), time.monotonic() + seconds
+        given = [one for one in self.given if pair.network.is_real or not one.wants_network()]
+        deck, end = dealt(self.dice, given), time.monotonic() + seconds
         for number in range(wanted):
             if time.monotonic() > end:
                 self.faults.append("only %d faults in %.0f seconds" % (number, seconds))
                 break
-            kind = self.given[number % len(self.given)] if self.given else next(deck)
+            kind = next(deck)
             try:
                 self.outages.append(self.suffer(kind))
                 self.say("%d: %s" % (number + 1, self.outages[-1]), flush=True)
@@ -75,6 +77,12 @@ class FailoverLoad(DurableLoad):
                 break
             self.kills[kind.how] += 1
             self.revive()
+
+    def fill(self, first: int) -> None:
+        lines = ["put . %s%07d v\n" % (BULK, number) for number in range(first, min(first + EACH, self.rows))]
+        told = self.server.call("begin\n%scommit .\n" % "".join(lines))
+        if not is_all_taken(told):
+            raise ValueError("a row was refused: " + told[-200:])
 
     def ready(self) -> str:
         """The server that answers, once all is as it was before any fault."""
@@ -143,7 +151,7 @@ class Leaseless(FailoverLoad):
     """The server that answers first believes in its lease for an hour, and who follows it waits for two seconds."""
 
     of_first = ("--lease", "3600")
-    given = (Kind(FROZEN, (OWNER,)),)
+    given = [Kind(FROZEN, (OWNER,))]
     wakes_early = 0.0
     rows = 0
 
@@ -166,7 +174,7 @@ def main(words: list[str]) -> Tally:
     given, tally = parser.parse_args(words), Tally("failover")
     tally.say("failover: seed %d%s" % (given.seed, "" if is_real() else ", and no network drops: namespaces are forbidden here"))
     FailoverLoad.rows = given.rows
-    FailoverLoad.given = tuple(one for one in kinds() if any(it in str(one) for it in given.kind))
+    FailoverLoad.given = [one for one in kinds() if any(it in str(one) for it in given.kind or [""])]
     tally.told("what two servers may not tell is noticed", unnoticed())
     if given.faults:
         verdict = judge(SMALL, given.faults, given.seed, 300 + 60 * given.faults, make=FailoverLoad)

@@ -48,9 +48,8 @@ def kinds() -> list[Kind]:
     ]
 
 
-def dealt(dice: random.Random, is_real: bool) -> Iterator[Kind]:
+def dealt(dice: random.Random, every: list[Kind]) -> Iterator[Kind]:
     """Without end, each once before any comes again. Single parts and the network come first, so that a short run has them."""
-    every = [one for one in kinds() if is_real or not one.wants_network()]
     while True:
         first = [one for one in every if len(one.of) == 1 or one.how not in (KILLED, FROZEN)]
         rest = [one for one in every if one not in first]
