@@ -19,7 +19,7 @@ from correct import SPANS, Size, judge
 from durable import OPTIONS, DurableLoad
 from durable_servers import DurableServer
 from failover_clients import Clients
-from failover_faults import APART, FROZEN, HANDED, OWNER, SILENT, Fault, Kind, dealt, kinds
+from failover_faults import APART, FORGOTTEN, FROZEN, HANDED, OWNER, SILENT, Fault, Kind, dealt, kinds
 from failover_machines import is_real, signal_all
 from failover_outages import Outage, summed
 from failover_pair import TOKEN, Pair
@@ -148,10 +148,10 @@ class FailoverLoad(DurableLoad):
 
 
 class Leaseless(FailoverLoad):
-    """The server that answers first believes in its lease for an hour, and who follows it waits for two seconds."""
+    """The server that answers first believes in its lease for an hour, of which its successor isn't told."""
 
     of_first = ("--lease", "3600")
-    given = [Kind(FROZEN, (OWNER,))]
+    given = [Kind(FORGOTTEN, (OWNER,))]
     wakes_early = 0.0
     rows = 0
 
@@ -160,6 +160,8 @@ class Leaseless(FailoverLoad):
         while (owner := super().ready()) != "one":
             signal_all(self.server.servers[owner].pids(), signal.SIGTERM)
             wait_for(lambda: self.server.owner() == "one", "the first server")
+        cluster = self.server.cluster
+        cluster.ask(cluster.primary(), "UPDATE ripsawbean_owner SET lease = 1")
         return owner
 
 
@@ -182,7 +184,7 @@ def main(words: list[str]) -> Tally:
             tally.say(line)
         faults = verdict.faults + ["nothing was compared"] * verdict.is_empty()
         tally.told("%d faults, compared with the serial model" % len(verdict.load.outages), faults, verdict.told())
-    if given.control:
+    if given.control and is_real():
         verdict = judge(SMALL, given.control, given.seed + 1, 300, make=Leaseless)
         noticed = [it for it in verdict.faults if "was known" in it or "has answered" in it]
         tally.told("the control: a lease that isn't waited for", [] if noticed else ["nothing was noticed", *verdict.faults[:3]],

@@ -19,7 +19,7 @@ OWNER, STANDBY, PRIMARY, REPLICA = "the server that answers", "the standby", "Po
 PATRONI, OTHER_PATRONI, ETCD = "Patroni", "the replica's Patroni", "an etcd"
 PARTS = (OWNER, STANDBY, PRIMARY, REPLICA, PATRONI, OTHER_PATRONI, ETCD)
 KILLED, FROZEN, SILENT, APART, DARK = "kill -9", "SIGSTOP", "silence", "apart", "power loss"
-CANCELLED, HANDED = "a cancelled wait", "a hand over"
+CANCELLED, HANDED, FORGOTTEN = "a cancelled wait", "a hand over", "cut off and given up"
 
 
 @dataclasses.dataclass(frozen=True)
@@ -31,7 +31,7 @@ class Kind:
         return "%s: %s" % (self.how, " and ".join(self.of))
 
     def wants_network(self) -> bool:
-        return self.how in (SILENT, APART, DARK)
+        return self.how in (SILENT, APART, DARK, FORGOTTEN)
 
 
 def kinds() -> list[Kind]:
@@ -43,6 +43,7 @@ def kinds() -> list[Kind]:
         *(Kind(APART, it) for it in ((OWNER, PRIMARY), (OWNER, PRIMARY, REPLICA), (PRIMARY, REPLICA), (PRIMARY, ETCD),
                                      (STANDBY, PRIMARY, REPLICA))),
         *(Kind(DARK, it) for it in ((OWNER,), (PRIMARY,), (OWNER, PRIMARY))),
+        Kind(FORGOTTEN, (OWNER,)),
         *(Kind(HANDED, (it,)) for it in (OWNER, PRIMARY)),
         Kind(CANCELLED, ("pg_cancel_backend",)), Kind(CANCELLED, ("pg_terminate_backend",)),
     ]
@@ -91,6 +92,8 @@ class Fault:
             return self.cancel()
         if how == HANDED:
             return self.hand_over()
+        if how == FORGOTTEN:
+            return self.give_up()
         if how == APART:
             first, *others = self.machines()
             if self.kind.of[1] == ETCD:
@@ -121,6 +124,14 @@ class Fault:
                 part.kill()
             signal_all(held, signal.SIGCONT)
 
+    def give_up(self) -> None:
+        """A server is cut off, and doesn't know. PostgreSQL does, as after a failover, so the standby need not wait for that."""
+        owner, cluster = self.parts[OWNER].machine, self.pair.cluster
+        for machine in cluster.machines.values():
+            owner.part_from(machine)
+        what = "SELECT pg_terminate_backend(pid) FROM pg_stat_activity WHERE client_addr = '%s'"
+        cluster.ask(self.primary, what % owner.address)
+
     def hand_over(self) -> None:
         """A change of machines that somebody has planned."""
         if self.kind.of == (OWNER,):
@@ -131,7 +142,7 @@ class Fault:
         for machine in self.machines():
             if self.kind.wants_network():
                 machine.speak()
-        if self.kind.how == APART:
+        if self.kind.how in (APART, FORGOTTEN):
             for machine in (*self.pair.cluster.machines.values(), *self.pair.cluster.etcds.values()):
                 machine.speak()
         for part in self.these():
