@@ -98,6 +98,8 @@ class Pair(Server):
         names = ("--host", "127.0.0.1:%d" % self.port, "--host", "%s:%d" % (SHARED, PORT))
         words = ("--data", data, *names, *options)
         self.servers = {it.name: Served(room, it, *words, *more) for it, more in zip(machines, (of_first, ()))}
+        # Machines that are addresses of loopback leave it no port of its own.
+        self.own = "bind :7077" if self.network.is_real else "bind 127.0.0.1:%d" % free_port()
         self.front = Program(room.path, "haproxy", ["haproxy", "-db", "-f", self.configured("haproxy.cfg"), "-f", room.file("door")])
         with open(room.file("door"), "w") as file:
             file.write(DOOR % (self.port, TOKEN))
@@ -110,7 +112,7 @@ class Pair(Server):
         machines = [one.machine for one in self.servers.values()]
         path = self.room.file(name + "".join(swapped))
         with open(path, "w") as file:
-            file.write(text_of(name, machines if not swapped else machines[::-1]))
+            file.write(text_of(name, machines if not swapped else machines[::-1]).replace("bind :7077", self.own))
         return path
 
     def mover(self, machine: Machine) -> Program:
