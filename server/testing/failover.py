@@ -102,8 +102,9 @@ class FailoverLoad(DurableLoad):
         fault.begin()
         since = time.monotonic()
         lasts = self.dice.uniform(0.5, 14) if wakes else LONGEST_FAULT
-        back, is_mended = self.back_within(since, since + lasts, pair.hosts), False
+        back, is_mended, after = self.back_within(since, since + lasts, pair.hosts), False, {}
         if back is not None and not wakes:
+            after = self.after(since, back)
             time.sleep(self.dice.uniform(0.5, 3))
         fault.mend()
         if back is None:
@@ -111,11 +112,16 @@ class FailoverLoad(DurableLoad):
             back = self.back_within(since, since + LONGEST_OUTAGE, pair.hosts)
         if back is None:
             raise TimeoutError("no commit in %d seconds: %s" % (LONGEST_OUTAGE, pair.tail()))
-        commits = self.commits.first(since, pair.cluster.addresses())
-        fronts = {name: self.back_within(since, back + LONGEST_FAULT, [host]) for name, host in pair.fronts.items()}
-        self.faults += ["%s: nothing by %s" % (kind, name) for name, told in fronts.items() if told is None]
-        after = {name: told - since for name, told in [("a server", back), ("PostgreSQL", commits), *fronts.items()] if told}
-        return Outage(kind, after, is_mended)
+        return Outage(kind, after or self.after(since, back), is_mended)
+
+    def after(self, since: float, back: float) -> dict[str, float]:
+        """Seconds until a commit by each that could take it."""
+        found = {"a server": back, "PostgreSQL": self.commits.first(since, self.server.cluster.addresses())}
+        for name, host in self.server.fronts.items():
+            found[name] = self.back_within(since, back + LONGEST_FAULT, [host])
+            if found[name] is None:
+                self.faults.append("nothing by %s in %d seconds" % (name, LONGEST_FAULT))
+        return {name: told - since for name, told in found.items() if told is not None}
 
     def hand_over(self, fault: Fault) -> Outage:
         """Of what is planned the longest pause is told."""
