@@ -64,17 +64,14 @@ class FailoverLoad(DurableLoad):
         self.kills = collections.Counter()
         given = [one for one in self.given if pair.network.is_real or not one.wants_network()]
         deck, end = dealt(self.dice, given), time.monotonic() + seconds
-        for number in range(wanted):
-            if time.monotonic() > end:
-                self.faults.append("only %d faults in %.0f seconds" % (number, seconds))
-                break
+        while len(self.outages) < wanted and time.monotonic() < end:
             kind = next(deck)
             try:
                 self.outages.append(self.suffer(kind))
-                self.say("%d: %s" % (number + 1, self.outages[-1]), flush=True)
             except TimeoutError as why:
                 self.faults.append("at %s: %s" % (kind, why))
                 break
+            self.say("%d: %s" % (len(self.outages), self.outages[-1]), flush=True)
             self.kills[kind.how] += 1
             self.revive()
 
@@ -173,7 +170,8 @@ class Leaseless(FailoverLoad):
 
 def main(words: list[str]) -> Tally:
     parser = argparse.ArgumentParser(prog="server/test failover", description="Whether a machine may go.")
-    parser.add_argument("--faults", type=int, default=30, metavar="N", help="how many faults there are (30)")
+    parser.add_argument("--faults", type=int, default=100, metavar="N", help="how many faults there are (100)")
+    parser.add_argument("--minutes", type=float, default=10, metavar="N", help="how long they go on at most (10)")
     parser.add_argument("--seed", type=int, default=int(time.time()), metavar="N", help="draws what goes when")
     parser.add_argument("--rows", type=int, default=1_000_000, metavar="N", help="versions that the database has (1000000)")
     parser.add_argument("--kind", action="append", default=[], metavar="WORDS", help="faults with these words in their name")
@@ -185,7 +183,7 @@ def main(words: list[str]) -> Tally:
     FailoverLoad.given = [one for one in kinds() if any(it in str(one) for it in given.kind or [""])]
     tally.told("what two servers may not tell is noticed", unnoticed())
     if given.faults:
-        verdict = judge(SMALL, given.faults, given.seed, 300 + 60 * given.faults, make=FailoverLoad)
+        verdict = judge(SMALL, given.faults, given.seed, 60 * given.minutes, make=FailoverLoad)
         for line in summed(verdict.load.outages):
             tally.say(line)
         faults = verdict.faults + ["nothing was compared"] * verdict.is_empty()
