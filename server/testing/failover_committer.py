@@ -10,12 +10,18 @@ import os
 import sys
 import threading
 import time
+from typing import Any
 
 import psycopg2
 from failover_cluster import DATABASE
 
-PAUSE = 0.05
+PAUSE = 0.1
 COMMIT = "INSERT INTO trial VALUES (%s, 1) ON CONFLICT (at) DO UPDATE SET number = trial.number + 1"
+
+
+def is_replica(cursor: Any) -> bool:
+    cursor.execute("SELECT pg_is_in_recovery()")
+    return bool(cursor.fetchone()[0])
 
 
 def commit(log: int, address: str) -> None:
@@ -23,6 +29,8 @@ def commit(log: int, address: str) -> None:
     link = psycopg2.connect("host=%s %s" % (address, DATABASE))
     with contextlib.closing(link), link.cursor() as cursor:
         link.autocommit = True
+        while is_replica(cursor):
+            time.sleep(PAUSE)
         cursor.execute("CREATE TABLE IF NOT EXISTS trial (at text PRIMARY KEY, number int)")
         while True:
             asked = time.monotonic()

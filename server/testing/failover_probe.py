@@ -19,7 +19,7 @@ import time
 from urllib.parse import quote
 
 SOON, LATE = 0.5, 90.0  # seconds that an answer may take
-PAUSE = 0.02
+PAUSE = 0.1
 COUNTS = "real/"
 
 
