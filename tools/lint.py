@@ -11,7 +11,7 @@ import re
 import sys
 from collections import defaultdict
 
-import body_page
+import body_list
 import git
 import kit
 
@@ -20,11 +20,14 @@ LONGEST_CLAUSE = 160
 MOST_LINES = 600
 LONGEST_LINE = 120
 MOST_WORDS = 26000
-MOST_WORDS_OF_README = 1300
+MOST_WORDS_OF_README = 1200
+# README says what its project is, and each other page for whom it is.
+README_OPENS = r"# (\w+)\n\s*\1 is "
+PAGE_OPENS = r"# [^\n]*\n(?:\s*<!--.*?-->)?\s*\*?For "
 # Comments that begin with a clause in the place of their subject. The number may only fall.
 MOST_CLAUSES = 4
 # The pages that the rules of words and figures leave alone, because scripts write them.
-WRITTEN = ("docs/LAST-RUN.md", body_page.PAGE)
+WRITTEN = ("docs/LAST-RUN.md",)
 UNITS = """zero one two three four five six seven eight nine ten eleven twelve thirteen fourteen fifteen sixteen
 seventeen eighteen nineteen""".split()
 TENS = {"twenty": 20, "thirty": 30, "forty": 40, "fifty": 50, "sixty": 60}
@@ -184,14 +187,10 @@ def edits_apply(house):
 
 @rule
 def wrong_bodies(house):
-    """A wrong body begins with a line `what:` and a sentence, and docs/WRONG-BODIES.md lists them all."""
-    paths = [it for it in house.ending(".edit", under="crates/") if it.split("/")[2] in body_page.FOLDERS]
-    edits = {it: house.text(it) for it in paths}
-    for path, text in edits.items():
-        if path.split("/")[2] == "wrong-bodies" and not body_page.what_of(text):
+    """A wrong body begins with a line `what:` and a sentence."""
+    for path in house.ending(".edit", under="crates/"):
+        if path.split("/")[2] == "wrong-bodies" and not body_list.what_of(house.text(path)):
             yield path, 1, "it doesn't begin with `what: ` and a sentence"
-    if body_page.PAGE in house.paths and house.text(body_page.PAGE) != body_page.page(house.crates(), edits):
-        yield body_page.PAGE, 1, "it isn't what the edits say: tools/wrong-bodies --list writes it"
 
 
 def number_of(word):
@@ -389,7 +388,7 @@ def differing(house, path, pattern, own):
 
 @rule
 def heads(house):
-    """A file says at its top what it is: a source, a definition, a script; and a page for whom it is."""
+    """A file says at its top what it is: a source, a definition, a script, README; and a page for whom it is."""
     pages = house.pages()
     for path in house.paths:
         text = house.text(path) if not path.endswith((".png", ".wasm", ".ico")) else ""
@@ -401,8 +400,8 @@ def heads(house):
             yield path, 1, "it begins with no comment"
         elif first.startswith("#!") and path != ".ci/run" and not re.match(r"#!.*\n\s*(?:#|\"\"\"|//|/\*)", text):
             yield path, 1, "it begins with no comment"
-        elif path in pages and not re.match(r"# [^\n]*\n(?:\s*<!--.*?-->)?\s*\*?For ", text, re.S):
-            yield path, 1, "its first words don't say whom it is for"
+        elif path in pages and not re.match(README_OPENS if path == "README.md" else PAGE_OPENS, text, re.S):
+            yield path, 1, "its first words don't say what it is, or for whom"
 
 
 @rule
@@ -454,7 +453,7 @@ def pictures(house):
 
 @rule
 def words(house):
-    """README has at most 1,300 words, and the pages have 26,000 together; a word has a letter or a digit."""
+    """README has at most 1,200 words, and the pages have 26,000 together; a word has a letter or a digit."""
     counts = {it: len(re.findall(r"\S*\w\S*", house.text(it))) for it in house.pages() if it not in WRITTEN}
     if counts["README.md"] > MOST_WORDS_OF_README:
         yield "README.md", 1, "it has %d words" % counts["README.md"]

@@ -8,7 +8,6 @@ import tempfile
 import unittest
 from unittest import mock
 
-import body_page
 import lint
 import testing
 
@@ -16,7 +15,7 @@ lint.MOST_CLAUSES = 0
 
 LOGIC = "00112233445566ff"
 SOUND = {
-    "README.md": "# House\n\nFor readers. It has 12 crates and eleven commands; [more](docs/GUIDE.md#first-steps).\n\n"
+    "README.md": "# House\n\nHouse is small. It has 12 crates, eleven commands; [more](docs/GUIDE.md#first-steps).\n\n"
     "| server | 33,737 |\n\nProved with Rattle of logic %s.\n" % LOGIC,
     "docs/PERFORMANCE.md": "# Performance\n\nFor askers. It makes 33,737.\n",
     "docs/GUIDE.md": "# Guide\n\nFor users.\n\n## First steps\n\n"
@@ -50,7 +49,6 @@ SOUND.update(
     {"crates/low/must-fail/e%d.edit" % n: "file: src/lib.rt\nold:     1\nnew:     %d\n" % (n + 2) for n in range(12)}
 )
 SOUND["crates/low/wrong-bodies/two.edit"] = "what: One is two.\nfile: src/lib.rt\nold:     1\nnew:     2\n"
-SOUND[body_page.PAGE] = body_page.page(["low"], {it: text for it, text in SOUND.items() if it.endswith(".edit")})
 
 
 @contextlib.contextmanager
@@ -110,9 +108,8 @@ PLANTED = {
         ("web/playground/tour.mjs", "two", "ten"),
     ],
     "wrong_bodies": [
-        ("crates/low/wrong-bodies/two.edit", "One is two.", "One is 2."),
+        ("crates/low/wrong-bodies/two.edit", "One is two.", "One is two"),
         ("crates/low/wrong-bodies/two.edit", "what: One is two.\n", ""),
-        (body_page.PAGE, "| One is two. |", "| One is one. |"),
     ],
     "links": [
         ("README.md", "docs/GUIDE.md", "docs/GUIDES.md"),
@@ -151,6 +148,7 @@ PLANTED = {
         ("crates/low/specs/Ones.antt", "-- ", ""),
         ("tools/run", "# Runs it.\n", "exec true\n"),
         ("docs/GUIDE.md", "For users", "Use it"),
+        ("README.md", "House is", "It is"),
     ],
     "file_length": [("docs/GUIDE.md", "\n## First", "\n" * 600 + "## First")],
     "line_length": [
@@ -164,7 +162,7 @@ PLANTED = {
     ],
     "words": [
         ("docs/GUIDE.md", "For users.", "For users." + "\nword" * 500),
-        ("README.md", "For readers.", "For readers." + "\nword" * 200),
+        ("README.md", "House is small.", "House is small." + "\nword" * 200),
     ],
     "measured": [
         ("README.md", "33,737", "33,738"),

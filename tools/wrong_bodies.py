@@ -32,7 +32,7 @@ import time
 from concurrent.futures import FIRST_COMPLETED, ThreadPoolExecutor, wait
 from contextlib import suppress
 
-import body_page
+import body_list
 import git
 import kit
 import side_by_side
@@ -387,7 +387,7 @@ def main(words):
     given = given_words(words)
     checkout = git.said(".", "rev-parse", "--show-toplevel")
     if given.list:
-        return write_page(checkout)
+        return print_list(checkout)
     with tempfile.TemporaryDirectory(prefix="wrong-bodies-") as room:
         top = copied(checkout, room)
         sources = tried.Sources(top, kit.logic())
@@ -419,11 +419,10 @@ def main(words):
     return 1 if missed else 0
 
 
-def write_page(checkout):
-    """Writes the page that lists all wrong bodies."""
+def print_list(checkout):
+    """Prints the list of all wrong bodies."""
     crates = list(side_by_side.listed(text_of(os.path.join(checkout, "crates.txt"))))
-    with open(os.path.join(checkout, body_page.PAGE), "w", encoding="utf-8") as it:
-        it.write(body_page.page(crates, body_page.edits_of(checkout)))
+    print(body_list.listed(crates, body_list.edits_of(checkout)), end="")
     return 0
 
 

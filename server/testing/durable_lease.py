@@ -6,6 +6,7 @@ is the control: without a lease the server that was cut off answers what its suc
 
 import contextlib
 import http.client
+import json
 import os
 import random
 import select
@@ -129,8 +130,9 @@ def test_cut_off(room: Room, dice: random.Random) -> list[str]:
         faults.append("%d reads are answered as before: %s" % (len(late), late[:1]))
     if any(status == 200 and done > since for _, done, status, _ in reader.told):
         faults.append("two servers have answered at a time")
-    if not any('"lease"' in text for _, _, status, text in reader.told if status == 503):
-        faults.append("a refusal says another reason")
+    refusals = {(status, json.loads(text)["error"]) for _, _, status, text in reader.told if status != 200}
+    if refusals != {(503, "lease")}:
+        faults.append("its refusals are %s" % refusals)
     way.is_open.set()
     wait_for(first.has_ended, "the first server's end")
     return faults

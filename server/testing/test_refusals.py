@@ -12,6 +12,7 @@ import tempfile
 import unittest
 
 sys.path[:0] = [os.path.dirname(os.path.abspath(__file__))]
+import durable_lease  # noqa: E402
 import test_api  # noqa: E402
 from handmade import Wire  # noqa: E402
 from test_reference import listed  # noqa: E402
@@ -27,6 +28,7 @@ TESTS_OF = {
     (503, "holds"): test_api.Rows.test_snapshots_that_are_held_are_bounded,
     (503, "connections"): test_api.Memory.test_connections_that_wait_leave_room_to_others,
     (503, "answers"): test_api.Memory.test_slow_readers_of_long_answers_are_bounded,
+    (503, "lease"): durable_lease.test_cut_off,
 }
 # Where the library has no memory, which `server/unit` brings about.
 OF_MEMORY = {(503, "nomemory"), (500, "unwritten"), (500, "unexpected")}

@@ -81,47 +81,41 @@ mod tests {
     use super::*;
     use std::thread::sleep;
 
-    const LENGTH: Duration = Duration::from_millis(200);
+    const SHORT: Duration = Duration::from_millis(1);
+    const LONG: Duration = Duration::from_secs(3600);
+
+    /// Whether a lease is fresh that was renewed by a write that was begun then, two milliseconds later.
+    fn is_fresh_behind(length: Duration, begun: Moment) -> bool {
+        let lease = Lease::new(Some(length));
+        assert!(!lease.is_fresh());
+        sleep(2 * SHORT);
+        lease.renew(begun);
+        lease.is_fresh()
+    }
 
     #[test]
     fn it_counts_from_when_the_write_was_begun_and_not_from_its_confirmation() {
-        let lease = Lease::new(Some(LENGTH));
-        assert!(!lease.is_fresh());
-        let begun = Moment::now();
-        lease.renew(begun);
-        assert!(lease.is_fresh());
-        sleep(LENGTH + Duration::from_millis(1));
-        assert!(!lease.is_fresh());
-        // Confirmed too late.
-        lease.renew(begun);
-        assert!(!lease.is_fresh());
+        assert!(is_fresh_behind(LONG, Moment::now()));
+        assert!(!is_fresh_behind(SHORT, Moment::now()));
+        let lease = Lease::new(Some(LONG));
+        lease.renew(Moment::now());
+        lease.end();
+        assert!(!lease.is_fresh() && Lease::new(None).is_fresh());
     }
 
     #[test]
     fn either_clock_ends_it() {
-        let (lease, now) = (Lease::new(Some(Duration::from_secs(60))), Moment::now());
-        let hour = Duration::from_secs(3600);
-        lease.renew(now);
-        assert!(lease.is_fresh());
-        // The machine has slept, so the steady clock is behind. Or the other one was set back.
-        lease.renew(Moment { wall: now.wall - hour, ..now });
-        assert!(!lease.is_fresh());
-        lease.renew(Moment {
-            steady: now.steady.checked_sub(Duration::from_secs(61)).unwrap_or(now.steady),
-            wall: now.wall + hour,
-        });
-        assert!(!lease.is_fresh() || now.steady.checked_sub(Duration::from_secs(61)).is_none());
-        lease.renew(now);
-        lease.end();
-        assert!(!lease.is_fresh());
+        let now = Moment::now();
+        // The machine has slept, so that the steady clock stood still, or the other one was set back.
+        assert!(!is_fresh_behind(LONG, Moment { wall: now.wall - 2 * LONG, ..now }));
+        assert!(!is_fresh_behind(SHORT, Moment { wall: now.wall + LONG, ..now }));
     }
 
     #[tokio::test]
     async fn who_waits_goes_on_with_the_next_renewal() {
-        let lease = Lease::new(Some(Duration::from_secs(60)));
+        let lease = Lease::new(Some(LONG));
         let waits = tokio::time::timeout(Duration::from_millis(20), lease.fresh());
         assert!(waits.await.is_err());
         tokio::join!(lease.fresh(), async { lease.renew(Moment::now()) });
-        assert!(Lease::new(None).is_fresh());
     }
 }

@@ -89,6 +89,8 @@ pub struct Postgres {
     /// How a draft connects.
     address: Arc<Address>,
     lease: Duration,
+    /// Where the owner before answers no longer.
+    begins: Instant,
     /// The series that was appended to last, and its last piece.
     last: Option<(Series, i64)>,
 }
@@ -132,7 +134,8 @@ impl Postgres {
         loop {
             let connected = Session::connect(&address).map_err(Error::Failure);
             let taken = connected.and_then(|session| {
-                let mut postgres = Postgres { session, address: address.clone(), lease, last: None };
+                let begins = Instant::now();
+                let mut postgres = Postgres { session, address: address.clone(), lease, begins, last: None };
                 postgres.wait(reading, &mut say)?;
                 postgres.own(reading)?;
                 Ok(postgres)
@@ -161,14 +164,19 @@ impl Postgres {
             false if !self.has_tables()? => return Ok(()),
             false => found(self)?,
         };
-        match reading.take_all(self, &all) {
-            Err(failure @ (Failure::Postgres(_) | Failure::NoMemory(_))) => Err(failure.into()),
+        let why = match reading.take_all(self, &all) {
+            Ok(()) => return Ok(()),
+            Err(failure @ Failure::NoMemory(_)) => return Err(failure.into()),
+            // What was read before it counts.
+            Err(failure @ Failure::Postgres(_)) if is_begun => return Err(failure.into()),
+            Err(failure) => failure,
+        };
+        *reading = reading.anew()?;
+        match why {
             // A checkpoint has made it superfluous meanwhile, or another PostgreSQL has something else there.
-            Err(why) if is_begun || found(self)?.base != all.base => {
-                *reading = reading.anew()?;
-                Err(failure(format!("{why}. It is read anew")).into())
-            }
-            read => Ok(read?),
+            Failure::Postgres(_) => Err(why.into()),
+            _ if is_begun || found(self)?.base != all.base => Err(failure(format!("{why}. It is read anew")).into()),
+            _ => Err(why.into()),
         }
     }
 
@@ -214,21 +222,16 @@ impl Postgres {
         }
     }
 
-    /// Raises the epoch, reads the rest, and waits until the owner before answers no longer.
+    /// Raises the epoch, and reads the rest.
     fn own(&mut self, reading: &mut Reading) -> Result<(), Error> {
         self.session.ask(self.session.client.batch_execute(TABLES))?;
         let lease = i64::try_from(self.lease.as_millis()).unwrap_or(i64::MAX);
         let raised = self.session.confirmed(self.session.client.query_one(RAISE, &[&lease]))?;
-        let now = Instant::now();
-        self.session.epoch = raised.get(0);
-        self.follow(reading, true)?;
         // The clocks of two machines may run apart by a twentieth.
         let before = Duration::from_millis(u64::try_from(raised.get::<_, i64>(1)).unwrap_or(0)) * 21 / 20;
-        while let Some(left) = before.checked_sub(now.elapsed()) {
-            self.beat(false)?;
-            sleep(left.min(AGAIN));
-        }
-        Ok(())
+        self.begins = Instant::now() + before;
+        self.session.epoch = raised.get(0);
+        self.follow(reading, true)
     }
 
     /// The next pieces behind one. Series go as a whole: so while that one stands there, none is missing behind it.
@@ -282,6 +285,11 @@ impl Store for Postgres {
     }
 
     fn append(&mut self, series: Series, pieces: &[&[u8]]) -> Result<(), Failure> {
+        // The first batch comes before anyone is answered, and may wait for that.
+        while let Some(left) = self.begins.checked_duration_since(Instant::now()) {
+            self.beat(false)?;
+            sleep(left.min(AGAIN));
+        }
         let piece = match self.last.filter(|(last, _)| *last == series) {
             Some((_, piece)) => piece + 1,
             None => {

@@ -27,6 +27,7 @@ use crate::lines::number_in;
 use ripsawbean::{CallError, Database, Event, OpenError};
 use std::collections::{BTreeMap, VecDeque};
 use std::fmt;
+use std::io;
 use std::time::Duration;
 
 /// So many commits are kept by themselves while the journal is followed.
@@ -166,8 +167,6 @@ pub struct Reading {
     told: Told,
     remember: Duration,
     position: Option<Position>,
-    /// The number of the first batch of the series that was read last.
-    first: Option<u64>,
     /// Of the last series: its name, where its whole batches end, and the bytes behind them.
     last: Series,
     whole: u64,
@@ -211,8 +210,7 @@ impl Reading {
     /// Answers to keys count for so long.
     pub fn begin(remember: Duration) -> Result<Reading, Error> {
         let (database, told, last) = (Database::open(RING).map_err(Error::Open)?, Told::default(), Series::journal(1));
-        let (position, first, mark) = (None, None, None);
-        Ok(Reading { database, told, remember, position, first, last, whole: 0, torn: 0, mark, bytes: 0 })
+        Ok(Reading { database, told, remember, position: None, last, whole: 0, torn: 0, mark: None, bytes: 0 })
     }
 
     pub fn anew(&self) -> Result<Reading, Error> {
@@ -233,9 +231,12 @@ impl Reading {
     pub fn take_all(&mut self, store: &mut dyn Store, all: &Found) -> Result<(), Failure> {
         let is_begun = self.is_begun();
         let first = if is_begun { self.last.number } else { all.base };
+        if is_begun && all.last.is_none_or(|last| last < first) {
+            return Err(Failure::Missing(store.name(self.last)));
+        }
         if all.has_checkpoint && !is_begun {
             let series = Series::checkpoint(all.base);
-            if !self.take(store, series)? || self.torn > 0 {
+            if !self.take(store, series, true)? || self.torn > 0 {
                 return Err(Failure::NotWhole { name: store.name(series), at: self.whole });
             }
             self.told.base = self.told.closed;
@@ -248,7 +249,7 @@ impl Reading {
             if self.torn > 0 {
                 return Err(Failure::Torn { name: store.name(self.last), at: self.whole });
             }
-            self.follow(store, Series::journal(number), number == first)?;
+            self.take(store, Series::journal(number), number == first)?;
             // A checkpoint is finished once the journal's head is durable, which has the names.
             if all.has_checkpoint && self.position.is_none() {
                 return Err(Failure::NotWhole { name: store.name(self.last), at: self.whole });
@@ -264,56 +265,60 @@ impl Reading {
         Ok(())
     }
 
-    /// Reads a journal, which goes on where the one before it has ended: with the batch that was cut between the two, or,
-    /// behind a crash, with the next.
-    fn follow(&mut self, store: &mut dyn Store, series: Series, is_first: bool) -> Result<(), Failure> {
-        let (before, last, at) = (self.position, self.last, self.whole);
-        self.take(store, series)?;
-        let number = before.map_or(0, |before| before.number);
-        match self.first {
-            Some(first) if !is_first && first != number && first != number + 1 => {
-                Err(Failure::NotWhole { name: store.name(last), at })
+    /// Reads a series, or what was added to the last one: whether its last batch ends as a copy does. One that isn't the
+    /// first goes on where the one before it has ended: with the batch that was cut between the two, or, behind a crash,
+    /// with the next. Where it can't be read to its end, what was taken of it counts as read.
+    fn take(&mut self, store: &mut dyn Store, series: Series, is_first: bool) -> Result<bool, Failure> {
+        let (name, again) = (store.name(series), self.mark.filter(|_| series == self.last));
+        let before = self.position.map_or(0, |position| position.number);
+        let gap = (!is_first).then(|| (before, Failure::NotWhole { name: store.name(self.last), at: self.whole }));
+        let (mut count, reached) = again.map_or((0, Reached::default()), |mark| (mark.count - 1, mark.reached[0]));
+        let mut batches = Batches::behind(store.read(series, count)?, series, reached, &self.told.identity);
+        if let Some(mark) = again {
+            // A PostgreSQL that has taken another's place may have something else there.
+            let batch = batches.next().map_err(|fault| failure_of(&name, fault))?;
+            if batch.is_none_or(|batch| batch.mark != mark.mark) || batches.reached() != mark.reached {
+                return Err(Failure::Missing(name));
             }
-            _ => Ok(()),
+            count += 1;
         }
+        let taken = self.take_batches(&mut batches, &name, &mut count, gap);
+        let (found, wanted) = (batches.identity().to_string(), &self.told.identity);
+        if !wanted.is_empty() && !found.is_empty() && found != *wanted {
+            return Err(Failure::OtherDatabase { name, found, wanted: wanted.clone() });
+        }
+        if taken.is_err() && count == 0 {
+            return taken;
+        }
+        (self.last, self.whole, self.torn) = (series, batches.whole(), batches.torn());
+        self.mark = (count > 0).then_some(Mark { count, reached: batches.reached(), mark: self.told.mark });
+        let Some((number, chain)) = batches.last() else { return taken };
+        self.told.identity = found;
+        self.position = (series.kind == Kind::Journal).then_some(Position { series, number, chain, mark: 0, bytes: 0 });
+        taken
     }
 
-    /// Reads a series, or what was added to the last one: whether its last batch ends as a copy does.
-    fn take(&mut self, store: &mut dyn Store, series: Series) -> Result<bool, Failure> {
-        let (name, mut is_whole) = (store.name(series), false);
-        let again = self.mark.take().filter(|_| series == self.last);
-        let (mut count, before) = again.map_or((0, Reached::default()), |mark| (mark.count - 1, mark.reached[0]));
-        let mut batches = Batches::behind(store.read(series, count)?, series, before, &self.told.identity);
-        match again {
-            None => self.first = None,
-            Some(mark) => {
-                // Another server may have written something else there, in a PostgreSQL that has taken another's place.
-                let batch = batches.next().map_err(|fault| failure_of(&name, fault))?;
-                if batch.is_none_or(|batch| batch.mark != mark.mark) || batches.reached() != mark.reached {
-                    return Err(Failure::Missing(name));
-                }
-                count += 1;
+    /// Takes the batches that follow, and counts them.
+    fn take_batches<R: io::Read>(
+        &mut self,
+        batches: &mut Batches<R>,
+        name: &str,
+        count: &mut u64,
+        mut gap: Option<(u64, Failure)>,
+    ) -> Result<bool, Failure> {
+        let mut is_whole = false;
+        while let Some(batch) = batches.next().map_err(|fault| failure_of(name, fault))? {
+            match gap.take() {
+                Some((before, gap)) if batch.number != before && batch.number != before + 1 => return Err(gap),
+                _ => *count += 1,
             }
-        }
-        while let Some(batch) = batches.next().map_err(|fault| failure_of(&name, fault))? {
-            count += 1;
-            self.first = self.first.or(Some(batch.number));
             if holds(Rule::TheMarkIsWritten) {
                 // At a clean end it falls to where it really stands.
                 self.told.mark = batch.mark;
             }
-            take_lines(&mut self.database, &mut self.told, batch.lines, &name)?;
+            take_lines(&mut self.database, &mut self.told, batch.lines, name)?;
             is_whole = is_end(batch.lines);
         }
-        (self.last, self.whole, self.torn) = (series, batches.whole(), batches.torn());
-        self.mark = (count > 0).then_some(Mark { count, reached: batches.reached(), mark: self.told.mark });
-        let Some((number, chain)) = batches.last() else { return Ok(false) };
-        let (found, wanted) = (batches.identity().to_string(), &self.told.identity);
-        if !wanted.is_empty() && found != *wanted {
-            return Err(Failure::OtherDatabase { name, found, wanted: wanted.clone() });
-        }
-        self.told.identity = found;
-        self.position = (series.kind == Kind::Journal).then_some(Position { series, number, chain, mark: 0, bytes: 0 });
         Ok(is_whole)
     }
 
@@ -447,3 +452,6 @@ pub fn failure_of(name: &str, fault: Fault) -> Failure {
         Fault::Damaged(damage) => Failure::Damaged { name: name.into(), damage },
     }
 }
+
+#[cfg(test)]
+mod tests;

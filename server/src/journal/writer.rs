@@ -172,8 +172,10 @@ impl Writer {
         let (number, mark) = (position.number + 1, position.mark);
         let counts = Arc::new(Counts::default());
         counts.since_checkpoint.store(position.bytes, Relaxed);
-        let (lease, begun) = (Arc::new(Lease::new(store.lease())), Moment::now());
         write(&mut *store, &mut position, number, mark, &[lines], &counts)?;
+        // The first batch may have waited for the lease of another process.
+        let (lease, begun) = (Arc::new(Lease::new(store.lease())), Moment::now());
+        store.beat(false)?;
         lease.renew(begun);
         let queue = Queue { lines: Pieces::with_room(), number: number + 1, mark, ..Queue::default() };
         let shared = Arc::new(Shared {

@@ -11,8 +11,9 @@ use super::Failure;
 use crate::http::Stream;
 use crate::query::percent_decoded;
 use crate::tls::{chain, key};
+use std::collections::BTreeMap;
 use std::io;
-use std::path::PathBuf;
+use std::path::Path;
 use std::sync::Arc;
 use std::time::SystemTime;
 use tokio::io::{AsyncReadExt, AsyncWriteExt};
@@ -20,6 +21,7 @@ use tokio_rustls::rustls::client::{ServerCertVerified, ServerCertVerifier};
 use tokio_rustls::rustls::{self, Certificate, ClientConfig, ServerName};
 use tokio_rustls::TlsConnector;
 
+const NAMES: [&str; 4] = ["sslmode", "sslrootcert", "sslcert", "sslkey"];
 /// Asks PostgreSQL to speak TLS.
 const REQUEST: [u8; 8] = [0, 0, 0, 8, 4, 210, 22, 47];
 
@@ -32,40 +34,34 @@ pub struct Tls {
 impl Tls {
     /// As the words `NAME=VALUE` of an address say.
     pub fn of(words: &[&str]) -> Result<Option<Tls>, Failure> {
-        let refused = |why: String| Err(Failure::Refused(why));
-        let (mut mode, mut root, mut certificate, mut own_key) = ("disable".to_string(), None, None, None);
+        let (refused, mut said) = (|why: String| Err(Failure::Refused(why)), BTreeMap::new());
         for word in words {
             let (name, value) = word.split_once('=').unwrap_or((word, ""));
             let value = percent_decoded(value.as_bytes()).ok().and_then(|bytes| String::from_utf8(bytes).ok());
-            let value = value.ok_or_else(|| Failure::Refused(format!("{name} has no value")))?;
-            match name {
-                "sslmode" => mode = value,
-                "sslrootcert" => root = Some(PathBuf::from(value)),
-                "sslcert" => certificate = Some(PathBuf::from(value)),
-                "sslkey" => own_key = Some(PathBuf::from(value)),
-                _ => return refused(format!("{name} isn't known: sslmode, sslrootcert, sslcert and sslkey are")),
+            match value.filter(|_| NAMES.contains(&name)) {
+                Some(value) => drop(said.insert(name, value)),
+                None => return refused(format!("{word} isn't known: {} are", NAMES.join(", "))),
             }
         }
-        let verifies = match (mode.as_str(), &root) {
-            ("disable", None) if certificate.is_none() && own_key.is_none() => return Ok(None),
-            ("disable", _) => return refused("files for TLS are named, and sslmode says that none is spoken".into()),
-            ("prefer", _) | ("require", None) => false,
-            ("require" | "verify-ca" | "verify-full", Some(_)) => true,
-            ("verify-ca" | "verify-full", None) => return refused(format!("sslmode {mode} needs sslrootcert")),
-            _ => return refused(format!("sslmode {mode:?} is not disable, prefer, require, verify-ca or verify-full")),
+        let (mode, file) = (said.get("sslmode").map_or("disable", |mode| mode), |name| said.get(name).map(Path::new));
+        let (is_needed, root) = match (mode, file("sslrootcert")) {
+            ("disable", _) if said.keys().all(|name| *name == "sslmode") => return Ok(None),
+            ("prefer", _) => (false, None),
+            ("require", root) | ("verify-ca" | "verify-full", root @ Some(_)) => (true, root),
+            _ => return refused("sslmode is prefer or require, or with sslrootcert verify-ca or verify-full".into()),
         };
         let unfit = |fault: crate::tls::Fault| Failure::Refused(fault.to_string());
-        let roots = root.filter(|_| verifies).map(|root| chain(&root)).transpose().map_err(unfit)?;
+        let roots = root.map(chain).transpose().map_err(unfit)?;
         let verifier = Arc::new(Verifier { roots, is_named: mode == "verify-full" });
         let config = ClientConfig::builder().with_safe_defaults().with_custom_certificate_verifier(verifier);
-        let config = match (certificate, own_key) {
+        let config = match (file("sslcert"), file("sslkey")) {
             (None, None) => config.with_no_client_auth(),
             (Some(one), Some(other)) => config
-                .with_single_cert(chain(&one).map_err(unfit)?, key(&other).map_err(unfit)?)
+                .with_single_cert(chain(one).map_err(unfit)?, key(other).map_err(unfit)?)
                 .map_err(|error| Failure::Refused(format!("{}: {error}", other.display())))?,
             _ => return refused("sslcert and sslkey belong together".into()),
         };
-        Ok(Some(Tls { connector: Arc::new(config).into(), is_needed: mode != "prefer" }))
+        Ok(Some(Tls { connector: Arc::new(config).into(), is_needed }))
     }
 
     /// The connection once both sides agree.
@@ -141,13 +137,13 @@ mod tests {
     #[test]
     fn what_an_address_says_of_tls_is_whole_or_refused() {
         for (words, why) in [
-            (&["sslmode=allow"][..], "is not disable"),
-            (&["sslmode=verify-full"], "needs sslrootcert"),
-            (&["sslrootcert=/ca"], "none is spoken"),
+            (&["sslmode=allow"][..], "is prefer or require"),
+            (&["sslmode=verify-full"], "with sslrootcert"),
+            (&["sslrootcert=/ca"], "is prefer or require"),
             (&["sslmode=require", "sslcert=/a"], "belong together"),
             (&["sslmode=verify-ca", "sslrootcert=/not%20there"], "/not there can't be read"),
-            (&["sslmode=require", "sslcrl=/a"], "sslcrl isn't known"),
-            (&["sslmode=%zz"], "has no value"),
+            (&["sslmode=require", "sslcrl=/a"], "sslcrl=/a isn't known"),
+            (&["sslmode=%zz"], "isn't known"),
         ] {
             let said = Tls::of(words).err().expect("it is refused").to_string();
             assert!(said.contains(why), "{words:?}: {said}");

@@ -1,16 +1,12 @@
-"""The page that lists the wrong bodies of each crate, docs/WRONG-BODIES.md. `tools/wrong-bodies --list` writes it, and
-`lint.py` beside this sees that it is what the edits say."""
+"""The list of the wrong bodies of each crate, which `tools/wrong-bodies --list` prints."""
 
 import glob
 import os
 import re
 from typing import Dict, List, Tuple
 
-PAGE = "docs/WRONG-BODIES.md"
 FOLDERS = ("must-fail", "wrong-bodies")
 HEAD = """# Wrong bodies
-
-For whoever asks what a contract excludes. `tools/wrong-bodies --list` writes this page.
 
 Each of these %d is a plausible mistake, in a function or a definition, that the prover refuses. It stands in
 `crates/CRATE/wrong-bodies/NAME.edit`, and `tools/wrong-bodies` tries them. %d more stand in `must-fail`, and the gate
@@ -25,8 +21,8 @@ def what_of(text: str) -> str:
     return found[1] if found else ""
 
 
-def page(crates: List[str], edits: Dict[str, str]) -> str:
-    """The page of all edits, which are given by their paths; the crates in this order."""
+def listed(crates: List[str], edits: Dict[str, str]) -> str:
+    """The list of all edits, which are given by their paths; the crates in this order."""
     of: Dict[Tuple[str, str], List[str]] = {}
     for path in sorted(edits):
         _, crate, folder, name = path.split("/")
