@@ -178,7 +178,7 @@ def main(words: list[str]) -> Tally:
     parser.add_argument("--control", type=int, default=3, metavar="N", help="faults of the control; 0 leaves it out (3)")
     parser.add_argument("program", metavar="MVFEED", help="not needed here")
     given, tally = parser.parse_args(words), Tally("failover")
-    tally.say("failover: seed %d%s" % (given.seed, "" if is_real() else ", and no network drops: namespaces are forbidden here"))
+    tally.say("failover: seed %d%s" % (given.seed, "" if is_real() else ", without network namespaces, which are forbidden here"))
     FailoverLoad.rows = given.rows
     FailoverLoad.given = [one for one in kinds() if any(it in str(one) for it in given.kind or [""])]
     tally.told("what two servers may not tell is noticed", unnoticed())
@@ -187,7 +187,8 @@ def main(words: list[str]) -> Tally:
         for line in summed(verdict.load.outages):
             tally.say(line)
         faults = verdict.faults + ["nothing was compared"] * verdict.is_empty()
-        tally.told("%d faults, compared with the serial model" % len(verdict.load.outages), faults, verdict.told())
+        which = "%d faults%s" % (len(verdict.load.outages), "" if is_real() else ", none of the network")
+        tally.told(which + ", compared with the serial model", faults, verdict.told())
     if given.control and is_real():
         verdict = judge(SMALL, given.control, given.seed + 1, 300, make=Leaseless)
         noticed = [it for it in verdict.faults if "was known" in it or "has answered" in it]
