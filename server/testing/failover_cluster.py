@@ -148,7 +148,7 @@ class Cluster:
         return sorted(self.roles().values()) == ["leader", "sync_standby"]
 
     def primary(self) -> str:
-        return next(name for name, role in self.roles().items() if role == "leader")
+        return wait_for(lambda: next((name for name, role in self.roles().items() if role == "leader"), None), "a primary")
 
     def switch_over(self, primary: str, replica: str) -> None:
         """As `patronictl switchover` asks for it. It is answered once that is done."""
