@@ -15,6 +15,7 @@ import time
 from collections.abc import Sequence
 from concurrent.futures import ThreadPoolExecutor
 
+import psycopg2
 from correct import SPANS, Size, judge
 from durable import OPTIONS, DurableLoad
 from durable_servers import DurableServer
@@ -68,8 +69,8 @@ class FailoverLoad(DurableLoad):
             kind = next(deck)
             try:
                 self.outages.append(self.suffer(kind))
-            except TimeoutError as why:
-                self.faults.append("at %s: %s" % (kind, why))
+            except (OSError, psycopg2.Error) as why:
+                self.faults.append("at %s: %r" % (kind, why))
                 break
             self.say("%d: %s" % (len(self.outages), self.outages[-1]), flush=True)
             self.kills[kind.how] += 1
@@ -90,11 +91,17 @@ class FailoverLoad(DurableLoad):
         return wait_for(pair.owner, "a server that answers")
 
     def suffer(self, kind: Kind) -> Outage:
-        pair, owner = self.server, self.ready()
+        owner = self.ready()
         time.sleep(self.dice.uniform(0.2, 1.5))
-        fault = Fault(pair, kind, owner, self.dice)
-        if kind.how == HANDED:
-            return self.hand_over(fault)
+        fault = Fault(self.server, kind, owner, self.dice)
+        try:
+            return self.hand_over(fault) if kind.how == HANDED else self.outlast(fault)
+        except (OSError, psycopg2.Error):
+            fault.mend()
+            raise
+
+    def outlast(self, fault: Fault) -> Outage:
+        pair, kind = self.server, fault.kind
         wakes = kind.how in (FROZEN, SILENT, APART) and self.dice.random() < self.wakes_early
         fault.begin()
         since = time.monotonic()
