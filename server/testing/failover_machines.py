@@ -29,11 +29,19 @@ class Network:
         self.machines: dict[str, Machine] = {}
         if self.is_real:
             os.makedirs("/run/netns", exist_ok=True)
-            told("mount", "-t", "tmpfs", "tmpfs", "/run/netns")
+            if not os.path.ismount("/run/netns"):
+                told("mount", "-t", "tmpfs", "tmpfs", "/run/netns")
             told("ip", "link", "set", "lo", "up")
             told("ip", "link", "add", HERE, "type", "bridge")
             told("ip", "address", "add", PREFIX + "1/24", "dev", HERE)
             told("ip", "link", "set", HERE, "up")
+
+    def end(self) -> None:
+        """Once nothing runs on the machines any more."""
+        if self.is_real:
+            for name in self.machines:
+                told("ip", "netns", "delete", name)
+            told("ip", "link", "delete", HERE)
 
     def machine(self, name: str) -> "Machine":
         number = len(self.machines) + 11

@@ -158,6 +158,7 @@ class Pair(Server):
             program.kill()
         for part in (*self.cluster.patroni.values(), *self.cluster.postgres.values(), *self.cluster.etcd.values()):
             part.kill()
+        self.network.end()
 
     def words(self) -> str:
         return "".join(one.program.words() for one in self.servers.values())
