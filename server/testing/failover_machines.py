@@ -39,7 +39,8 @@ class Network:
     def end(self) -> None:
         """Once nothing runs on the machines any more."""
         if self.is_real:
-            for name in self.machines:
+            for name, machine in self.machines.items():
+                told("ip", "link", "delete", machine.plug)
                 told("ip", "netns", "delete", name)
             told("ip", "link", "delete", HERE)
 
