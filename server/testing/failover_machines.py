@@ -38,11 +38,12 @@ class Network:
 
     def end(self) -> None:
         """Once nothing runs on the machines any more."""
-        if self.is_real:
+        if self.is_real and self.machines:
             for name, machine in self.machines.items():
                 told("ip", "link", "delete", machine.plug)
                 told("ip", "netns", "delete", name)
             told("ip", "link", "delete", HERE)
+            self.machines.clear()
 
     def machine(self, name: str) -> "Machine":
         number = len(self.machines) + 11
