@@ -185,7 +185,8 @@ class Room:
     def __exit__(self, *_):
         for program in reversed(self.programs):
             program.kill()
-        shutil.rmtree(self.path, ignore_errors=True)
+        if not os.environ.get("KEPT_ROOM"):
+            shutil.rmtree(self.path, ignore_errors=True)
 
     def start(self, program):
         self.programs.append(program)
