@@ -55,6 +55,7 @@ class Consumer:
 class Load:
     weights = 80, 10, 6, 4  # how often one of each of KINDS is killed
     anew: tuple[str, ...] = ("--anew",)  # each start of the server is another database
+    spans = SPANS  # of consumers, the first of all that is compared
     figures = ""  # what else is told of it
 
     def __init__(self, room: Room, size: Size, seed: int, drops: int = 0):
@@ -71,11 +72,11 @@ class Load:
         self.consumers = [self.consumer(at) for at in range(size.consumers)]
         port = str(self.port)
         for at in range(size.feeds):
-            span = SPANS[0] if at < 2 else SPANS[at]
+            span = self.spans[0] if at < 2 else self.spans[at]
             words = (port, room.file("feed%d.told" % at), "feed", str(seed + at), *span, "7" if at % 2 else "0")
             room.start(room.script("feed%d" % at, "correct_watcher.py", *words))
         for at in range(size.snapshots):
-            words = (str(self.server.port), room.file("snapshot%d.told" % at), "snapshot", str(seed + at))
+            words = (str(self.server.port), room.file("snapshot%d.told" % at), "snapshot", str(seed + at), *self.spans[0])
             room.start(room.script("snapshot%d" % at, "correct_watcher.py", *words))
 
     def make_server(self) -> Server:
@@ -93,7 +94,7 @@ class Load:
         return self.room.start(self.room.script("writer%d" % at, "correct_writer.py", *words))
 
     def consumer(self, at: int) -> Consumer:
-        span, name, is_own = SPANS[at % len(SPANS)], "c%d" % at, at % 2 == 0
+        span, name, is_own = self.spans[at % len(self.spans)], "c%d" % at, at % 2 == 0
         file = self.room.file(name + ".db")
         if is_own:
             command = ("correct_consumer.py", str(self.port), name, file, *span, "events" if at % 4 == 0 else "lines")
@@ -197,7 +198,7 @@ class Load:
             late = [one for one in late if not self.has_all(one, closed)]
             time.sleep(0.2)
         self.faults += ["%s has not all that there is: %s" % (one.name, one.program.tail().split("\n")[-1]) for one in late]
-        lines = self.server.call("scanat %d - -\n" % closed).split("\n")[1:-1]
+        lines = self.server.call("scanat %d %s %s\n" % (closed, *self.spans[0])).split("\n")[1:-1]
         time.sleep(1)
         self.end_programs()
         return {key.encode(): value.encode() for _, key, value in (line.split(" ") for line in lines)}
@@ -344,7 +345,7 @@ class Verdict:
                     if line.endswith("\n"):
                         one = json.loads(line)
                         self.snapshots += 1
-                        if one["digest"] != self.digest(one["identity"], ("-", "-"), one["at"]):
+                        if one["digest"] != self.digest(one["identity"], self.load.spans[0], one["at"]):
                             self.faults.append("a snapshot at %d has other rows than the model" % one["at"])
 
     def told(self) -> str:

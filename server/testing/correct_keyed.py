@@ -19,6 +19,7 @@ from typing import Any
 from correct_writer import Writer, identity_at
 
 PAUSE = 0.05
+ASKED_AGAIN = (502, 503, 504)  # of the server, or of a proxy that finds none
 
 
 class Keyed(Writer):
@@ -48,7 +49,7 @@ class Keyed(Writer):
                 continue
             if response.status == 200:
                 return json.loads(told), response.getheader("Idempotent-Replayed") == "true"
-            if response.status != 503:
+            if response.status not in ASKED_AGAIN:
                 raise ValueError("%s was answered %d %s" % (key, response.status, told.decode()))
             time.sleep(PAUSE)
 

@@ -1,9 +1,9 @@
 #!/usr/bin/python3
-"""Who watches in the correctness load: correct_watcher.py PORT LOG feed|snapshot SEED [LO HI GAP] until it is killed.
+"""Who watches in the correctness load: correct_watcher.py PORT LOG feed|snapshot SEED LO HI [GAP] until it is killed.
 
 `feed` follows a span and writes each line as it came, behind a line `{"opened": {..}}` for each stream. After a cut it
-begins anew, or goes on from the last resolved timestamp. `snapshot` protects a closed timestamp, scans all rows there,
-and writes their digest.
+begins anew, or goes on from the last resolved timestamp. `snapshot` protects a closed timestamp, scans the span's rows
+there, and writes their digest.
 """
 
 import http.client
@@ -17,7 +17,7 @@ from correct_writer import identity_at
 from handmade import Session
 
 
-def feed(port: int, log: str, dice: random.Random, lo: str = "-", hi: str = "-", gap: str = "0") -> None:
+def feed(port: int, log: str, dice: random.Random, lo: str, hi: str, gap: str) -> None:
     place: tuple[str, str] | None = None
     span = "".join("&%s=%s" % item for item in (("lo", lo), ("hi", hi)) if item[1] != "-")
     with open(log, "ab", 0) as out:
@@ -50,25 +50,25 @@ def feed(port: int, log: str, dice: random.Random, lo: str = "-", hi: str = "-",
                 time.sleep(0.1)
 
 
-def snapshot(port: int, log: str, dice: random.Random) -> None:
+def snapshot(port: int, log: str, dice: random.Random, lo: str, hi: str) -> None:
     with open(log, "ab", 0) as out:
         while True:
             try:
                 identity, session = identity_at(port), Session(port, timeout=60)
                 if identity == identity_at(port):
-                    look(session, identity, dice, out)
+                    look(session, identity, dice, (lo, hi), out)
             except OSError:
                 time.sleep(0.1)
 
 
-def look(session: Session, identity: str, dice: random.Random, out: object) -> None:
+def look(session: Session, identity: str, dice: random.Random, span: tuple[str, str], out: object) -> None:
     while True:
         closed = int(session.call("stats\n").split(" ")[-2])
         at = max(closed - dice.choice((0, 0, 3, 20)), 0)
         told = session.call("protect %d\n" % at)
         if "=> protected " in told:
             time.sleep(dice.random() * 0.5)
-            lines = session.call("scanat %d - -\nrelease %s" % (at, told.split(" ")[-1])).split("\n")
+            lines = session.call("scanat %d %s %s\nrelease %s" % (at, *span, told.split(" ")[-1])).split("\n")
             digest = 0
             for line in lines[1:-2]:
                 _, key, value = line.split(" ")

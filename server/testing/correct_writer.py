@@ -30,8 +30,11 @@ def key_of(number: int) -> str:
 def identity_at(port: int) -> str:
     wire = Wire(port, timeout=20)
     wire.ask("GET", "/consumer/nobody")
-    identity: str = json.loads(wire.answer()[1])["identity"]
+    status, told = wire.answer()
     wire.close()
+    if status != 200:
+        raise ConnectionError("%d %s" % (status, told.decode()))
+    identity: str = json.loads(told)["identity"]
     return identity
 
 

@@ -30,15 +30,15 @@ def free_port():
         return one.getsockname()[1]
 
 
-def wait_for(what, why):
+def wait_for(what, why, longest=LONGEST):
     """Waits until what() is true, and returns it. The machine may be busy with other things, so the limit is high."""
-    end = time.monotonic() + LONGEST
+    end = time.monotonic() + longest
     while True:
         found = what()
         if found:
             return found
         if time.monotonic() > end:
-            raise TimeoutError("%s: not within %d seconds" % (why, LONGEST))
+            raise TimeoutError("%s: not within %d seconds" % (why, longest))
         time.sleep(0.02)
 
 
@@ -185,7 +185,8 @@ class Room:
     def __exit__(self, *_):
         for program in reversed(self.programs):
             program.kill()
-        shutil.rmtree(self.path, ignore_errors=True)
+        if not os.environ.get("KEPT_ROOM"):
+            shutil.rmtree(self.path, ignore_errors=True)
 
     def start(self, program):
         self.programs.append(program)

@@ -1,6 +1,6 @@
 """The whole test: server/test hands over its options. The last line says how many passed.
 
-Where the first word is `attacks`, `correct` or `durable`, those tests are run, and no others.
+Where the first word is `attacks`, `correct`, `durable` or `failover`, those tests are run, and no others.
 """
 
 import argparse
@@ -17,6 +17,7 @@ import copies
 import correct
 import durable
 import edges
+import failover
 from kills import kill_and_compare
 from machine import TOP, Room, Server
 from mixed import run_mixed
@@ -24,7 +25,7 @@ from page import run_page
 from tally import Tally
 
 SERVED = ("test_served", "test_api", "test_plans", "test_openapi", "test_reference", "test_refusals", "test_costs")
-OTHERS = {"attacks": attacks.main, "correct": correct.main, "durable": durable.main}
+OTHERS = {"attacks": attacks.main, "correct": correct.main, "durable": durable.main, "failover": failover.main}
 
 
 def try_edges(tally, only):
