@@ -1,11 +1,11 @@
 //! A counter, as a value under a lock, and its turns.
-ghost use Rattle.std.specs.Prelude.{◌≡◌, ◌≤◌, ◌<◌, ◌+◌, ◌-◌, ◌^◌, length, None, Some};
+ghost use Rattle.std.specs.Prelude.{◌≡◌, length, None};
 ghost use Rattle.std.proofs.Common.{arith, length-append};
-ghost use Rattle.ticket_lock.specs.Seats.{AllNew, IsOf, found, number, raised, ticket};
+ghost use Rattle.ticket_lock.specs.Seats.{AllNew, IsOf, number, ticket};
 
 use std::process::Abort;
 use std::sync::Wait;
-use ticket_lock::{Chronicle, Denied, Held, Seat, TicketLock};
+use ticket_lock::{Chronicle, Denied, Seat, TicketLock};
 
 /// It stands for as many marks.
 #[derive(Drop)]
@@ -52,26 +52,6 @@ pub(super) fn last(
     seat
 }
 
-/// Ends a turn with one more mark. The ticket that it had.
-pub(super) fn end(
-    lock: &TicketLock<Counter>,
-    seat: &mut Seat<Counter>,
-    mut held: Held<Counter>,
-) -> u64
-    requires own { IsOf lock.now seat.old }
-    requires turn { (ticket seat.old ≡ Some held.ticket) × (held.value.count ≡ length (found seat.old)) × (raised seat.old ≤ held.value.count) }
-    requires place { (lock.now.first + held.value.count ≡ held.ticket) × (held.ticket < 2 ^ 64 - 1) }
-    ensures own { IsOf lock.now seat.new × (ticket seat.new ≡ None) }
-{
-    let ticket = held.ticket();
-    held.value.count += 1;
-    let mark = Mark {
-        seat: seat.number(),
-    };
-    lock.end(seat, held, &mark);
-    ticket
-}
-
 /// One turn, which adds a mark. The ticket that it had.
 pub(super) fn tick<R: Wait>(
     rt: &R,
@@ -81,8 +61,14 @@ pub(super) fn tick<R: Wait>(
     requires own { IsOf lock.now seat.old × (ticket seat.old ≡ None) }
     ensures own { IsOf lock.now seat.new × (ticket seat.new ≡ None) }
 {
-    let held = lock.turn(rt, seat).ok()?;
-    Some(end(lock, seat, held))
+    let mut held = lock.turn(rt, seat).ok()?;
+    let ticket = held.ticket();
+    held.value.count += 1;
+    let mark = Mark {
+        seat: seat.number(),
+    };
+    lock.end(seat, held, &mark);
+    Some(ticket)
 }
 
 /// The same without waiting.
@@ -90,8 +76,14 @@ pub(super) fn try_tick(lock: &TicketLock<Counter>, seat: &mut Seat<Counter>) -> 
     requires own { IsOf lock.now seat.old × (ticket seat.old ≡ None) }
     ensures own { IsOf lock.now seat.new × (ticket seat.new ≡ None) }
 {
-    let held = lock.try_turn(seat)?;
-    Ok(end(lock, seat, held))
+    let mut held = lock.try_turn(seat)?;
+    let ticket = held.ticket();
+    held.value.count += 1;
+    let mark = Mark {
+        seat: seat.number(),
+    };
+    lock.end(seat, held, &mark);
+    Ok(ticket)
 }
 
 /// Whether a call that doesn't wait is refused, since this ticket has its turn and that one is next.

@@ -2,7 +2,7 @@
 ghost use Rattle.std.specs.Prelude.{◌≡◌, None};
 ghost use Rattle.ticket_lock.specs.Seats.{AllNew, IsOf, ticket};
 
-use super::counter::{Counter, end, is_busy, last, tick};
+use super::counter::{Counter, Mark, is_busy, last, tick};
 use std::alloc::AllocError;
 use std::process::Abort;
 use std::sync::Wait;
@@ -102,15 +102,19 @@ fn lead<R: Wait + Clock + Abort>(
     requires own { IsOf lock.now seat × (ticket seat ≡ None) }
     requires asks { IsOf lock.now asking × (ticket asking ≡ None) }
 {
-    let Ok(held) = lock.turn(rt, &mut seat) else {
+    let Ok(mut held) = lock.turn(rt, &mut seat) else {
         return false;
     };
+    held.value.count += 1;
     progress.begun.fetch_add(1, SeqCst);
     let asked = comes(&progress.begun, followers.saturating_add(1));
     sleep(rt, Duration::from_millis(MILLISECONDS));
     let first = held.ticket();
     let busy = is_busy(lock, &mut asking, first, first.saturating_add(1));
-    end(lock, &mut seat, held);
+    let mark = Mark {
+        seat: seat.number(),
+    };
+    lock.end(&mut seat, held, &mark);
     if !comes(&progress.done, followers) {
         panic!(rt; "a seat had no turn within the limit");
     }

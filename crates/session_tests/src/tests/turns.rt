@@ -2,7 +2,7 @@
 ghost use Rattle.std.specs.Prelude.{◌≡◌, None};
 ghost use Rattle.ticket_lock.specs.Seats.{IsOf, ticket};
 
-use super::counter::{Counter, end, is_busy, last, try_tick};
+use super::counter::{Counter, Mark, is_busy, last, try_tick};
 use std::sync::Wait;
 use std::test::Fail;
 use std::thread::{Threads, join};
@@ -33,9 +33,10 @@ fn refused_meanwhile<R: Threads + Wait + Sync>(
     requires others { IsOf lock.now other × (ticket other ≡ None) }
     ensures others { IsOf lock.now result.0 × (ticket result.0 ≡ None) }
 {
-    let Ok(held) = lock.turn(rt, seat) else {
+    let Ok(mut held) = lock.turn(rt, seat) else {
         return (other, 0);
     };
+    held.value.count += 1;
     let (after, ()) = join(
         rt,
         || -> (Seat<Counter>, u64)
@@ -44,7 +45,10 @@ fn refused_meanwhile<R: Threads + Wait + Sync>(
         { refused(lock, other) },
         || (),
     );
-    end(lock, seat, held);
+    let mark = Mark {
+        seat: seat.number(),
+    };
+    lock.end(seat, held, &mark);
     after
 }
 
