@@ -14,7 +14,7 @@ use std::time::{Clock, Duration};
 use ticket_lock::{Seat, TicketLock};
 
 /// How often a test looks for something before it gives up.
-const PATIENCE: u64 = 1_000_000;
+const PATIENCE: u64 = 20_000_000;
 
 /// For how long seats that have asked for a turn are left alone, so that they sleep.
 const MILLISECONDS: u64 = 500;
