@@ -14,7 +14,7 @@
 //! 3. A connection that serves a request is busy until its answer was handed to the socket, but for `BUFFER` bytes.
 
 use crate::connections::{Busy, Connection};
-use crate::gate::{Head, Who};
+use crate::gate::{Head, Right, Who};
 use crate::journal::Ticket;
 use crate::refusal::Refusal;
 use crate::routes::{self, Server};
@@ -436,7 +436,10 @@ async fn answer(
         }
     };
     let request = Request::new(inner, who, connection, &server);
-    let answered = match request.header(IDENTITY).is_none_or(|named| named == server.identity.as_bytes()) {
+    // Who has no right is told that the server lives, whatever database was meant.
+    let is_stranger = !request.who.may(Right::Any);
+    let is_meant = |named: &[u8]| named == server.identity.as_bytes();
+    let answered = match is_stranger || request.header(IDENTITY).is_none_or(is_meant) {
         true => routes::handle(&server, request).await,
         false => Err(other_database(&server, request).await),
     };

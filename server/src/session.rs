@@ -99,7 +99,9 @@ pub async fn call(server: &Arc<Server>, mut request: Request) -> Result<Response
     // Seats are free while the answer waits for the disk, and so is the place of a short one.
     drop(seated);
     let place = Some(place).filter(|_| lines.answers.len() > SHORT);
-    server.door.until(lines.rests).await;
+    if !server.door.until_within(lines.rests, server.options.patience).await {
+        return Err(Refusal::no_lease());
+    }
     server.metrics.calls.note(start.elapsed());
     told?;
     let mut response = Response::whole("text/plain; charset=utf-8", lines.answers).resting_on(lines.rests);

@@ -193,6 +193,51 @@ def test_a_lease_that_is_longer_than_the_next_one(room: Room, dice: random.Rando
     return faults
 
 
+def next_one(room: Room, place: str, number: int) -> DurableServer:
+    """A server that takes over, with a log of its own."""
+    server = DurableServer(room, place)
+    server.log += str(number)
+    room.programs.append(server)
+    Program.start(server)
+    return server
+
+
+def test_who_took_over_is_killed_before_it_answers(room: Room, dice: random.Random) -> list[str]:
+    """The longest lease of those that haven't ended is waited for."""
+    postgres = room.start(Postgres(room.path))
+    place = place_at(postgres.port)
+    first = room.start(DurableServer(room, place, "--lease", "14"))
+    put(first, 1)
+    first.kill()
+    killed = time.monotonic()
+    second = next_one(room, place, 2)
+    with contextlib.closing(psycopg2.connect(place)) as database, database.cursor() as cursor:
+        database.autocommit = True
+
+        def is_raised() -> bool:
+            cursor.execute("SELECT epoch FROM ripsawbean_owner")
+            return cursor.fetchone() == (2,)
+
+        wait_for(is_raised, "the second epoch")
+    second.kill()
+    took = serves(next_one(room, place, 3)) - killed
+    return [] if took > 14 else ["the third one serves after %.1f seconds" % took]
+
+
+def test_a_reader_of_the_tables_that_takes_long(room: Room, dice: random.Random) -> list[str]:
+    """As pg_dump is one: who takes over doesn't wait for it."""
+    postgres = room.start(Postgres(room.path))
+    place = place_at(postgres.port)
+    first = room.start(DurableServer(room, place))
+    put(first, 1)
+    with contextlib.closing(psycopg2.connect(place)) as database, database.cursor() as cursor:
+        cursor.execute("SELECT * FROM ripsawbean_owner, ripsawbean_journal")
+        first.kill()
+        killed = time.monotonic()
+        took = serves(next_one(room, place, 2)) - killed
+    return [] if took < 4 + SLACK else ["the next one serves after %.1f seconds" % took]
+
+
 def started_both(room: Room, place: str) -> list[DurableServer]:
     both = [DurableServer(room, place) for _ in range(2)]
     for at, one in enumerate(both):
@@ -413,5 +458,6 @@ def test_tls(room: Room, dice: random.Random) -> list[str]:
 
 
 TESTS = (test_cut_off, test_a_frozen_owner, test_a_killed_owner_and_one_that_ends, test_a_lease_that_is_longer_than_the_next_one,
+         test_who_took_over_is_killed_before_it_answers, test_a_reader_of_the_tables_that_takes_long,
          test_a_cancelled_wait, test_hosts, test_postgresql_goes_while_one_waits, test_who_waits_has_read_what_is_there,
          test_a_postgresql_that_lacks_the_last_batch, test_tls)

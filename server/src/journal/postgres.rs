@@ -47,11 +47,18 @@ const TABLES: &str = "
         ADD COLUMN IF NOT EXISTS ended boolean NOT NULL DEFAULT false;
     CREATE TABLE IF NOT EXISTS ripsawbean_journal (
         kind text, series bigint, piece bigint, bytes bytea NOT NULL, PRIMARY KEY (kind, series, piece));";
-/// Gives the epoch, and for how many milliseconds the owner before may still answer.
+const HAS_JOURNAL: &str = "SELECT to_regclass('ripsawbean_journal') IS NOT NULL";
+/// Whether all of these are there. To ask for them anew waits for each reader of the tables.
+const HAS_TABLES: &str = "
+    SELECT to_regclass('ripsawbean_journal') IS NOT NULL AND EXISTS (
+        SELECT FROM pg_attribute WHERE attrelid = to_regclass('ripsawbean_owner') AND attname = 'ended')";
+/// Gives the epoch, and for how many milliseconds an owner before may still answer: the longest of those that haven't
+/// ended. It names the key, so that it waits for statements under the epoch before, and they for it.
 const RAISE: &str = "
     WITH before AS (SELECT CASE WHEN ended THEN 0 ELSE lease END AS lease FROM ripsawbean_owner)
     INSERT INTO ripsawbean_owner (one, epoch, lease) VALUES (1, 1, $1) ON CONFLICT (one)
-        DO UPDATE SET epoch = ripsawbean_owner.epoch + 1, lease = $1, ended = false
+        DO UPDATE SET one = 1, epoch = ripsawbean_owner.epoch + 1, ended = false,
+            lease = greatest($1, CASE WHEN ripsawbean_owner.ended THEN 0 ELSE ripsawbean_owner.lease END)
     RETURNING epoch, coalesce((SELECT lease FROM before), 0)";
 /// What changes with each beat of the owner, and where the last batch stands.
 const LOOK: &str = "
@@ -63,21 +70,24 @@ const END_OWNER: &str = "
         WHERE locktype = 'advisory' AND granted AND classid::bigint = $1::bigint >> 32 AND
         objid::bigint = $1::bigint & 4294967295 AND datname = current_database() AND
         wait_event IS DISTINCT FROM 'SyncRep'";
-/// Statements under the epoch that is still the owner's. Under another one they change nothing.
+/// Statements under the epoch that is still the owner's. Under another one they change nothing. A beat doesn't wait for
+/// them, however long they take.
 const WRITE: &str = "
-    WITH owner AS (SELECT FROM ripsawbean_owner WHERE epoch = $1 FOR SHARE)
+    WITH owner AS (SELECT FROM ripsawbean_owner WHERE epoch = $1 FOR KEY SHARE)
     INSERT INTO ripsawbean_journal SELECT $2, $3, $4, $5 FROM owner";
+/// Once no owner before answers any more.
+const OWN_LEASE: &str = "UPDATE ripsawbean_owner SET lease = $2 WHERE epoch = $1";
 const BEAT: &str = "UPDATE ripsawbean_owner SET beat = beat + 1, ended = $2 WHERE epoch = $1";
 const FINISH: &str = "
-    WITH owner AS (SELECT FROM ripsawbean_owner WHERE epoch = $1 FOR SHARE)
+    WITH owner AS (SELECT FROM ripsawbean_owner WHERE epoch = $1 FOR KEY SHARE)
     INSERT INTO ripsawbean_journal SELECT 'finished', $2::bigint, $3::bigint, ''::bytea FROM owner
         WHERE $3 = (SELECT count(*) FROM ripsawbean_journal WHERE kind = 'checkpoint' AND series = $2)";
 const DROP_DRAFTS: &str = "
-    WITH owner AS (SELECT FROM ripsawbean_owner WHERE epoch = $1 FOR SHARE)
+    WITH owner AS (SELECT FROM ripsawbean_owner WHERE epoch = $1 FOR KEY SHARE)
     DELETE FROM ripsawbean_journal WHERE kind = 'checkpoint' AND series <= $2 AND EXISTS (SELECT FROM owner) AND
         series NOT IN (SELECT series FROM ripsawbean_journal WHERE kind = 'finished')";
 const DROP_BELOW: &str = "
-    WITH owner AS (SELECT FROM ripsawbean_owner WHERE epoch = $1 FOR SHARE)
+    WITH owner AS (SELECT FROM ripsawbean_owner WHERE epoch = $1 FOR KEY SHARE)
     DELETE FROM ripsawbean_journal WHERE series < $2 AND EXISTS (SELECT FROM owner)";
 const PIECES_THERE: &str = "SELECT count(*) FROM ripsawbean_journal WHERE kind = 'checkpoint' AND series = $1";
 /// 0 where an older server has finished it.
@@ -161,7 +171,7 @@ impl Postgres {
                 }
                 Found::up_to(newest.map(|(series, _)| series))
             }
-            false if !self.has_tables()? => return Ok(()),
+            false if !self.has(HAS_JOURNAL)? => return Ok(()),
             false => found(self)?,
         };
         let why = match reading.take_all(self, &all) {
@@ -180,8 +190,12 @@ impl Postgres {
         }
     }
 
-    fn has_tables(&self) -> Result<bool, Failure> {
-        let query = "SELECT to_regclass('ripsawbean_journal') IS NOT NULL";
+    /// Of its lease.
+    fn milliseconds(&self) -> i64 {
+        i64::try_from(self.lease.as_millis()).unwrap_or(i64::MAX)
+    }
+
+    fn has(&self, query: &str) -> Result<bool, Failure> {
         Ok(self.session.ask_within(HOST, self.session.client.query_one(query, &[]))?.get(0))
     }
 
@@ -224,8 +238,10 @@ impl Postgres {
 
     /// Raises the epoch, and reads the rest.
     fn own(&mut self, reading: &mut Reading) -> Result<(), Error> {
-        self.session.ask(self.session.client.batch_execute(TABLES))?;
-        let lease = i64::try_from(self.lease.as_millis()).unwrap_or(i64::MAX);
+        if !self.has(HAS_TABLES)? {
+            self.session.ask(self.session.client.batch_execute(TABLES))?;
+        }
+        let lease = self.milliseconds();
         let raised = self.session.confirmed(self.session.client.query_one(RAISE, &[&lease]))?;
         // The clocks of two machines may run apart by a twentieth.
         let before = Duration::from_millis(u64::try_from(raised.get::<_, i64>(1)).unwrap_or(0)) * 21 / 20;
@@ -289,6 +305,9 @@ impl Store for Postgres {
         while let Some(left) = self.begins.checked_duration_since(Instant::now()) {
             self.beat(false)?;
             sleep(left.min(AGAIN));
+        }
+        if self.last.is_none() {
+            self.session.change_one(OWN_LEASE, &[&self.milliseconds()])?;
         }
         let piece = match self.last.filter(|(last, _)| *last == series) {
             Some((_, piece)) => piece + 1,
