@@ -14,7 +14,7 @@ import sys
 
 import aiohttp
 
-sys.path.append(os.path.join(os.path.dirname(os.path.abspath(__file__)), "..", "..", "examples", "consumers"))
+sys.path.append(os.path.join(os.path.dirname(os.path.abspath(__file__)), "..", "..", "examples"))
 from packages import descriptions  # noqa: E402
 from sessions import connect, transact  # noqa: E402
 
