@@ -1,6 +1,6 @@
 """Patroni over three etcd and two PostgreSQL, each on a machine of its own: part of `server/test failover`.
 
-Patroni's settings are those of server/standby/patroni.yml.
+Patroni's settings are those of server/standby/patroni.yml, and what its unit does first is that of patroni.conf.
 """
 
 import contextlib
@@ -17,7 +17,7 @@ from failover_machines import Machine, Network, Part
 from machine import TOP, Program, Room, wait_for
 
 DATABASE = "dbname=postgres user=test connect_timeout=3 tcp_user_timeout=3000 keepalives_idle=2 keepalives_interval=1 keepalives_count=2"
-SETTINGS = os.path.join(TOP, "server", "standby", "patroni.yml")
+SETTINGS, UNIT = (os.path.join(TOP, "server", "standby", name) for name in ("patroni.yml", "patroni.conf"))
 HERE = """
 scope: trial
 name: {name}
@@ -53,6 +53,12 @@ postgresql:
 watchdog:
   mode: "off"
 """
+
+
+def before_patroni() -> str:
+    """What its unit tells pg_ctl before it starts it, but for the place."""
+    with open(UNIT) as file:
+        return re.findall(r"(?m)^ExecStartPre=-\S+/pg_ctl (.*) -D \S+$", file.read())[0]
 
 
 class Child(Part):
@@ -123,7 +129,8 @@ class Cluster:
             file.write(HERE.format(name=name, at=at.address, etcds=etcds, settings=settings, data=self.data(name), programs=programs))
         who = ["setpriv", "--reuid=postgres", "--regid=postgres", "--init-groups"]
         os.chown(self.room.path, user.pw_uid, user.pw_gid)
-        words = [*at.inside, *who, "/usr/bin/python3", "/usr/bin/patroni", path]
+        first = "%s/pg_ctl %s -D %s" % (programs, before_patroni(), self.data(name))
+        words = [*at.inside, *who, "sh", "-c", first + "; exec /usr/bin/python3 /usr/bin/patroni " + path]
         return Program(self.room.path, "patroni-" + name, words, cwd="/", env={**os.environ, "PYTHONPATH": ""})
 
     def start(self) -> None:
@@ -144,8 +151,13 @@ class Cluster:
         return {}
 
     def is_whole(self) -> bool:
-        """There is a primary, and a replica without which it acknowledges nothing."""
-        return sorted(self.roles().values()) == ["leader", "sync_standby"]
+        """There is a primary, and a replica without which it acknowledges nothing, by what both say."""
+        roles = {role: name for name, role in self.roles().items()}
+        if sorted(roles) != ["leader", "sync_standby"]:
+            return False
+        with contextlib.suppress(psycopg2.Error):
+            return self.ask(roles["leader"], "SELECT sync_state FROM pg_stat_replication") == [("sync",)]
+        return False
 
     def primary(self) -> str:
         return wait_for(lambda: next((name for name, role in self.roles().items() if role == "leader"), None), "a primary")
